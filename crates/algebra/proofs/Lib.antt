@@ -1,0 +1,3 @@
+pub mod ring
+pub mod zmod
+pub mod poly

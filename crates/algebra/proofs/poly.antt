@@ -1,0 +1,8 @@
+pub mod Series
+pub mod Bound
+pub mod Poly
+pub mod Derivative
+pub mod Term
+pub mod Build
+pub mod Divide
+pub mod Degree

@@ -1,0 +1,5 @@
+pub mod CRing
+pub mod Normal
+pub mod Quote
+pub mod Field
+pub mod Divides

@@ -1,0 +1,3 @@
+pub mod Zmod
+pub mod Prime
+pub mod PrimeField
