@@ -1,0 +1,4 @@
+pub mod Laws
+pub mod Sums
+pub mod Inverse
+pub mod Trial

@@ -1,0 +1,3 @@
+pub mod Primes
+pub mod Residues
+pub mod Read
