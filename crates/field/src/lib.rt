@@ -162,16 +162,19 @@ impl Residue {
         requires { ⌜ Kept m self × Kept m other ⌝ }
         ensures { λ r. ⌜ Stands m r (zmod (m .p) .mul (el m self) (el m other)) ⌝ }
     {
-        Residue((self.0 * other.0) % m.p)
+        let product = self.0 * other.0;
+        let rest = product % m.p;
+        Residue(rest)
     }
 
-    // y with self * y = x, and x falls to p % x, which isn't 0 while 1 < x, until it is 1.
+    // a * y = x throughout, and x falls to p % x, which isn't 0 while 1 < x, until it is 1.
     pub fn inverse(self, m: Modulus) -> Residue
         requires { ⌜ Unit m self ⌝ }
         ensures { λ r. ⌜ Inverts m self r ⌝ }
     {
         let p = m.p;
-        let mut x: u64 = self.0;
+        let a = self.0;
+        let mut x: u64 = a;
         let mut y: u64 = 1;
         while 1 < x {
             let q = p / x;

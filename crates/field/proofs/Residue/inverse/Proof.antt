@@ -8,10 +8,10 @@ use Rattle.field.proofs.Residue.inverse.Statement.{statement}
 use Rattle.field.proofs.Residue.inverse.Tie as tie
 
 abbrev Inv-loop : tie.InvT-loop
-Inv-loop p x₀ y₀ x y = Inverting (record { p = p }) x₀ x y
+Inv-loop p a x₀ y₀ x y = Inverting (record { p = p }) a x y
 
 abbrev μ-loop : tie.MeasureT-loop
-μ-loop p x₀ y₀ x y = x
+μ-loop p a x₀ y₀ x y = x
 
 loop-holds : tie.Need-loop-holds Inv-loop μ-loop
 loop-holds c = begin (c .args .m) (c .args .self .0) (c .pre)
