@@ -6,3 +6,4 @@ pub mod Term
 pub mod Build
 pub mod Divide
 pub mod Degree
+pub mod Common

@@ -1,5 +1,6 @@
 -- Polynomials built coefficient by coefficient: what a loop that stores one coefficient at a time is proved by. Gives: `put-is`, a
--- change at one place is a term added; `part n f`, the first n terms of a series; `part-all`, that a polynomial is all of its terms.
+-- change at one place is a term added; `part n f`, the first n terms of a series, which has none from n on (`part-below`); `part-all`, that
+-- a polynomial is all of its terms.
 -- Shut (`unfoldable`): `part`.
 use Prim.Native.Nat.{ℕ, zero, suc, _≤_, _<_, zero-le}
 use mathlib.Core.Path.{_≡_, refl, sym, ap, ap₂, _∙_}
@@ -34,6 +35,11 @@ module _ (F : CRing) where
   unfoldable pub part : ℕ → Ser F → Po
   part zero f = 0P
   part (suc n) f = part n f +P term F (f n) n
+
+  pub part-below : (n : ℕ) (f : Ser F) → Below F n (coef F (part n f))
+  unfolding part
+  part-below zero f k l = at F (coef-zer F) k
+  part-below (suc n) f k l = at F (coef-add F (part n f) (term F (f n) n)) k ∙ ap₂ _⊕_ (part-below n f k (omega arith)) (at F (coef-term F (f n) n) k ∙ termS-off F (f n) n k (λ e. omega arith)) ∙ zer-add 𝟘
 
   part-same : (n : ℕ) (f g : Ser F) → ((k : ℕ) → k < n → f k ≡ g k) → part n f ≡ part n g
   unfolding part

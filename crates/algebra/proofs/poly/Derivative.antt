@@ -1,6 +1,6 @@
 -- The derivative, without numerals: D p = tail p + x · D (tail p). Gives: `der` on series and `derP` on polynomials, that it goes
--- through sums and scaling, and the product rule; its bound.
--- Shut (`unfoldable`): `der`, `derP`.
+-- through sums and scaling, and the product rule; its bound; and its coefficients with numerals after all (`der-at`), n being `count n`.
+-- Shut (`unfoldable`): `der`, `derP`, `count`.
 use Prim.Native.Nat.{ℕ, zero, suc, _<_}
 use mathlib.Core.Path.{_≡_, refl, sym, ap, ap₂, _∙_}
 use mathlib.Core.List.{[], _∷_}
@@ -12,7 +12,7 @@ use Rattle.algebra.proofs.poly.Series.{Ser, tail, addS, sca, mulS, add-
 use Rattle.algebra.proofs.poly.Poly.{Bounded, poly, coef, poly-ext}
 
 module _ (F : CRing) where
-  open CRing F using (El as A, add as _⊕_, mul as _⊗_, zer as 𝟘, zer-add)
+  open CRing F using (El as A, add as _⊕_, mul as _⊗_, zer as 𝟘, one as 𝟙, zer-add)
 
   infixl 65 _⊕_
   infixl 70 _⊗_
@@ -48,6 +48,16 @@ module _ (F : CRing) where
   unfolding der
   der-zero p zero h = h 1 (omega arith)
   der-zero p (suc k) h = ap₂ _⊕_ (h (suc (suc k)) (omega arith)) (der-zero (tail F p) k (λ i l. h (suc i) (omega arith))) ∙ zer-add 𝟘
+
+  -- n as an element: 1 added n times
+  unfoldable pub count : ℕ → A
+  count zero = 𝟘
+  count (suc n) = count n ⊕ 𝟙
+
+  pub der-at : (p : Ser F) (n : ℕ) → der p n ≡ count (suc n) ⊗ p (suc n)
+  unfolding der count
+  der-at p zero = ring F (p 1 ∷ []) (search quote depth 40) refl
+  der-at p (suc n) = ap (λ t. p (suc (suc n)) ⊕ t) (der-at (tail F p) n) ∙ ring F (p (suc (suc n)) ∷ count n ∷ []) (search quote depth 40) refl
 
   bounded-der : {p : Ser F} → Bounded F p → Bounded F (der p)
   bounded-der {p} h = ∥∥₁-map h (λ b. (b .0, λ k l. der-zero p k (λ i j. b .1 i (omega arith))))

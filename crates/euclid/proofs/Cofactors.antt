@@ -1,0 +1,123 @@
+-- The extended Euclid: both lines are combinations of a and b, and how long the cofactors are. A column is that of the s, bounded by the
+-- length of b, or that of the t, bounded by the length of a.
+use Prim.Native.Nat.{ℕ, _+_, _-_, _<_, _≤_, max}
+use mathlib.Core.Path.{_≡_, refl, sym, ap, ap₂, _∙_, subst}
+use mathlib.Core.List.{[], _∷_}
+use native.Mathlib.Omega.{arith}
+use native.Mathlib.Decide.{ℕ-discrete}
+use native.Mathlib.Nat.{le-trans}
+use Rattle.algebra.proofs.ring.CRing.{CRing}
+use Rattle.algebra.proofs.ring.Quote.{ring, quote, by}
+use Rattle.algebra.proofs.poly.Term.{C}
+use Rattle.field.specs.declared.Modulus.{Modulus}
+use Rattle.poly.specs.declared.Poly.{Poly}
+use Rattle.poly.specs.Polys.{K, P, pol, Ok, Is}
+use Rattle.poly.specs.Contracts.{Divided}
+use Rattle.euclid.specs.declared.Line.{Line}
+use Rattle.euclid.specs.Euclid.{OkL, Lessens, Taken, Less, Scaled, Xgcd}
+use Rattle.euclid.proofs.Common.{Euclid, euclid-begin, euclid-turn, euclid-end}
+
+-- lengths: xr, yr of the two r, and xs, ys of their cofactors in one column
+pub record Column (B xr yr xs ys : ℕ) : Type 0 where
+  pub x-short : xs ≤ B + 1 - yr
+  pub y-short : ys ≤ B + 1 - xr
+  pub x-end : xs ≤ max 1 (B - xr)
+  pub y-end : ys ≤ max 1 (B - yr)
+
+-- the arithmetic of a turn, apart from the records, where `omega` has less to split
+wider : (B xr er ys : ℕ) → er ≤ xr → ys ≤ B + 1 - xr → ys ≤ B + 1 - er
+wider B xr er ys l h = omega arith
+
+at-end : (B yr er w : ℕ) → er < yr → w ≤ B + 1 - yr → w ≤ max 1 (B - er)
+at-end B yr er w l h = omega arith
+
+under : (a b c : ℕ) → a ≤ b - c → (a ≡ 0 → ⊥) → a + c ≤ b
+under a b c h n = omega arith
+
+added : (B xr yr c q d w : ℕ) → w ≤ max c (q + d - 1) → c ≤ B + 1 - yr → d + xr ≤ B + 1 → q + yr ≤ xr + 1 → w ≤ B + 1 - yr
+added B xr yr c q d w hw hc hd hq = omega arith
+
+longest : (B xr yr c q d w : ℕ) → w ≤ max c (q + d - 1) → c ≤ B + 1 - yr → d ≤ B + 1 - xr → q ≤ xr + 1 - yr → (q ≡ 0 → ⊥) → (d ≡ 0 → ⊥) → w ≤ B + 1 - yr
+longest B xr yr c q d w hw hc hd hq nq nd = added B xr yr c q d w hw hc (under d (B + 1) xr hd nd) (under q (xr + 1) yr hq nq)
+
+module _ (m : Modulus) where
+  open CRing (P m) using (El as Po, add as _+P_, mul as _*P_, neg as negP, zer as 0P, one as 1P)
+
+  infixl 65 _+P_
+  infixl 70 _*P_
+  -- w takes the place of d, and d that of c
+  column-turn : {B xr yr er : ℕ} {c q d w : Poly} → Column B xr yr (c .n) (d .n) → Taken m c q d w → q .n ≤ xr + 1 - yr → er < yr → er ≤ xr → Column B yr er (d .n) (w .n)
+  column-turn {B} {xr} {yr} {er} {c} {q} {d} {w} v t hq he hx = record { x-short = wider B xr er (d .n) hx (v .y-short); y-short = next; x-end = v .y-end; y-end = at-end B yr er (w .n) he next }
+    where
+      go : Dec (q .n ≡ 0) → Dec (d .n ≡ 0) → w .n ≤ B + 1 - yr
+      go (yes z) g = le-trans (t .none-q z) (v .x-short)
+      go (no z) (yes g) = le-trans (t .none-d g) (v .x-short)
+      go (no z) (no g) = longest B xr yr (c .n) (q .n) (d .n) (w .n) (t .short) (v .x-short) (v .y-short) hq z g
+
+      next : w .n ≤ B + 1 - yr
+      next = go (ℕ-discrete (q .n) 0) (ℕ-discrete (d .n) 0)
+
+  pub record Extended (a b : Poly) (x y : Line) : Type 0 where
+    pub core : Euclid m a b (x .r) (y .r)
+    pub ok-x : OkL m x
+    pub ok-y : OkL m y
+    pub x-is : pol m (x .r) ≡ pol m (x .s) *P pol m a +P pol m (x .t) *P pol m b
+    pub y-is : pol m (y .r) ≡ pol m (y .s) *P pol m a +P pol m (y .t) *P pol m b
+    pub s : Column (b .n) (x .r .n) (y .r .n) (x .s .n) (y .s .n)
+    pub t : Column (a .n) (x .r .n) (y .r .n) (x .t .n) (y .t .n)
+
+  pub extended-begin : {a b o z : Poly} → Ok m a → Ok m b → Is m o 1P 1 → Is m z 0P 0 → Extended a b (record { r = a; s = o; t = z }) (record { r = b; s = z; t = o })
+  extended-begin {a} {b} {o} {z} ha hb ho hz = record {
+    core = euclid-begin m a b ha hb;
+    ok-x = record { r = ha; s = ho .ok; t = hz .ok };
+    ok-y = record { r = hb; s = hz .ok; t = ho .ok };
+    x-is = sym (ap₂ (λ s t. s *P pol m a +P t *P pol m b) (ho .is) (hz .is) ∙ ring (P m) (pol m a ∷ pol m b ∷ []) (search quote depth 40) refl);
+    y-is = sym (ap₂ (λ s t. s *P pol m a +P t *P pol m b) (hz .is) (ho .is) ∙ ring (P m) (pol m a ∷ pol m b ∷ []) (search quote depth 40) refl);
+    s = record { x-short = omega (arith, ho .short); y-short = omega (arith, hz .short); x-end = omega (arith, ho .short); y-end = omega (arith, hz .short) };
+    t = record { x-short = omega (arith, hz .short); y-short = omega (arith, ho .short); x-end = omega (arith, hz .short); y-end = omega (arith, ho .short) };
+  }
+
+  -- one turn, on the common bounds of both columns: products of the quotient with a cofactor fit
+  module _ {a b : Poly} {x y : Line} {q e : Poly} (ha : Ok m a) (hb : Ok m b) (v : Extended a b x y) (l : 0 < y .r .n) (d : Divided m (x .r) (y .r) q e) where
+    pub turn-fits : Lessens m x q y e
+    turn-fits = record {
+      ok-x = v .ok-x;
+      ok-q = d .ok-q;
+      ok-u = v .ok-y;
+      ok-e = d .ok-r;
+      fits-s = omega (arith, d .short, v .s .y-short, v .ok-x .r .len, hb .len);
+      fits-t = omega (arith, d .short, v .t .y-short, v .ok-x .r .len, ha .len);
+    }
+
+    module _ {z : Line} (h : Less m x q y e z) where
+      z-is : pol m (z .r) ≡ pol m (z .s) *P pol m a +P pol m (z .t) *P pol m b
+      z-is = ap (pol m) (h .r-is)
+          ∙ by (P m) (negP 1P) (d .is) (by (P m) 1P (v .x-is) (by (P m) (negP (pol m q)) (v .y-is)
+          (ring (P m) (pol m e ∷ pol m (x .r) ∷ pol m (y .r) ∷ pol m q ∷ pol m (x .s) ∷ pol m (x .t) ∷ pol m (y .s) ∷ pol m (y .t) ∷ pol m a ∷ pol m b ∷ []) (search quote depth 40) refl)))
+          ∙ sym (ap₂ (λ s t. s *P pol m a +P t *P pol m b) (h .s .is) (h .t .is))
+
+      pub turn-is : Extended a b y z
+      turn-is = subst (λ (r : Poly). Extended a b y (record { r = r; s = z .s; t = z .t })) (sym (h .r-is)) (record {
+        core = euclid-turn m (v .core) d;
+        ok-x = v .ok-y;
+        ok-y = record { r = d .ok-r; s = h .s .ok; t = h .t .ok };
+        x-is = v .y-is;
+        y-is = sym (ap (pol m) (h .r-is)) ∙ z-is;
+        s = column-turn (v .s) (h .s) (d .short) (d .rest) (d .less);
+        t = column-turn (v .t) (h .t) (d .short) (d .rest) (d .less);
+      })
+
+  pub extended-end : {a b : Poly} {x y u : Line} → Extended a b x y → y .r .n ≡ 0 → Scaled m x u → Xgcd m a b u
+  extended-end {a} {b} {x} {y} {u} v e h = record {
+    gcd = euclid-end m (v .core) e (h .r);
+    ok-s = h .s .ok;
+    ok-t = h .t .ok;
+    is = h .r .is ∙ ap (λ t. up *P t) (v .x-is)
+        ∙ ring (P m) (up ∷ pol m (x .s) ∷ pol m a ∷ pol m (x .t) ∷ pol m b ∷ []) (search quote depth 40) refl
+        ∙ sym (ap₂ (λ s t. s *P pol m a +P t *P pol m b) (h .s .is) (h .t .is));
+    short-s = omega (arith, h .r .same, h .s .short, v .s .x-end);
+    short-t = omega (arith, h .r .same, h .t .short, v .t .x-end);
+  }
+    where
+      up : Po
+      up = C (K m) (h .up)

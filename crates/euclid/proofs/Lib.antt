@@ -1,0 +1,4 @@
+pub mod Steps
+pub mod Common
+pub mod Cofactors
+pub mod Shares

@@ -1,0 +1,75 @@
+-- A Poly built coefficient by coefficient: the one family that every loop over coefficients is proved by. The loop starts from residues
+-- that stand for a and adds the coefficients of T, of length n, one at a time from place s on. Gives: `Built`, what holds after k of
+-- them, with its beginning, its turn and its end, where the residues stand for a + x^s · T.
+use Prim.Native.Nat.{ℕ, suc, _+_, _-_, _<_, _≤_, max}
+use mathlib.Core.Path.{_≡_, refl, sym, ap, ap₂, _∙_}
+use mathlib.Core.List.{List, [], _∷_}
+use native.Mathlib.Omega.{arith}
+use lib.ListN.{set, length, length-set}
+use Rattle.algebra.proofs.ring.CRing.{CRing, mul-zer}
+use Rattle.algebra.proofs.ring.Quote.{ring, quote}
+use Rattle.algebra.proofs.poly.Bound.{Below}
+use Rattle.algebra.proofs.poly.Poly.{coef, coef-add}
+use Rattle.algebra.proofs.poly.Term.{at, term, coef-shift, term-mul}
+use Rattle.algebra.proofs.poly.Build.{part, part-all}
+use Rattle.field.specs.declared.Residue.{Residue}
+use Rattle.field.specs.declared.Modulus.{Modulus}
+use Rattle.field.specs.Residues.{Stands}
+use Rattle.poly.specs.Polys.{room, K, P, polL, Filled, Is}
+use Rattle.poly.specs.Contracts.{Held, Size}
+use Rattle.poly.proofs.Stored.{set-is, filled-set}
+
+module _ (m : Modulus) (a T : P m .El) (s n : ℕ) where
+  open CRing (K m) using (El as A, add as _⊕_, mul as _⊗_, zer as 𝟘, one as 𝟙)
+  open CRing (P m) using (El as Po, add as _+P_, mul as _*P_)
+
+  infixl 65 _⊕_
+  infixl 70 _⊗_
+  infixl 65 _+P_
+  infixl 70 _*P_
+  abbrev cf : Po → ℕ → A
+  cf v = coef (K m) v
+
+  abbrev xs : Po
+  xs = term (K m) 𝟙 s
+
+  pub record Built (l : List Residue) (k : ℕ) : Type 0 where
+    pub within : k ≤ n
+    pub long : length l ≡ room
+    pub fill : Filled m l
+    pub is : polL m l ≡ a +P xs *P part (K m) k (cf T)
+
+  pub build-begin : {l : List Residue} → length l ≡ room → Filled m l → polL m l ≡ a → Built l 0
+  unfolding part
+  build-begin e f h = record { within = omega arith; long = e; fill = f; is = h ∙ ring (P m) (a ∷ xs ∷ []) (search quote depth 40) refl }
+
+  pub build-turn : {l : List Residue} {k j : ℕ} {y : Residue} → Built l k → k < n → s + n ≤ room → j ≡ s + k → Stands m y (cf (polL m l) j ⊕ cf T k) → Built (set l j y) (k + 1)
+  unfolding part
+  build-turn {l} {k} {j} {y} b lt fits ej hy = let in-l : j < length l = omega (arith, b .long) in record {
+    within = omega arith;
+    long = length-set l j y ∙ b .long;
+    fill = filled-set m l j y in-l (b .fill) (hy .kept);
+    is = set-is m l j y in-l (cf T k) (hy .is)
+        ∙ ap₂ _+P_ (b .is) term-is
+        ∙ ring (P m) (a ∷ xs ∷ part (K m) k (cf T) ∷ term (K m) (cf T k) k ∷ []) (search quote depth 40) refl
+        ∙ ap (λ i. a +P xs *P part (K m) i (cf T)) {x = suc k} {y = k + 1} (omega arith);
+  }
+    where
+      term-is : term (K m) (cf T k) j ≡ xs *P term (K m) (cf T k) k
+      term-is = ap₂ (term (K m)) (sym (K m .one-mul (cf T k))) ej ∙ sym (term-mul (K m) 𝟙 (cf T k) s k)
+
+  module _ (i : ℕ) (start : Below (K m) i (cf a)) (end : Below (K m) n (cf T)) where
+    sum-below : Below (K m) (max i (s + n)) (cf (a +P xs *P T))
+    sum-below k l = at (K m) (coef-add (K m) a (xs *P T)) k
+        ∙ ap₂ _⊕_ (start k (omega arith)) (ap (cf (xs *P T)) {x = k} {y = s + (k - s)} (omega arith) ∙ coef-shift (K m) 𝟙 s (k - s) T ∙ ap (λ u. 𝟙 ⊗ u) (end (k - s) (omega arith)) ∙ mul-zer (K m) 𝟙)
+        ∙ K m .zer-add 𝟘
+
+    module _ {l : List Residue} {k top : ℕ} (b : Built l k) (over : n ≤ k) (et : top ≡ max i (s + n)) where
+      sum-is : polL m l ≡ a +P xs *P T
+      sum-is = b .is ∙ ap (λ j. a +P xs *P part (K m) j (cf T)) {x = k} {y = n} (omega (arith, b .within)) ∙ ap (λ u. a +P xs *P u) (part-all (K m) n T end)
+
+      pub build-held : i ≤ room → s + n ≤ room → Held m l top
+      build-held hi hs = record { len = omega arith; fill = b .fill; end = λ j h. ap (λ u. cf u j) sum-is ∙ sum-below j (omega arith) }
+
+      pub build-end : {w : Po} {r : ℕ} → top ≤ room → Size m l top r → a +P xs *P T ≡ w → Is m (record { c = l; n = r }) w (max i (s + n))
+      build-end hr z e = record { ok = record { len = omega (arith, z .within); fill = b .fill; size = z .size }; is = sum-is ∙ e; short = omega (arith, z .within) }

@@ -1,0 +1,9 @@
+pub mod Stored
+pub mod Lengths
+pub mod Build
+pub mod Rows
+pub mod Derivative
+pub mod Values
+pub mod Product
+pub mod Division
+pub mod Monic
