@@ -56,3 +56,9 @@ module _ (F : CRing) where
   pub record Monic (n : ℕ) (p : Ser F) : Type 0 where
     pub below : Below (suc n) p
     pub top : p n ≡ 𝟙
+
+  pub monic-mul : {m n : ℕ} {p q : Ser F} → Monic m p → Monic n q → Monic (m + n) (mulS F p q)
+  monic-mul {m} {n} {p} {q} h g = record {
+    below = λ k l. below-mul (suc m) (suc n) p q (h .below) (g .below) k (omega arith);
+    top = lead-mul m n (m + n) p q (h .below) (g .below) refl ∙ ap₂ _⊗_ (h .top) (g .top) ∙ F .one-mul 𝟙;
+  }

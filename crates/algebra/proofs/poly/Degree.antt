@@ -1,19 +1,22 @@
 -- Degrees over a field, and that K[x] has no zero divisors. Gives: `Deg n p` for series, `Degree n p` for polynomials (exactly n: a
 -- nonzero coefficient at n and nothing above), of products, opposites and sums; every polynomial is zero or has a degree (`by-deg`);
--- nonzero factors have a nonzero product and cancel; a multiple of u of smaller degree than u is zero (`small`).
+-- nonzero factors have a nonzero product and cancel; a multiple of u of smaller degree than u is zero (`small`); a factor's degree is at
+-- most that of the product (`factor-below`).
 -- Open: `Degree`.
-use Prim.Native.Nat.{ℕ, zero, suc, _+_, _≤_, zero-le}
+use Prim.Native.Nat.{ℕ, zero, suc, _+_, _≤_, _<_, zero-le}
 use mathlib.Core.Path.{_≡_, refl, sym, ap, ap₂, _∙_, subst}
 use mathlib.Core.List.{[], _∷_}
 use mathlib.Core.Logic.{_≢_, _⊎_, inl, inr, ∥∥₁-elim}
 use native.Mathlib.Omega.{arith}
-use native.Mathlib.Decide.{ℕ-discrete}
-use Rattle.algebra.proofs.ring.CRing.{CRing, add-zer, mul-zer, zer-mul, eq-of-sub}
+use mathlib.Core.HLevel.{Π-prop}
+use native.Mathlib.Decide.{ℕ-discrete, decLe}
+use Rattle.algebra.proofs.ring.CRing.{CRing, add-zer, mul-zer, zer-mul, mul-one, eq-of-sub}
 use Rattle.algebra.proofs.ring.Quote.{ring, quote, by}
 use Rattle.algebra.proofs.ring.Field.{Field, no-zero-divisors, neg-ne}
 use Rattle.algebra.proofs.poly.Series.{Ser, addS, negS, con, mulS}
-use Rattle.algebra.proofs.poly.Bound.{Below, below-neg, below-con, below-mul, lead-mul}
+use Rattle.algebra.proofs.poly.Bound.{Below, below-neg, below-con, below-mul, lead-mul, Monic}
 use Rattle.algebra.proofs.poly.Poly.{poly, coef, coef-bounded, poly-ext, coef-add, coef-neg, coef-mul, coef-zer, coef-one}
+use Rattle.algebra.proofs.poly.Term.{C, coef-C, coef-shift}
 
 module _ (K : Field) where
   abbrev F : CRing
@@ -32,6 +35,9 @@ module _ (K : Field) where
     below = λ k l. below-mul F (suc m) (suc n) p q (h .below) (g .below) k (omega arith);
     top = λ e. no-zero-divisors K (p m) (q n) (h .top) (g .top) (sym (lead-mul F m n (m + n) p q (h .below) (g .below) refl) ∙ e);
   }
+
+  pub deg-monic : {n : ℕ} {p : Ser F} → Monic F n p → Deg n p
+  deg-monic m = record { below = m .below; top = λ e. K .one-ne (sym (m .top) ∙ e) }
 
   pub deg-neg : {n : ℕ} {p : Ser F} → Deg n p → Deg n (negS F p)
   deg-neg {n} {p} h = record { below = below-neg F (h .below); top = neg-ne K (p n) (h .top) }
@@ -116,3 +122,44 @@ module _ (K : Field) where
 
   pub below-sub : {n : ℕ} (p q : P) → Below F n (coef F p) → Below F n (coef F q) → Below F n (coef F (p ⊕ neg q))
   below-sub p q hp hq k l = coef-sub p q k ∙ ap₂ (λ a b. F .add a (F .neg b)) (hp k l) (hq k l) ∙ ring F [] (search quote depth 40) refl
+
+  pub degree-C : (c : A) → c ≢ 𝟘 → Degree 0 (C F c)
+  unfolding con
+  degree-C c n = record {
+    below = λ k l. ap (λ (s : Ser F). s k) (coef-C F c) ∙ below-con F c k l;
+    top = λ e. n (sym (ap (λ (s : Ser F). s 0) (coef-C F c)) ∙ e);
+  }
+
+  -- ---- degrees and bounds
+  pub deg-bound : (n e : ℕ) (s : Ser F) → Deg e s → Below F n s → e < n
+  deg-bound n e s d h = go (decLe n e)
+    where
+      go : Dec (n ≤ e) → e < n
+      go (yes l) = absurd (d .top (h e l))
+      go (no l) = omega arith
+
+  below-prop : (n : ℕ) (p : P) → IsProp (Below F n (coef F p))
+  below-prop n p = Π-prop (λ k. Π-prop (λ l. F .isSet (coef F p k) 𝟘))
+
+  -- a factor of u has at most u's degree
+  pub factor-below : (e : ℕ) (u n s : P) → Degree e u → u ≡ s * n → Below F (suc e) (coef F n)
+  factor-below e u n s hu eq = by-deg (below-prop (suc e) n) n
+      (λ z k l. ap (λ (t : P). coef F t k) z ∙ ap (λ (t : Ser F). t k) (coef-zer F))
+      (λ m dm. by-deg (below-prop (suc e) n) s (λ z. absurd (deg-ne hu (eq ∙ ap (λ t. t * n) z ∙ zer-mul (poly F) n)))
+      (λ t dt k l. dm .below k (omega (arith, deg-bound (suc e) (t + m) (coef F (s * n)) (degree-mul s n dt dm) (subst (λ (x : P). Below F (suc e) (coef F x)) eq (hu .below))))))
+
+  -- where one monic polynomial is a constant times another, the constant is 1
+  pub monic-unit : (n m : ℕ) (p q : P) (c : A) → c ≢ 𝟘 → Monic F n (coef F p) → Monic F m (coef F q) → p ≡ C F c * q → c ≡ F .one
+  monic-unit n m p q c nz hp hq e = sym (mul-one F c) ∙ sym (ap (λ t. c ⊗ t) (hq .top)) ∙ sym (scaled m) ∙ ap (coef F p) same ∙ hp .top
+    where
+      scaled : (k : ℕ) → coef F p k ≡ c ⊗ coef F q k
+      scaled k = ap (λ (t : P). coef F t k) e ∙ ap (coef F (C F c * q)) {x = k} {y = 0 + k} (omega arith) ∙ coef-shift F c 0 k q
+
+      upper : m < suc n
+      upper = deg-bound (suc n) m (coef F p) (record { below = λ k l. scaled k ∙ ap (λ t. c ⊗ t) (hq .below k l) ∙ mul-zer F c; top = λ z. nz (sym (mul-one F c) ∙ sym (ap (λ t. c ⊗ t) (hq .top)) ∙ sym (scaled m) ∙ z) }) (hp .below)
+
+      lower : n < suc m
+      lower = deg-bound (suc m) n (coef F p) (deg-monic hp) (λ k l. scaled k ∙ ap (λ t. c ⊗ t) (hq .below k l) ∙ mul-zer F c)
+
+      same : m ≡ n
+      same = omega (arith, upper, lower)

@@ -1,0 +1,4 @@
+pub mod Group
+pub mod Total
+pub mod Multiple
+pub mod DoubleAdd

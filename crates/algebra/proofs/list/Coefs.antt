@@ -1,0 +1,46 @@
+-- A polynomial back as a list. Gives: `coefs n s`, the first n coefficients of a series; the list of a polynomial of degree below n means that
+-- polynomial (`pol-coefs`), and the list of the lower coefficients of a monic one, taken as monic, means that one (`mon-coefs`).
+-- Shut (`unfoldable`): `coefs`.
+use Prim.Native.Nat.{ℕ, zero, suc, zero-le}
+use mathlib.Core.Path.{_≡_, refl, sym, ap, _∙_}
+use mathlib.Core.List.{List, [], _∷_, _++_}
+use native.Mathlib.Omega.{arith}
+use lib.ListN.{length}
+use Rattle.algebra.proofs.ring.CRing.{CRing}
+use Rattle.algebra.proofs.poly.Series.{Ser, tail}
+use Rattle.algebra.proofs.poly.Bound.{Below, Monic}
+use Rattle.algebra.proofs.poly.Poly.{poly, coef, poly-ext}
+use Rattle.algebra.proofs.list.Ops.{whole}
+use Rattle.algebra.proofs.list.Value.{pol, mon, pol-whole, nth, coef-pol}
+
+module _ (F : CRing) where
+  open CRing F using (El as A, one as 𝟙)
+
+  unfoldable pub coefs : ℕ → Ser F → List A
+  coefs zero s = []
+  coefs (suc n) s = s 0 ∷ coefs n (tail F s)
+
+  pub length-coefs : (n : ℕ) (s : Ser F) → length (coefs n s) ≡ n
+  unfolding coefs
+  length-coefs zero s = refl
+  length-coefs (suc n) s = ap suc (length-coefs n (tail F s))
+
+  nth-coefs : (n : ℕ) (s : Ser F) → Below F n s → (k : ℕ) → nth F (coefs n s) k ≡ s k
+  unfolding coefs
+  nth-coefs zero s h k = sym (h k zero-le)
+  nth-coefs (suc n) s h zero = refl
+  nth-coefs (suc n) s h (suc k) = nth-coefs n (tail F s) (λ j g. h (suc j) (omega arith)) k
+
+  pub pol-coefs : (n : ℕ) (p : poly F .El) → Below F n (coef F p) → pol F (coefs n (coef F p)) ≡ p
+  pol-coefs n p h = poly-ext F (λ k. coef-pol F (coefs n (coef F p)) k ∙ nth-coefs n (coef F p) h k)
+
+  nth-monic : (n : ℕ) (s : Ser F) → Monic F n s → (k : ℕ) → nth F (coefs n s ++ (𝟙 ∷ [])) k ≡ s k
+  unfolding coefs
+  nth-monic zero s m zero = sym (m .top)
+  nth-monic zero s m (suc k) = sym (m .below (suc k) (omega arith))
+  nth-monic (suc n) s m zero = refl
+  nth-monic (suc n) s m (suc k) = nth-monic n (tail F s) (record { below = λ j g. m .below (suc j) (omega arith); top = m .top }) k
+
+  pub mon-coefs : (n : ℕ) (p : poly F .El) → Monic F n (coef F p) → mon F (coefs n (coef F p)) ≡ p
+  unfolding whole
+  mon-coefs n p m = sym (pol-whole F (coefs n (coef F p))) ∙ poly-ext F (λ k. coef-pol F (coefs n (coef F p) ++ (𝟙 ∷ [])) k ∙ nth-monic n (coef F p) m k)

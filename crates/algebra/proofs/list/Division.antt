@@ -1,0 +1,131 @@
+-- Division of lists by a monic polynomial is division in K[x]. Gives: `divided`, that `quotient` and `remainder` are those of
+-- poly.Divide; the remainder has the divisor's length; `exact`, the quotient of a multiple; `no-rest`, that a multiple leaves nothing.
+use Prim.Native.Nat.{ℕ, suc}
+use mathlib.Core.Path.{_≡_, refl, sym, ap, ap₂, _∙_, subst}
+use mathlib.Core.List.{List, [], _∷_}
+use native.Mathlib.Omega.{arith}
+use lib.ListN.{length}
+use Rattle.algebra.proofs.ring.CRing.{CRing, add-zer}
+use Rattle.algebra.proofs.ring.Quote.{ring, quote, by}
+use Rattle.algebra.proofs.poly.Series.{Ser}
+use Rattle.algebra.proofs.poly.Bound.{Below}
+use Rattle.algebra.proofs.poly.Poly.{poly, coef, coef-zer}
+use Rattle.algebra.proofs.poly.Term.{C, X, constants}
+use Rattle.algebra.proofs.poly.Divide.{Division, quotient-unique, remainder-unique}
+use Rattle.algebra.proofs.list.Ops.{slide, less, zeros, divmod, quotient, remainder}
+use Rattle.algebra.proofs.list.Value.{pol, mon, mon-nil, mon-cons, pol-zeros, length-zeros, pol-below, mon-monic, pol-inj}
+
+-- one step of the division, in any ring: w is the power of x of the divisor b + w
+module _ (R : CRing) where
+  open CRing R using (El as A, add as _+_, mul as _*_, neg, one as 𝟙)
+
+  infixl 65 _+_
+  infixl 70 _*_
+  step : (a x l q b w r s c : A) → l ≡ q * (b + w) + r → a + x * r ≡ s + w * c → a + x * l ≡ (c + x * q) * (b + w) + (s + neg (c * b))
+  step a x l q b w r s c h k = by R x h (by R 𝟙 k (ring R (a ∷ x ∷ l ∷ q ∷ b ∷ w ∷ r ∷ s ∷ c ∷ []) (search quote depth 40) refl))
+
+module _ (F : CRing) where
+  open CRing F using (El as A, mul as _⊠_, neg as ng)
+
+  infixl 70 _⊠_
+  open CRing (poly F) using (El as P, add as _+_, mul as _*_, neg, zer as 0P, one as 1P)
+
+  infixl 65 _+_
+  infixl 70 _*_
+  -- x^d, for a list of length d
+  power : List A → P
+  power [] = 1P
+  power (a ∷ l) = X F * power l
+
+  mon-split : (m : List A) → mon F m ≡ pol F m + power m
+  unfolding power pol
+  mon-split [] = mon-nil F ∙ sym (poly F .zer-add 1P)
+  mon-split (a ∷ m) = mon-cons F a m ∙ ap (λ t. C F a + X F * t) (mon-split m) ∙ ring (poly F) (C F a ∷ X F ∷ pol F m ∷ power m ∷ []) (search quote depth 40) refl
+
+  power-len : (l m : List A) → length l ≡ length m → power l ≡ power m
+  unfolding power
+  power-len [] [] e = refl
+  power-len [] (y ∷ m) e = absurd (omega arith)
+  power-len (x ∷ l) [] e = absurd (omega arith)
+  power-len (x ∷ l) (y ∷ m) e = ap (λ t. X F * t) (power-len l m (omega arith))
+
+  length-slide : (a : A) (r : List A) → length ((slide F a r) .0) ≡ length r
+  unfolding slide
+  length-slide a [] = refl
+  length-slide a (x ∷ r) = ap suc (length-slide x r)
+
+  slide-is : (a : A) (r : List A) → C F a + X F * pol F r ≡ pol F ((slide F a r) .0) + power r * C F ((slide F a r) .1)
+  unfolding slide pol power
+  slide-is a [] = ring (poly F) (C F a ∷ X F ∷ []) (search quote depth 40) refl
+  slide-is a (x ∷ r) = ap (λ t. C F a + X F * t) (slide-is x r)
+      ∙ ring (poly F) (C F a ∷ X F ∷ pol F ((slide F x r) .0) ∷ power r ∷ C F ((slide F x r) .1) ∷ []) (search quote depth 40) refl
+
+  length-less : (c : A) (r b : List A) → length (less F c r b) ≡ length r
+  unfolding less
+  length-less c [] b = refl
+  length-less c (x ∷ r) [] = refl
+  length-less c (x ∷ r) (y ∷ b) = ap suc (length-less c r b)
+
+  less-is : (c : A) (r b : List A) → length r ≡ length b → pol F (less F c r b) ≡ pol F r + neg (C F c * pol F b)
+  unfolding less pol
+  less-is c [] [] e = ring (poly F) (C F c ∷ []) (search quote depth 40) refl
+  less-is c [] (y ∷ b) e = absurd (omega arith)
+  less-is c (x ∷ r) [] e = absurd (omega arith)
+  less-is c (x ∷ r) (y ∷ b) e =
+      ap₂ (λ s t. s + X F * t) ((constants F) .h-add x (ng (c ⊠ y)) ∙ ap (λ t. C F x + t) ((constants F) .h-neg (c ⊠ y)
+      ∙ ap neg ((constants F) .h-mul c y))) (less-is c r b (omega arith))
+      ∙ ring (poly F) (C F c ∷ C F x ∷ C F y ∷ X F ∷ pol F r ∷ pol F b ∷ []) (search quote depth 40) refl
+
+  length-divmod : (m l : List A) → length ((divmod F m l) .1) ≡ length m
+  unfolding divmod
+  length-divmod m [] = length-zeros F m
+  length-divmod m (a ∷ l) = let s : List A × A = slide F a ((divmod F m l) .1) in
+      length-less (s .1) (s .0) m ∙ length-slide a ((divmod F m l) .1) ∙ length-divmod m l
+
+  divmod-is : (m l : List A) → pol F l ≡ pol F ((divmod F m l) .0) * (pol F m + power m) + pol F ((divmod F m l) .1)
+  unfolding divmod pol
+  divmod-is m [] = ring (poly F) (pol F m ∷ power m ∷ []) (search quote depth 40) refl ∙ ap (λ t. 0P * (pol F m + power m) + t) (sym (pol-zeros F m))
+  divmod-is m (a ∷ l) =
+      step (poly F) (C F a) (X F) (pol F l) (pol F q) (pol F m) (power m) (pol F r) (pol F s) (C F c) (divmod-is m l)
+      (slide-is a r ∙ ap (λ t. pol F s + t * C F c) (power-len r m (length-divmod m l)))
+      ∙ ap (λ t. (C F c + X F * pol F q) * (pol F m + power m) + t) (sym (less-is c s m (length-slide a r ∙ length-divmod m l)))
+    where
+      q : List A
+      q = (divmod F m l) .0
+
+      r : List A
+      r = (divmod F m l) .1
+
+      s : List A
+      s = (slide F a r) .0
+
+      c : A
+      c = (slide F a r) .1
+
+  -- ---- what is used above
+  pub length-remainder : (m l : List A) → length (remainder F m l) ≡ length m
+  unfolding remainder
+  length-remainder m l = length-divmod m l
+
+  pub divided : (m l : List A) → pol F l ≡ pol F (quotient F m l) * mon F m + pol F (remainder F m l)
+  unfolding quotient remainder
+  divided m l = divmod-is m l ∙ ap (λ t. pol F ((divmod F m l) .0) * t + pol F ((divmod F m l) .1)) (sym (mon-split m))
+
+  rest-below : (m l : List A) → Below F (length m) (coef F (pol F (remainder F m l)))
+  rest-below m l = subst (λ (n : ℕ). Below F n (coef F (pol F (remainder F m l)))) (length-remainder m l) (pol-below F (remainder F m l))
+
+  abbrev division : (m l : List A) → Division F (length m) (mon F m) (pol F l)
+  division m l = record { quotient = pol F (quotient F m l); remainder = pol F (remainder F m l); is = divided m l; short = rest-below m l }
+
+  -- of a multiple of m: e, and nothing
+  whole-division : (m l : List A) (e : P) → pol F l ≡ e * mon F m → Division F (length m) (mon F m) (pol F l)
+  whole-division m l e h = record { quotient = e; remainder = 0P; is = h ∙ sym (add-zer (poly F) (e * mon F m)); short = λ k i. ap (λ (s : Ser F). s k) (coef-zer F) }
+
+  pub exact : (m l : List A) (e : P) → pol F l ≡ e * mon F m → pol F (quotient F m l) ≡ e
+  unfolding whole-division
+  exact m l e h = quotient-unique F (length m) (mon F m) (pol F l) (mon-monic F m) (division m l) (whole-division m l e h)
+
+  pub no-rest : (m l : List A) (e : P) → pol F l ≡ e * mon F m → remainder F m l ≡ zeros F m
+  unfolding whole-division
+  no-rest m l e h = pol-inj F (remainder F m l) (zeros F m) (length-remainder m l ∙ sym (length-zeros F m))
+      (remainder-unique F (length m) (mon F m) (pol F l) (mon-monic F m) (division m l) (whole-division m l e h) ∙ sym (pol-zeros F m))

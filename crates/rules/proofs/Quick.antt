@@ -1,0 +1,113 @@
+-- What code cites. A program that computes polynomials standing for elements of K[x] ends its proof with `is-sum`, of a pair by lists, or
+-- `is-sum-of`, of polynomials u and v: where it kept the equations of composition (`Composed`, with whatever d, s1, s2, s3 it found;
+-- algebra's ideal.Composed has `lifted`, `composed-coprime` and `composed-tangent` to make them), then any number of
+-- reduction steps (`Reached`), and its last pair is valid, or short enough, that pair is the sum. The rule's own Euclid, its order of
+-- steps and its lists need not be followed. A unit c is given with its inverse, c·c' = 1; of a constant that isn't zero that is
+-- algebra's `C-inv` (list.Euclid). (That d·I(U, V) is the product of the ideals is cantor.Sum's `product-in` and `product-out`.)
+use Prim.Native.Nat.{ℕ, _≤_}
+use mathlib.Core.Path.{_≡_, refl, sym, ap₂, _∙_, subst}
+use mathlib.Core.List.{[], _∷_}
+use native.Mathlib.Omega.{arith}
+use Rattle.algebra.proofs.ring.CRing.{CRing}
+use Rattle.algebra.proofs.ring.Quote.{ring, quote, by}
+use Rattle.algebra.proofs.ring.Divides.{Divides}
+use Rattle.algebra.proofs.poly.Bound.{Below, Monic}
+use Rattle.algebra.proofs.poly.Poly.{coef}
+use Rattle.algebra.proofs.list.Coefs.{coefs, length-coefs, pol-coefs, mon-coefs}
+use Rattle.algebra.proofs.ideal.Member.{Mumford}
+use Rattle.algebra.proofs.ideal.Joined.{OnCurve}
+use Rattle.algebra.proofs.ideal.Composed.{Composed}
+use Rattle.algebra.proofs.ideal.Class.{Same, same-trans, same-of}
+use Rattle.algebra.proofs.ideal.Reduce.{on-change, same-change}
+use Rattle.algebra.proofs.ideal.Step.{step-same}
+use Rattle.rules.specs.Curve.{Curve, Kx, f}
+use Rattle.rules.specs.Pair.{Pair, u-of, v-of, Valid}
+use Rattle.rules.specs.Sum.{sum, double}
+use Rattle.rules.proofs.cantor.Accepted.{Accepted, field-of, f-degree}
+use Rattle.rules.proofs.cantor.Pairs.{valid-on, on-valid}
+use Rattle.rules.proofs.cantor.Composition.{composed-on}
+use Rattle.rules.proofs.cantor.Step.{Kxy}
+use Rattle.rules.proofs.cantor.Sum.{composed-class}
+use Rattle.rules.proofs.cantor.Unique.{sum-is}
+
+module _ (E : Curve) where
+  open CRing (Kx E) using (El as P, add as _+_, mul as _*_, neg, one as 1P)
+
+  infixl 65 _+_
+  infixl 70 _*_
+  -- a chain of reduction steps from (U, V) to (u, v); a loop adds one at its end
+  pub data Reached (U V' : P) : P → P → Type 0 where
+    here : Reached U V' U V'
+    -- u·w = f - v², then u' = c·w, and v' is -v modulo u'
+    turn : {u v : P} (w c c' u' v' : P) → Reached U V' u v → u * w ≡ f E + neg (v * v) → c * c' ≡ 1P → u' ≡ c * w → Divides (Kx E) u' (v' + v) → Reached U V' u' v'
+    -- the same pair in other words: u' = c·u, and v' is v modulo u'
+    restated : {u v : P} (c c' u' v' : P) → Reached U V' u v → c * c' ≡ 1P → u' ≡ c * u → Divides (Kx E) u' (v' + neg v) → Reached U V' u' v'
+
+  -- each step stays on the curve
+  pub reached-on : {U V' u v : P} → OnCurve (Kx E) (f E) U V' → Reached U V' u v → OnCurve (Kx E) (f E) u v
+  reached-on on here = on
+  reached-on on (turn {u = u} {v = v} w c c' u' v' r hw hc hu hv) = on-change (Kx E) (f E) w (neg v) u' v' (hv .factor * c) c c' hu hc
+      (by (Kx E) 1P (hv .is) (by (Kx E) (hv .factor) hu (ring (Kx E) (v ∷ v' ∷ w ∷ u' ∷ c ∷ hv .factor ∷ []) (search quote depth 40) refl)))
+      (u, by (Kx E) (neg 1P) hw (ring (Kx E) (f E ∷ u ∷ v ∷ w ∷ []) (search quote depth 40) refl))
+  reached-on on (restated {u = u} {v = v} c c' u' v' r hc hu hv) = on-change (Kx E) (f E) u v u' v' (hv .factor * c) c c' hu hc
+      (by (Kx E) 1P (hv .is) (by (Kx E) (hv .factor) hu (ring (Kx E) (v ∷ v' ∷ u ∷ u' ∷ c ∷ hv .factor ∷ []) (search quote depth 40) refl)))
+      (reached-on on r)
+
+module _ (E : Curve) (h : Accepted E) where
+  open CRing (Kx E) using (El as P, mul as _*_, neg, one as 1P)
+
+  infixl 70 _*_
+  -- each step keeps the class
+  pub reached-class : {U V' u v : P} → Reached E U V' u v → Same (Kxy E) (Mumford (Kx E) (f E) U V') (Mumford (Kx E) (f E) u v)
+  reached-class here = same-of (Kxy E) (λ x i. i) (λ x i. i)
+  reached-class (turn {u = u} {v = v} w c c' u' v' r hw hc hu hv) = same-trans (Kxy E) (reached-class r) (same-trans (Kxy E)
+      (step-same (field-of E (h .over)) (E .g) (f E) (f-degree E (h .over) (h .odd)) u v w (by (Kx E) (neg 1P) hw
+      (ring (Kx E) (f E ∷ u ∷ v ∷ w ∷ []) (search quote depth 40) refl)))
+      (same-change (Kx E) (f E) w (neg v) u' v' (hv .factor * c) c c' hu hc
+      (by (Kx E) 1P (hv .is) (by (Kx E) (hv .factor) hu (ring (Kx E) (v ∷ v' ∷ w ∷ u' ∷ c ∷ hv .factor ∷ []) (search quote depth 40) refl)))))
+  reached-class (restated {u = u} {v = v} c c' u' v' r hc hu hv) = same-trans (Kxy E) (reached-class r)
+      (same-change (Kx E) (f E) u v u' v' (hv .factor * c) c c' hu hc
+      (by (Kx E) 1P (hv .is) (by (Kx E) (hv .factor) hu (ring (Kx E) (v ∷ v' ∷ u ∷ u' ∷ c ∷ hv .factor ∷ []) (search quote depth 40) refl))))
+
+  -- the last pair by lists: where it is valid, it is the sum
+  pub is-sum : (a b c : Pair (E .K)) → Valid E a → Valid E b → Valid E c → {U V' : P}
+      → Composed (Kx E) (f E) (u-of E a) (v-of E a) (u-of E b) (v-of E b) U V'
+      → Reached E U V' (u-of E c) (v-of E c) → sum E a b ≡ c
+  is-sum a b c va vb vc {U} {V'} j r = sum-is E h a b c va vb vc (same-trans (Kxy E) (composed-class E h a b (valid-on E va) (valid-on E vb) U V' j) (reached-class r))
+
+pub double-is : (E : Curve) (a : Pair (E .K)) → double E a ≡ sum E a a
+unfolding double
+double-is E a = refl
+
+-- ---- the last pair by polynomials
+-- (u, v) as lists of n coefficients
+abbrev pub pair-of : (E : Curve) → ℕ → Kx E .El → Kx E .El → Pair (E .K)
+pair-of E n u v = record { u = coefs (E .K .base) n (coef (E .K .base) u); v = coefs (E .K .base) n (coef (E .K .base) v) }
+
+module _ (E : Curve) (n : ℕ) (u v : Kx E .El) (m : Monic (E .K .base) n (coef (E .K .base) u)) (b : Below (E .K .base) n (coef (E .K .base) v)) where
+  open CRing (Kx E) using (add as _+_, mul as _*_)
+
+  infixl 65 _+_
+  infixl 70 _*_
+  pub pair-of-u : u-of E (pair-of E n u v) ≡ u
+  pair-of-u = mon-coefs (E .K .base) n u m
+
+  pub pair-of-v : v-of E (pair-of E n u v) ≡ v
+  pair-of-v = pol-coefs (E .K .base) n v b
+
+  pub pair-of-valid : n ≤ E .g → OnCurve (Kx E) (f E) u v → Valid E (pair-of E n u v)
+  pair-of-valid l on = on-valid E (record {
+    fits = length-coefs (E .K .base) n (coef (E .K .base) v) ∙ sym (length-coefs (E .K .base) n (coef (E .K .base) u));
+    on = (on .0, on .1 ∙ sym (ap₂ (λ s t. t * t + s * on .0) pair-of-u pair-of-v));
+  }) (omega (arith, length-coefs (E .K .base) n (coef (E .K .base) u)))
+
+module _ (E : Curve) (h : Accepted E) where
+  open CRing (Kx E) using (El as P)
+
+  -- u monic of degree n ≤ g and deg v < n: that (u, v) lies on the curve comes with the chain
+  pub is-sum-of : (a b : Pair (E .K)) → Valid E a → Valid E b → (n : ℕ) (u v : P)
+      → Monic (E .K .base) n (coef (E .K .base) u) → Below (E .K .base) n (coef (E .K .base) v) → n ≤ E .g → {U V' : P}
+      → Composed (Kx E) (f E) (u-of E a) (v-of E a) (u-of E b) (v-of E b) U V' → Reached E U V' u v → sum E a b ≡ pair-of E n u v
+  is-sum-of a b va vb n u v m l le {U} {V'} j r = is-sum E h a b (pair-of E n u v) va vb
+      (pair-of-valid E n u v m l le (reached-on E (composed-on E (h .over) a b (valid-on E va) (valid-on E vb) U V' j) r)) j
+      (subst (λ (t : P). Reached E U V' t (v-of E (pair-of E n u v))) (sym (pair-of-u E n u v m l)) (subst (λ (t : P). Reached E U V' u t) (sym (pair-of-v E n u v m l)) r))

@@ -1,0 +1,29 @@
+-- Document 01, "The records": a curve y² = f(x), f monic of degree 2g + 1; and, of the table, what number 7 refuses: f has a repeated
+-- factor, f and its derivative share a factor of degree 1 or more. K may be the whole numbers modulo any p: no law of it is asked here.
+use Prim.Native.Nat.{ℕ}
+use mathlib.Core.List.{List}
+use Rattle.algebra.proofs.ring.CRing.{CRing}
+use Rattle.algebra.proofs.ring.Field.{Arith}
+use Rattle.algebra.proofs.ring.Divides.{Divides}
+use Rattle.algebra.proofs.poly.Bound.{Below}
+use Rattle.algebra.proofs.poly.Poly.{poly, coef}
+use Rattle.algebra.proofs.poly.Derivative.{derP}
+use Rattle.algebra.proofs.list.Value.{mon}
+
+-- low: f_0 up to f_2g. The leading 1 isn't stored.
+pub record Curve : Type 1 where
+  pub K : Arith
+  pub g : ℕ
+  pub low : List (K .base .El)
+
+module _ (E : Curve) where
+  -- the ring K[x], and f in it
+  abbrev pub Kx : CRing
+  Kx = poly (E .K .base)
+
+  abbrev pub f : Kx .El
+  f = mon (E .K .base) (E .low)
+
+  -- whatever divides f and its derivative is a constant: it has no coefficient from place 1 on
+  abbrev pub SquareFree : Type 0
+  SquareFree = (d : Kx .El) → Divides Kx d f → Divides Kx d (derP (E .K .base) f) → Below (E .K .base) 1 (coef (E .K .base) d)

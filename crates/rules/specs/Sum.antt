@@ -1,0 +1,83 @@
+-- Document 01, "The sum": composition with its d, s1, s2, s3, reduction, sum and double, by lists of coefficients (algebra, list.Ops). `/`
+-- is the quotient and `%` the remainder by a monic polynomial, given by its lower coefficients; `monic` makes a polynomial monic.
+use Prim.Native.Nat.{ℕ, zero, suc}
+use mathlib.Core.List.{List}
+use native.Mathlib.Decide.{decLe}
+use lib.ListN.{length}
+use Rattle.algebra.proofs.ring.Field.{Arith}
+use Rattle.algebra.proofs.list.Ops.{addL, mulL, negL, whole, quotient, remainder, monic, Bezout, gcd}
+use Rattle.rules.specs.Curve.{Curve}
+use Rattle.rules.specs.Pair.{Pair}
+
+module _ (E : Curve) where
+  abbrev K : Arith
+  K = E .K
+
+  abbrev Poly : Type 0
+  Poly = List (K .base .El)
+
+  infixl 65 _+_
+  infixl 65 _-_
+  infixl 70 _*_
+  infixl 70 _/_
+  infixl 70 _%_
+  abbrev _+_ : Poly → Poly → Poly
+  a + b = addL (K .base) a b
+
+  abbrev _-_ : Poly → Poly → Poly
+  a - b = addL (K .base) a (negL (K .base) b)
+
+  abbrev _*_ : Poly → Poly → Poly
+  a * b = mulL (K .base) a b
+
+  abbrev _/_ : Poly → Poly → Poly
+  a / m = quotient (K .base) m a
+
+  abbrev _%_ : Poly → Poly → Poly
+  a % m = remainder (K .base) m a
+
+  -- all coefficients of f, its leading 1 among them
+  abbrev pub f-list : Poly
+  f-list = whole (K .base) (E .low)
+
+  unfoldable pub composition : Pair K → Pair K → Pair K
+  unfolding addL mulL whole quotient remainder monic gcd
+  composition a b =
+      let u1 : Poly = whole (K .base) (a .u) in
+      let v1 : Poly = a .v in
+      let u2 : Poly = whole (K .base) (b .u) in
+      let v2 : Poly = b .v in
+      -- d by Euclid, of u1 and u2, then of what that finds and v1 + v2
+      let p : Bezout K = gcd K (a .u) u2 in
+      let q : Bezout K = gcd K (p .d) (v1 + v2) in
+      let d : Poly = q .d in
+      let s1 : Poly = q .s * p .s in
+      let s2 : Poly = q .s * p .t in
+      let s3 : Poly = q .t in
+      -- (u1·u2/d² is monic; `monic` only drops its leading zeros)
+      let u : Poly = monic K (u1 * u2 / d / d) in
+      record { u = u; v = (s1 * u1 * v2 + s2 * u2 * v1 + s3 * (v1 * v2 + f-list)) / d % u }
+
+  -- u by (f - v²)/u made monic, then v by -v modulo the new u
+  unfoldable pub step : Pair K → Pair K
+  unfolding addL mulL negL whole quotient remainder monic
+  step a = let u : Poly = monic K ((f-list - a .v * a .v) / a .u) in record { u = u; v = negL (K .base) (a .v) % u }
+
+  -- while deg u > g, for at most n turns
+  unfoldable pub while : ℕ → Pair K → Pair K
+  unfolding step decLe
+  while zero a = a
+  while (suc n) a = elim (decLe (length (a .u)) (E .g)) [ yes l ↦ a | no l ↦ while n (step a) ]
+
+  -- each turn lowers the degree, so deg u turns are enough
+  unfoldable pub reduction : Pair K → Pair K
+  unfolding while
+  reduction a = while (length (a .u)) a
+
+  unfoldable pub sum : Pair K → Pair K → Pair K
+  unfolding composition reduction
+  sum a b = reduction (composition a b)
+
+  unfoldable pub double : Pair K → Pair K
+  unfolding sum
+  double a = sum a a
