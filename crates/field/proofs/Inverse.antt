@@ -9,7 +9,6 @@ use Rattle.algebra.proofs.ring.CRing.{CRing, mul-one}
 use Rattle.algebra.proofs.ring.Quote.{ring, quote, by}
 use Rattle.algebra.proofs.zmod.Zmod.{zmod, emb, emb-add, emb-mul, emb-mod, emb-less, emb-p, emb-one, emb-zero}
 use Rattle.field.specs.declared.Modulus.{Modulus}
-use Rattle.field.specs.declared.Residue.{Residue}
 use Rattle.field.specs.Residues.{el, Good, Unit, Inverts}
 use Rattle.field.proofs.Laws.{positive}
 

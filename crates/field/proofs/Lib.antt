@@ -2,3 +2,4 @@ pub mod Laws
 pub mod Sums
 pub mod Inverse
 pub mod Trial
+pub mod Decide

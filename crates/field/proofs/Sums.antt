@@ -1,7 +1,6 @@
 -- Why the code's sum, difference, opposite and product stand for those of Z/p, and what its tests for zero and equality say.
-use Prim.Native.Nat.{ℕ, _+_, _-_, _*_, _%_, _≤_, _<_}
+use Prim.Native.Nat.{ℕ, _+_, _-_, _*_, _%_}
 use mathlib.Core.Path.{_≡_, sym, ap, _∙_}
-use mathlib.Core.Logic.{_≢_}
 use native.Mathlib.Omega.{arith}
 use native.Mathlib.Nat.{mod-lt}
 use Rattle.algebra.proofs.ring.CRing.{CRing}

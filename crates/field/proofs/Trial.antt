@@ -5,7 +5,7 @@ use mathlib.Core.Path.{_≡_, sym, ap, _∙_}
 use native.Mathlib.Omega.{arith}
 use native.Mathlib.Decide.{ℕ-discrete, decLt}
 use native.Mathlib.Nat.{div-add-mod, mul-assoc, mul-mod-right, mul-le-mul-left}
-use Rattle.algebra.proofs.zmod.Prime.{Prime, prime-by-root}
+use Rattle.algebra.proofs.zmod.Prime.{prime-by-root}
 use Rattle.field.specs.Primes.{OddPrime, limit}
 
 pub record Tried (p d : ℕ) : Type 0 where

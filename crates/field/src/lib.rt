@@ -1,6 +1,6 @@
 // Residues modulo an odd prime. A residue stands for an element of Z/p, `el m r`; nobody above this crate sees the number inside.
 ghost use mathlib.Core.Path.{_≡_};
-ghost use Rattle.algebra.proofs.zmod.Zmod.{zmod, emb, num};
+ghost use Rattle.algebra.proofs.zmod.Zmod.{zmod, num};
 ghost use Rattle.field.specs.Residues.{el, Good, Kept, Settled, Unit, Stands, Settles, Inverts, Everywhere, InRange};
 ghost use Rattle.field.specs.Primes.{Decides, OddPrime};
 ghost use Rattle.field.specs.Read.{ModulusIs, ResidueIs};

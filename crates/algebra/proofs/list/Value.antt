@@ -1,7 +1,7 @@
 -- What a list of coefficients means in K[x]. Gives: `pol l` and, of a monic polynomial by its lower coefficients, `mon m`; the
 -- operations of list.Ops as operations of K[x]; coefficients and bounds; that lists of one length with one meaning are equal.
 -- Shut (`unfoldable`): `pol`, `mon`.
-use Prim.Native.Nat.{ℕ, zero, suc}
+use Prim.Native.Nat.{ℕ, zero, suc, _<_}
 use mathlib.Core.Path.{_≡_, refl, sym, ap, ap₂, _∙_}
 use mathlib.Core.List.{List, [], _∷_, _++_}
 use native.Mathlib.Omega.{arith}
@@ -107,7 +107,7 @@ module _ (F : CRing) where
   coef-pol (a ∷ l) zero = coef-cons a (pol l) 0 ∙ ap (λ t. a ⊞ t) (coef-X-zero F (pol l)) ∙ add-zer F a
   coef-pol (a ∷ l) (suc n) = coef-cons a (pol l) (suc n) ∙ ap (λ t. 𝟘 ⊞ t) (coef-X-suc F (pol l) n ∙ coef-pol l n) ∙ F .zer-add (nth l n)
 
-  nth-beyond : (l : List A) → Below F (length l) (nth l)
+  pub nth-beyond : (l : List A) → Below F (length l) (nth l)
   nth-beyond [] n g = refl
   nth-beyond (a ∷ l) zero g = absurd (omega arith)
   nth-beyond (a ∷ l) (suc n) g = nth-beyond l n (omega arith)
@@ -125,6 +125,16 @@ module _ (F : CRing) where
     below = λ k l. pol-below (m ++ (𝟙 ∷ [])) k (omega (arith, length-append m (𝟙 ∷ [])));
     top = coef-pol (m ++ (𝟙 ∷ [])) (length m) ∙ nth-whole m;
   }
+
+  nth-front : (m : List A) (k : ℕ) → k < length m → nth (m ++ (𝟙 ∷ [])) k ≡ nth m k
+  nth-front [] k l = absurd (omega arith)
+  nth-front (a ∷ m) zero l = refl
+  nth-front (a ∷ m) (suc k) l = nth-front m k (omega arith)
+
+  -- the lower coefficients of a monic one
+  pub coef-mon : (m : List A) (k : ℕ) → k < length m → coef F (mon m) k ≡ nth m k
+  unfolding mon whole
+  coef-mon m k l = coef-pol (m ++ (𝟙 ∷ [])) k ∙ nth-front m k l
 
   -- ---- lists of one length with one meaning are equal
   same-nth : (l m : List A) → length l ≡ length m → ((k : ℕ) → nth l k ≡ nth m k) → l ≡ m

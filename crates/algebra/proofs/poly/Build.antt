@@ -2,7 +2,7 @@
 -- change at one place is a term added; `part n f`, the first n terms of a series, which has none from n on (`part-below`); `part-all`, that
 -- a polynomial is all of its terms.
 -- Shut (`unfoldable`): `part`.
-use Prim.Native.Nat.{ℕ, zero, suc, _≤_, _<_, zero-le}
+use Prim.Native.Nat.{ℕ, zero, suc, _<_, zero-le}
 use mathlib.Core.Path.{_≡_, refl, sym, ap, ap₂, _∙_}
 use mathlib.Core.List.{[], _∷_}
 use native.Mathlib.Omega.{arith}

@@ -2,7 +2,7 @@
 -- polynomial, and `mk`, a polynomial from its coefficients and a bound; `poly-ext`, that polynomials with equal coefficients are equal;
 -- the coefficients of sums, opposites, products, 0 and 1.
 -- Shut (`unfoldable`): `poly`, `coef`, `mk`. Laws above this file come through `coef-..` and `poly-ext` alone.
-use Prim.Native.Nat.{ℕ, zero, suc, _+_, _-_}
+use Prim.Native.Nat.{ℕ, zero, _+_, _-_}
 use mathlib.Core.Path.{_≡_, refl, fun-ext}
 use mathlib.Core.HLevel.{Σ-set, Σ-prop-path, prop→set}
 use mathlib.Core.Logic.{∥∥₁-prop, ∥∥₁-map, ∥∥₁-map₂}

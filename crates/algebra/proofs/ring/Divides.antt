@@ -1,7 +1,6 @@
 -- Divisibility in a commutative ring. Gives: `Divides R d a` with its factor, a ≡ factor · d, and how it goes with sums, opposites,
 -- products and chains.
-use mathlib.Core.Path.{_≡_, refl, sym, ap, ap₂, _∙_}
-use mathlib.Core.List.{[], _∷_}
+use mathlib.Core.Path.{_≡_, sym, ap, ap₂, _∙_}
 use Rattle.algebra.proofs.ring.CRing.{CRing, zer-mul, neg-mul}
 
 pub record Divides (R : CRing) (d a : R .El) : Type 0 where

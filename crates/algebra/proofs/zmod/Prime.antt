@@ -1,11 +1,11 @@
 -- Primes. Gives: the one proposition `Prime p`, that p is at least 2 and no number between 1 and p divides it; `prime-by-root`, that it
 -- is enough to try the numbers whose square is at most p; and `prime-by-test`, which shows it of a small p by computation.
-use Prim.Native.Nat.{ℕ, zero, suc, _+_, _*_, _/_, _%_, _≤_, _<_}
+use Prim.Native.Nat.{ℕ, zero, suc, _*_, _/_, _%_, _≤_, _<_}
 use mathlib.Core.Path.{_≡_, refl, sym, ap, _∙_, subst}
 use mathlib.Core.Bool.{Bool, true, false}
 use native.Mathlib.Decide.{ℕ-discrete, decLt}
 use native.Mathlib.Omega.{arith}
-use native.Mathlib.Nat.{div-add-mod, mul-le-mul, mul-le-mul-left, mul-mod-left, mod-lt}
+use native.Mathlib.Nat.{div-add-mod, mul-le-mul, mul-le-mul-left, mul-mod-left}
 
 pub record Prime (p : ℕ) : Type 0 where
   pub two : 2 ≤ p

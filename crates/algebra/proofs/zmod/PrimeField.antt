@@ -2,16 +2,16 @@
 -- prime; and that 1 + 1 isn't 0 in it but for p = 2. The inverse comes from a⁻¹ = -(p / a) · (p % a)⁻¹: primality is used only as
 -- p % a ≠ 0. It computes, so closed sums over small fields do.
 -- Open (`abbrev`): `modulo`, `prime-field`, whose ring is thus `zmod p` itself. Shut: `inv`.
-use Prim.Native.Nat.{ℕ, zero, suc, _+_, _*_, _-_, _/_, _%_, _≤_, _<_}
+use Prim.Native.Nat.{ℕ, zero, suc, _*_, _-_, _/_, _%_, _≤_, _<_}
 use mathlib.Core.Path.{_≡_, refl, sym, ap, ap₂, _∙_}
 use mathlib.Core.List.{[], _∷_}
 use mathlib.Core.Logic.{_≢_, _⊎_, inl, inr}
 use native.Mathlib.Omega.{arith}
-use native.Mathlib.Nat.{mod-lt, mod-eq-of-lt, div-add-mod, eq-zero-or-pos}
+use native.Mathlib.Nat.{mod-lt, div-add-mod, eq-zero-or-pos}
 use Rattle.algebra.proofs.ring.CRing.{CRing}
 use Rattle.algebra.proofs.ring.Quote.{ring, quote, by}
 use Rattle.algebra.proofs.ring.Field.{Arith, Field}
-use Rattle.algebra.proofs.zmod.Zmod.{zmod, zmod-dec, emb, num, emb-num, num-inj, num-lt, num-of, num-zero, emb-add, emb-mul, emb-one, emb-zero, emb-p, emb-mod, emb-less, emb-inj}
+use Rattle.algebra.proofs.zmod.Zmod.{zmod, zmod-dec, emb, num, emb-num, num-inj, num-lt, num-zero, emb-add, emb-mul, emb-one, emb-zero, emb-p, emb-mod, emb-less, emb-inj}
 use Rattle.algebra.proofs.zmod.Prime.{Prime}
 
 -- the inverse of a modulo p, in at most f steps

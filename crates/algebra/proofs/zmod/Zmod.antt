@@ -10,7 +10,7 @@ use native.Mathlib.Omega.{arith}
 use native.Mathlib.Bridge.{le-prop}
 use native.Mathlib.Decide.{ℕ-discrete}
 use native.Mathlib.Nat.{mod-lt, mod-eq-of-lt, mod-self, mod-add-mod, add-mod-mod, mul-add-mod-self-left, div-add-mod, add-assoc, add-comm, mul-assoc, mul-comm, add-mul, zero-add, one-mul}
-use Rattle.algebra.proofs.ring.CRing.{CRing, eq-of-sub}
+use Rattle.algebra.proofs.ring.CRing.{CRing}
 use Rattle.algebra.proofs.ring.Quote.{ring, quote, by}
 
 pub mod-mul-mod : (a b m : ℕ) → (a % m) * b % m ≡ a * b % m

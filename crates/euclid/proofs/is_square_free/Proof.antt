@@ -1,3 +1,4 @@
+use native.Mathlib.Omega.{arith}
 use Rattle.euclid.proofs.Shares.{shares-none-with, shares-some-with}
 use borrow.Author.Needs.{needs}
 use Rattle.euclid.proofs.is_square_free.Statement.{statement}
@@ -10,10 +11,10 @@ gcd-requires : tie.Need-gcd-requires
 gcd-requires c κs = (c .before .pre, c .derivative .ensures .ok)
 
 returns : tie.Need-returns
-returns c = shares-none-with (c .before .before .before .before .args .m) (c .before .before .before .derivative .ensures .is) (c .before .before .gcd .ensures) (c .if1 .taken)
+returns c = shares-none-with (c .before .before .before .before .args .m) (c .before .before .before .derivative .ensures .is) (c .before .before .gcd .ensures) (omega (arith, c .if1 .taken))
 
 returns-2 : tie.Need-returns-2
-returns-2 c = shares-some-with (c .before .before .before .before .args .m) (c .before .before .before .derivative .ensures .is) (c .before .before .gcd .ensures) (c .if1 .left)
+returns-2 c = shares-some-with (c .before .before .before .before .args .m) (c .before .before .before .derivative .ensures .is) (c .before .before .gcd .ensures) (λ e. omega (arith, c .if1 .left))
 
 pub is-square-free-spec : {M : Type 1} → statement M
 is-square-free-spec = tie.close (tie.spec derivative-requires gcd-requires returns returns-2)

@@ -4,7 +4,7 @@ use Rattle.euclid.proofs.Line.monic.Statement.{statement}
 use Rattle.euclid.proofs.Line.monic.Tie as tie
 
 returns : tie.Need-returns
-returns c = scaled-zero (c .before .before .before .args .m) (c .before .before .before .pre) (c .if1 .taken)
+returns c = scaled-zero (c .before .before .before .args .m) (c .before .before .before .pre) (omega (arith, c .if1 .taken))
 
 unlead-requires : tie.Need-unlead-requires
 unlead-requires c κs = record { ok = c .before .before .before .before .before .pre .r; some = omega arith }

@@ -1,0 +1,71 @@
+-- Exact quotients. Gives: dividing by a monic d of one coefficient leaves a as it is; the cofactor w with f = v² + u · w; a pair stays on
+-- the curve when v changes by a multiple of u.
+use Prim.Native.Nat.{zero, suc, _+_, _-_, max}
+use mathlib.Core.Path.{_≡_, refl, sym, ap, _∙_}
+use mathlib.Core.List.{[], _∷_}
+use native.Mathlib.Omega.{arith}
+use Rattle.algebra.proofs.ring.CRing.{CRing, mul-one}
+use Rattle.algebra.proofs.ring.Quote.{ring, quote, by}
+use Rattle.algebra.proofs.poly.Series.{con}
+use Rattle.algebra.proofs.poly.Poly.{coef, poly-ext, coef-one}
+use Rattle.algebra.proofs.poly.Term.{at}
+use Rattle.algebra.proofs.ideal.Joined.{OnCurve}
+use Rattle.field.specs.declared.Modulus.{Modulus}
+use Rattle.poly.specs.declared.Poly.{Poly}
+use Rattle.poly.specs.Polys.{K, P, pol, Ok, Is}
+use Rattle.poly.specs.Contracts.{IsMonic, ToQuotient, Quotient}
+use Rattle.cantor.specs.declared.Mumford.{Mumford}
+use Rattle.cantor.specs.Composing.{ToStrip}
+use Rattle.cantor.specs.Reducing.{ToCofactor, Cofactor}
+
+module _ (m : Modulus) where
+  open CRing (P m) using (El as Po, add as _+P_, mul as _*P_, neg as negP, one as 1P)
+
+  infixl 65 _+P_
+  infixl 70 _*P_
+  -- ---- by 1
+  pub one-of : {d : Poly} → Ok m d → IsMonic m d → d .n ≡ 1 → pol m d ≡ 1P
+  unfolding con
+  one-of {d} h o e = poly-ext (K m) go
+    where
+      go : (k : _) → coef (K m) (pol m d) k ≡ coef (K m) 1P k
+      go zero = ap (coef (K m) (pol m d)) {x = 0} {y = d .n - 1} (omega arith) ∙ o .lead ∙ sym (at (K m) (coef-one (K m)) 0)
+      go (suc k) = h .size .end (suc k) (omega arith) ∙ sym (at (K m) (coef-one (K m)) (suc k))
+
+  pub strip-none : {a d : Poly} → ToStrip m a d → d .n ≡ 1 → Quotient m a d a
+  strip-none {a} {d} h e = record {
+    ok = h .left;
+    is = sym (ap (λ t. pol m a *P t) (one-of (h .right) (h .monic) e) ∙ mul-one (P m) (pol m a));
+    short = omega arith;
+  }
+
+  -- ---- (f - v²) / u
+  module _ (f : Poly) (x : Mumford) (h : ToCofactor m f x) (sq y : Poly)
+      (h-sq : Is m sq (pol m (x .v) *P pol m (x .v)) (x .v .n + x .v .n - 1)) (h-y : Is m y (pol m f +P negP (pol m sq)) (max (f .n) (sq .n))) where
+    y-is : pol m y ≡ pol m f +P negP (pol m (x .v) *P pol m (x .v))
+    y-is = h-y .is ∙ ap (λ t. pol m f +P negP t) (h-sq .is)
+
+    pub to-quotient : ToQuotient m y (x .u)
+    to-quotient = record {
+      left = h-y .ok;
+      right = h .fine .ok-u;
+      monic = h .fine .monic;
+      divides = record {
+        factor = h .fine .on .0;
+        is = y-is ∙ by (P m) 1P (h .fine .on .1) (ring (P m) (pol m f ∷ pol m (x .u) ∷ pol m (x .v) ∷ h .fine .on .0 ∷ []) (search quote depth 40) refl);
+      };
+    }
+
+    pub cofactor-is : (w : Poly) → Quotient m y (x .u) w → Cofactor m f x w
+    cofactor-is w v = record {
+      ok = v .ok;
+      is = by (P m) 1P (sym y-is ∙ v .is) (ring (P m) (pol m f ∷ pol m (x .u) ∷ pol m (x .v) ∷ pol m w ∷ []) (search quote depth 40) refl);
+      short = omega (arith, v .short, h-y .short, h-sq .short);
+    }
+
+  -- ---- v modulo u
+  pub on-modulo : (f u v0 v k w : Po) → f ≡ v0 *P v0 +P u *P w → v0 ≡ k *P u +P v → OnCurve (P m) f u v
+  on-modulo f u v0 v k w h e = (
+    k *P k *P u +P k *P v +P k *P v +P w,
+    by (P m) 1P h (by (P m) (v0 +P k *P u +P v) e (ring (P m) (f ∷ u ∷ v0 ∷ v ∷ k ∷ w ∷ []) (search quote depth 40) refl)),
+  )

@@ -1,0 +1,27 @@
+use native.Mathlib.Omega.{arith}
+use Rattle.cantor.proofs.Divisors3.{coprime-is, common-is, common-fits}
+use borrow.Author.Needs.{needs}
+use Rattle.cantor.proofs.common.Statement.{statement}
+use Rattle.cantor.proofs.common.Tie as tie
+
+xgcd-requires : tie.Need-xgcd-requires
+xgcd-requires c κs = search needs
+
+zero-requires : tie.Need-zero-requires
+zero-requires c κs = search needs
+
+returns : tie.Need-returns
+returns c = let s = c .before .before .before .before .before .before in coprime-is (s .args .m) (s .args .u1) (s .args .u2) (s .args .w) (s .pre) (c .before .before .before .before .before .xgcd .result) (c .before .before .before .before .before .xgcd .ensures) (c .zero .result) (c .zero .ensures) (c .before .if1 .taken)
+
+xgcd-requires-2 : tie.Need-xgcd-requires-2
+xgcd-requires-2 c κs = search needs
+
+mul-requires : tie.Need-mul-requires
+mul-requires c κs = let s = c .before .before .before .before .before .before .before in record { left = c .before .xgcd2 .ensures .ok-s; right = c .before .before .before .before .before .before .xgcd .ensures .ok-t; fits = omega (arith, common-fits (s .args .m) (s .args .u1) (s .args .u2) (s .args .w) (s .pre) (c .before .before .before .before .before .before .xgcd .result) (c .before .before .before .before .before .before .xgcd .ensures) (c .before .xgcd2 .result) (c .before .xgcd2 .ensures)) }
+
+returns-2 : tie.Need-returns-2
+returns-2 c = let s = c .before .before .before .before .before .before .before .before .before .before in common-is (s .args .m) (s .args .u1) (s .args .u2) (s .args .w) (s .pre) (c .before .before .before .before .before .before .before .before .before .xgcd .result) (c .before .before .before .before .before .before .before .before .before .xgcd .ensures) (c .before .before .before .before .xgcd2 .result) (c .before .before .mul .result) (c .before .before .before .before .xgcd2 .ensures) (c .before .before .mul .ensures)
+
+pub common-spec : {M : Type 1} → statement M
+common-spec =
+    tie.close (tie.spec xgcd-requires zero-requires returns xgcd-requires-2 mul-requires returns-2)

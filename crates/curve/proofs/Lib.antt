@@ -1,0 +1,5 @@
+pub mod Few
+pub mod Convert
+pub mod Carry
+pub mod Chain
+pub mod Sums

@@ -1,0 +1,241 @@
+#!/usr/bin/env python3
+"""corners.py: makes the input and the expected output of the program `corners`: every street corner of document 01,
+with a star or without, run through the calls, one line each: a label and the answer.
+
+    python3 tools/corners.py             writes both files
+    python3 tools/corners.py --check     writes nothing: both files must be what it would write
+    --input PATH, --expected PATH        other files than crates/corners/data/corners and crates/corners/stdout
+
+The format is frames.py's, with a label before each frame. What document 01 says of a corner is written out here by hand;
+reference.py's answer must agree with it or nothing is written.
+"""
+import argparse
+import os
+import sys
+
+import ideals
+import reference as r
+from frames import (
+    ADD, CHECK_CURVE, CHECK_DIVISOR, DOUBLE, FIRST_REPEAT, GUARD, MULTIPLY, OPPOSITE, REWRITE_CURVE, REWRITE_DIVISOR, SCAN,
+    TOTAL_BATCH, WITH_OUTPUT, Frame, answer, curve_record, decoded, divisor_record, encoded, label, text_of,
+)  # fmt: skip
+
+CURVE_A = curve_record(2, 7, [1, 0, 0, 0, 0])
+CURVE_B = curve_record(3, 11, [1, 0, 0, 0, 0, 0, 0])
+NEUTRAL = b"\x00"
+X_1, X_6, X_2 = (divisor_record([0], [v]) for v in (1, 6, 2))  # (x, 1), (x, 6) and (x, 2)
+X6_3 = divisor_record([6], [3])  # (x + 6, 3)
+X1_0 = divisor_record([1], [0])  # (x + 1, 0)
+XX_1 = divisor_record([0, 0], [1, 0])  # (x², 1)
+XX_6 = divisor_record([0, 0], [6, 0])  # (x², 6)
+XX6X = divisor_record([0, 6], [1, 2])  # (x² + 6x, 2x + 1)
+XX4X4 = divisor_record([4, 4], [0, 1])  # (x² + 4x + 4, x)
+B_X_10 = divisor_record([0], [10])
+B_XXX_1 = divisor_record([0, 0, 0], [1, 0, 0])
+B_XXX_10 = divisor_record([0, 0, 0], [10, 0, 0])
+
+frames = []
+labels = set()
+
+
+def corner(name, frame, number, place=0, result=b"", more=()):
+    """One line. number, place and result are document 01's; more are the counts and totals after the length."""
+    assert name not in labels and " " not in name
+    labels.add(name)
+    fields, out = answer(frame)
+    wanted_out = None
+    if frame.operation in WITH_OUTPUT:
+        wanted_out = result + bytes([GUARD]) * (frame.output - len(result))
+    wanted = (number, place, len(result)) + tuple(more)
+    if (fields, out) != (wanted, wanted_out):
+        raise AssertionError("%s: %s %s, wanted %s %s" % (name, fields, out, wanted, wanted_out))
+    frames.extend([label(name), frame])
+
+
+def summed(name, curve, a, b, result):
+    corner(name, Frame(ADD, curve, a, b, len(result) + 5), 0, 0, result)
+    corner(name + "-turned", Frame(ADD, curve, b, a, len(result)), 0, 0, result)
+
+
+def times(name, curve, a, n, result, counts):
+    """The n-fold, by a multiple, by a batch of n records and by n scans."""
+    corner(name + "-multiply", Frame(MULTIPLY, curve, a, bytes([n]), len(result) + 3), 0, 0, result, counts)
+    corner(name + "-batch", Frame(TOTAL_BATCH, curve, a * n, b"", len(result) + 1), 0, 0, result, (n,))
+    total = r.fresh_total()
+    for k in range(n):
+        frame = Frame(SCAN, curve, a, b"", 0, total)
+        total = answer(frame)[0][3:]
+        corner("%s-scan-%d" % (name, k + 1), frame, 0, 0, b"", total)
+    w = total[0]
+    assert divisor_record(total[1 : 1 + w], total[4 : 4 + w]) == result and total[7] == n
+
+
+def doubled(name, curve, a, result):
+    corner(name + "-double", Frame(DOUBLE, curve, a, b"", len(result) + 2), 0, 0, result)
+    corner(name + "-add", Frame(ADD, curve, a, a, len(result)), 0, 0, result)
+    times(name, curve, a, 2, result, (1, 0))
+
+
+def every_call(name, curve, a, number, place=0, second=X_1):
+    """A refusal through every call. A divisor at fault stands first, then second, then as the batch's second."""
+    total = r.flat_total(r.NEUTRAL, 3)
+    if place == 0:
+        corner(name + "-check-curve", Frame(CHECK_CURVE, curve), number)
+        corner(name + "-rewrite-curve", Frame(REWRITE_CURVE, curve, b"", b"", 72), number)
+    corner(name + "-check-divisor", Frame(CHECK_DIVISOR, curve, a), number, place)
+    corner(name + "-rewrite-divisor", Frame(REWRITE_DIVISOR, curve, a, b"", 51), number, place)
+    corner(name + "-add", Frame(ADD, curve, a, second, 49), number, place)
+    corner(name + "-add-second", Frame(ADD, curve, second, a, 49), number, 2 * place)
+    corner(name + "-double", Frame(DOUBLE, curve, a, b"", 49), number, place)
+    corner(name + "-opposite", Frame(OPPOSITE, curve, a, b"", 49), number, place)
+    corner(name + "-multiply", Frame(MULTIPLY, curve, a, b"\3", 49), number, place, more=(0, 0))
+    corner(name + "-total", Frame(TOTAL_BATCH, curve, second + a, b"", 49), number, 2 * place, more=(0,))
+    corner(name + "-repeat", Frame(FIRST_REPEAT, curve, second + second + a), number, 3 * place, more=(0, 0))
+    corner(name + "-scan", Frame(SCAN, curve, a, b"", 0, total), number, place, more=total)
+
+
+def taken_curve(name, curve):
+    corner(name + "-check-curve", Frame(CHECK_CURVE, curve), 0)
+    corner(name + "-rewrite-curve", Frame(REWRITE_CURVE, curve, b"", b"", len(curve) + 2), 0, 0, curve)
+    corner(name + "-neutral", Frame(DOUBLE, curve, NEUTRAL, b"", 1), 0, 0, NEUTRAL)
+
+
+def taken_divisor(name, a):
+    corner(name + "-check", Frame(CHECK_DIVISOR, CURVE_A, a), 0)
+    corner(name + "-rewrite", Frame(REWRITE_DIVISOR, CURVE_A, a, b"", len(a) + 2), 0, 0, a)
+
+
+def put_sums():
+    summed("A1", CURVE_A, X_1, X6_3, XX6X)
+    doubled("A2", CURVE_A, X_1, XX_1)
+    times("A3", CURVE_A, X_1, 3, XX_6, (1, 1))
+    times("A4", CURVE_A, X_1, 4, X_6, (2, 0))
+    times("A5", CURVE_A, X_1, 5, NEUTRAL, (2, 1))
+    summed("A6", CURVE_A, X_1, X_6, NEUTRAL)
+    doubled("A7", CURVE_A, X1_0, NEUTRAL)
+    summed("A8", CURVE_A, XX6X, X_6, X6_3)
+    summed("A9", CURVE_A, XX6X, X_1, XX4X4)
+    doubled("B1", CURVE_B, B_XXX_1, B_X_10)
+    times("B2", CURVE_B, X_1, 4, B_XXX_10, (2, 0))
+    times("B3", CURVE_B, X_1, 7, NEUTRAL, (2, 2))
+
+
+def put_curves():
+    for p in (1, 2, 9, 2147483648):
+        every_call("p=%d" % p, curve_record(2, p, [1, 0, 0, 0, 0]), X_1, 5)
+    for p in (3, 2147483647):
+        curve = curve_record(2, p, [1, 0, 0, 0, 0])
+        taken_curve("p=%d" % p, curve)
+        corner("p=%d-cancel" % p, Frame(ADD, curve, X_1, divisor_record([0], [p - 1]), 9), 0, 0, NEUTRAL)
+        corner("p=%d-double" % p, Frame(DOUBLE, curve, X_1, b"", 33), 0, 0, XX_1)
+    every_call("x^5+1,p=5", curve_record(2, 5, [1, 0, 0, 0, 0]), X_1, 7)
+    every_call("x^7+1,p=7", curve_record(3, 7, [1, 0, 0, 0, 0, 0, 0]), X_1, 7)
+    taken_curve("x^7+6x+1,p=7", curve_record(3, 7, [1, 6, 0, 0, 0, 0, 0]))
+    taken_curve("A", CURVE_A)
+    taken_curve("B", CURVE_B)
+
+
+def put_bounds():
+    every_call("(x,2)", CURVE_A, X_2, 11, 1)
+    taken_divisor("coefficient-6-in-v", X_6)
+    taken_divisor("coefficient-6-in-u", X6_3)
+    every_call("coefficient-7-in-v", CURVE_A, divisor_record([0], [7]), 10, 1)
+    every_call("coefficient-7-in-u", CURVE_A, divisor_record([7], [1]), 10, 1)
+    # (x, 1) has order 5, A5: 2^256 - 1 = 0 and 2^255 = 3 modulo 5
+    for name, scalar, result, counts in (
+        ("zeros", bytes(32), NEUTRAL, (0, 0)),
+        ("five", (5).to_bytes(32, "big"), NEUTRAL, (2, 1)),
+        ("ones", b"\xff" * 32, NEUTRAL, (255, 255)),
+        ("top", b"\x80" + bytes(31), XX_6, (255, 0)),
+    ):
+        corner("scalar-32-" + name, Frame(MULTIPLY, CURVE_A, X_1, scalar, 40), 0, 0, result, counts)
+    for name, scalar in (("zeros", bytes(33)), ("five", (5).to_bytes(33, "big")), ("ones", b"\xff" * 33)):
+        corner("scalar-33-" + name, Frame(MULTIPLY, CURVE_A, X_1, scalar, 40), 12, more=(0, 0))
+    corner("scalar-empty", Frame(MULTIPLY, CURVE_A, X_1, b"", 40), 0, 0, NEUTRAL, (0, 0))
+    for name, frame, result, more in (
+        ("add", Frame(ADD, CURVE_A, X_1, X6_3), XX6X, ()),
+        ("double", Frame(DOUBLE, CURVE_A, X_1), XX_1, ()),
+        ("opposite", Frame(OPPOSITE, CURVE_A, XX_1), XX_6, ()),
+        ("multiply", Frame(MULTIPLY, CURVE_A, X_1, b"\3"), XX_6, (1, 1)),
+        ("total", Frame(TOTAL_BATCH, CURVE_A, X_1 + X6_3 + X_1), XX4X4, (3,)),
+        ("rewrite", Frame(REWRITE_DIVISOR, CURVE_A, XX6X), XX6X, ()),
+    ):
+        corner("output-32-" + name, frame._replace(output=32), 13, more=(0,) * len(more))
+        corner("output-33-" + name, frame._replace(output=33), 0, 0, result, more)
+    corner("output-0", Frame(ADD, CURVE_A, X_1, X_6, 0), 13)
+    corner("output-1", Frame(ADD, CURVE_A, X_1, X_6, 1), 0, 0, NEUTRAL)
+
+
+def put_case_p():
+    batch = X_1 + X6_3 + X_1
+    corner("P-total", Frame(TOTAL_BATCH, CURVE_A, batch, b"", 34), 0, 0, XX4X4, (3,))
+    corner("P-repeat", Frame(FIRST_REPEAT, CURVE_A, batch), 0, more=(1, 3))
+    total = r.fresh_total()
+    for k, (record, after) in enumerate(
+        (
+            (X_1, (1, 0, 0, 0, 1, 0, 0, 1)),
+            (X6_3, (2, 0, 6, 0, 1, 2, 0, 2)),
+            (X_1, (2, 4, 4, 0, 0, 1, 0, 3)),
+        ),
+        start=1,
+    ):
+        corner("P-scan-%d" % k, Frame(SCAN, CURVE_A, record, b"", 0, total), 0, more=after)
+        total = after
+    corner("empty-batch-total", Frame(TOTAL_BATCH, CURVE_A, b"", b"", 4), 0, 0, NEUTRAL, (0,))
+    corner("empty-batch-repeat", Frame(FIRST_REPEAT, CURVE_A, b""), 0, more=(0, 0))
+
+
+def put_slips():
+    """ "Slips a fitter would make", those that the corners above don't show: two reductions in genus 3, f_6 ≠ 0 with
+    p = 7. The sums' results come from ideals.py."""
+    for name, g, p, stored in (
+        ("slip-two-reductions", 3, 11, (1, 0, 0, 0, 0, 0, 0)),
+        ("slip-f6-and-p=7", 3, 7, (1, 1, 0, 0, 0, 0, 3)),
+    ):
+        curve_bytes = curve_record(g, p, stored)
+        curve = r.read_curve(curve_bytes)
+        assert stored[6] or p == 11
+        taken_curve(name, curve_bytes)
+        points = [
+            r.Divisor((-x % p, 1), (y,)) for x in range(p) for y in range(1, p)
+            if (y * y - sum(c * x**i for i, c in enumerate(curve.f))) % p == 0 and y <= p // 2
+        ]  # fmt: skip
+        a, found = r.total_of(curve, points[:3]), 0
+        assert r.weight(a) == 3
+        for n in range(2, 40):
+            b = r.multiple_of(curve, r.sum_of(curve, points[0], points[-1]), n)[0]
+            if r.sum_and_steps(curve, a, b)[1] == 2 and found < 3:
+                found += 1
+                result = r.write_divisor(r.Divisor(*ideals.sum_by_ideals(g, p, curve.f, a, b)))
+                summed("%s-%d" % (name, found), curve_bytes, r.write_divisor(a), r.write_divisor(b), result)
+        assert found == 3
+
+
+def main():
+    parser = argparse.ArgumentParser(description="makes or checks the street corners", epilog="see the head of the file")
+    parser.add_argument("--check", action="store_true")
+    root = os.path.join(os.path.dirname(os.path.abspath(__file__)), "..", "crates", "corners")
+    parser.add_argument("--input", default=os.path.normpath(os.path.join(root, "data", "corners")))
+    parser.add_argument("--expected", default=os.path.normpath(os.path.join(root, "stdout")))
+    options = parser.parse_args()
+    for put in (put_sums, put_curves, put_bounds, put_case_p, put_slips):
+        put()
+    data = b"".join(map(encoded, frames))
+    text = "".join(map(text_of, decoded(data))).encode("ascii")
+    wrong = 0
+    for path, content in ((options.input, data), (options.expected, text)):
+        if options.check:
+            with open(path, "rb") as file:
+                if file.read() != content:
+                    print("%s isn't what it should be" % path)
+                    wrong = 1
+        else:
+            os.makedirs(os.path.dirname(os.path.abspath(path)), exist_ok=True)
+            with open(path, "wb") as file:
+                file.write(content)
+    print("%d corners, %d bytes of input, %d bytes of expected text" % (len(labels), len(data), len(text)))
+    return wrong
+
+
+if __name__ == "__main__":
+    sys.exit(main())

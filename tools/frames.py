@@ -1,0 +1,136 @@
+"""frames.py: the file format that the programs `vectors` and `corners` read, and the lines they print.
+
+A file is a sequence of frames. A frame is
+
+    1 byte    the operation, from the list below
+    5 × 4     big-endian lengths: curve, first, second, output, running total
+    bytes     of the curve, the first, the second and the running total, in this order
+
+The output is only a length: the program lends a buffer of that many bytes, each 0xA5. The running total is
+0 bytes or 64: eight big-endian 64-bit numbers weight, u0, u1, u2, v0, v1, v2, count; only a scan has one.
+
+Each frame is answered by one line: the answer's fields in decimal with one space between; a scan's total after
+number, place and length; for a call with an output one space and the whole buffer in lower-case hexadecimal, `-` for an
+empty buffer. Operation 0 is a label: its bytes stand in the place of the curve and are printed with one space
+after them and no line feed, so that the next frame's answer ends the line.
+"""
+from collections import namedtuple
+
+import reference
+
+LABEL, CHECK_CURVE, CHECK_DIVISOR, REWRITE_CURVE, REWRITE_DIVISOR, ADD = 0, 1, 2, 3, 4, 5
+DOUBLE, OPPOSITE, MULTIPLY, TOTAL_BATCH, FIRST_REPEAT, SCAN = 6, 7, 8, 9, 10, 11
+
+NAMES = [
+    "label", "check_curve", "check_divisor", "rewrite_curve", "rewrite_divisor", "add",
+    "double", "opposite", "multiply", "total_batch", "first_repeat", "scan",
+]  # fmt: skip
+WITH_OUTPUT = {REWRITE_CURVE, REWRITE_DIVISOR, ADD, DOUBLE, OPPOSITE, MULTIPLY, TOTAL_BATCH}
+WITH_FIRST = {CHECK_DIVISOR, REWRITE_DIVISOR, ADD, DOUBLE, OPPOSITE, MULTIPLY, TOTAL_BATCH, FIRST_REPEAT, SCAN}
+WITH_SECOND = {ADD, MULTIPLY}
+
+GUARD = 0xA5
+MOST_PAYLOAD = 69000
+MOST_OUTPUT = 128
+
+# output: a length; total: None or a tuple of eight numbers
+Frame = namedtuple("Frame", "operation curve first second output total", defaults=(b"", b"", 0, None))
+
+
+def label(text):
+    return Frame(LABEL, text.encode("ascii"))
+
+
+def running_total_bytes(total):
+    return b"" if total is None else b"".join(number.to_bytes(8, "big") for number in total)
+
+
+def encoded(frame):
+    """The frame's bytes; what an operation doesn't take must be empty."""
+    assert frame.first == b"" or frame.operation in WITH_FIRST
+    assert frame.second == b"" or frame.operation in WITH_SECOND
+    assert frame.output == 0 or frame.operation in WITH_OUTPUT
+    assert (frame.total is not None) == (frame.operation == SCAN)
+    total = running_total_bytes(frame.total)
+    payload = frame.curve + frame.first + frame.second + total
+    assert len(payload) <= MOST_PAYLOAD and frame.output <= MOST_OUTPUT
+    lengths = (len(frame.curve), len(frame.first), len(frame.second), frame.output, len(total))
+    return bytes([frame.operation]) + b"".join(n.to_bytes(4, "big") for n in lengths) + payload
+
+
+def decoded(data):
+    """All frames of a file; anything left over or cut is an error."""
+    frames, at = [], 0
+    while at < len(data):
+        head = data[at : at + 21]
+        if len(head) != 21:
+            raise ValueError("a cut frame")
+        lengths = [int.from_bytes(head[1 + 4 * i : 5 + 4 * i], "big") for i in range(5)]
+        at += 21
+        parts = []
+        for k in (0, 1, 2, 4):
+            part = data[at : at + lengths[k]]
+            if len(part) != lengths[k]:
+                raise ValueError("a cut frame")
+            parts.append(part)
+            at += lengths[k]
+        if len(parts[3]) not in (0, 64):
+            raise ValueError("a running total of %d bytes" % len(parts[3]))
+        total = tuple(reference.number_at(parts[3], 8 * i) for i in range(8)) if parts[3] else None
+        frames.append(Frame(head[0], parts[0], parts[1], parts[2], lengths[3], total))
+    return frames
+
+
+def answer(frame):
+    """The fields and the output as it returns, or None."""
+    operation, curve, first, second, length, total = frame
+    out = bytes([GUARD]) * length
+    if operation == CHECK_CURVE:
+        return reference.check_curve(curve)
+    if operation == CHECK_DIVISOR:
+        return reference.check_divisor(curve, first)
+    if operation == REWRITE_CURVE:
+        return reference.rewrite_curve(curve, out)
+    if operation == REWRITE_DIVISOR:
+        return reference.rewrite_divisor(curve, first, out)
+    if operation == ADD:
+        return reference.add(curve, first, second, out)
+    if operation == DOUBLE:
+        return reference.double(curve, first, out)
+    if operation == OPPOSITE:
+        return reference.opposite(curve, first, out)
+    if operation == MULTIPLY:
+        return reference.multiply(curve, first, second, out)
+    if operation == TOTAL_BATCH:
+        return reference.total_batch(curve, first, out)
+    if operation == FIRST_REPEAT:
+        return reference.first_repeat(curve, first)
+    if operation == SCAN:
+        return reference.scan(total, curve, first)
+    raise ValueError("operation %d" % operation)
+
+
+def text_of(frame, answered=None):
+    """What the program prints for the frame."""
+    if frame.operation == LABEL:
+        return frame.curve.decode("ascii") + " "
+    fields, out = answered or answer(frame)
+    line = " ".join(str(field) for field in fields)
+    if frame.operation in WITH_OUTPUT:
+        line += " " + (out.hex() or "-")
+    return line + "\n"
+
+
+# Records from their parts, also wrong ones: nothing is checked here.
+
+
+def curve_record(g, p, f, mark=b"HJC", version=1):
+    """f: f_0 up to f_2g, without the leading 1."""
+    head = mark + version.to_bytes(2, "big") + bytes([g]) + p.to_bytes(8, "big")
+    return head + b"".join(c.to_bytes(8, "big") for c in f)
+
+
+def divisor_record(u, v, w=None):
+    """u: u_0 up to u_(w-1), without the leading 1; v: v_0 up to v_(w-1)."""
+    numbers = tuple(u) + tuple(v)
+    return bytes([len(u) if w is None else w]) + b"".join(c.to_bytes(8, "big") for c in numbers)

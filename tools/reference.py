@@ -1,0 +1,544 @@
+#!/usr/bin/env python3
+"""reference.py: document 01 in plain Python, a separate implementation to compare the product with.
+
+    python3 tools/reference.py              checks itself against every example of document 01; exit 1 on a failure
+    python3 tools/reference.py tally DIR    prints what the program prints for DIR's files `curve` and `batch`
+
+It was written from document 01 and shares no code with the product. Where the document leaves a choice (the flat
+running total, the place in a double, an opposite or a multiple, the order of 16 and 17) it follows the project's settled
+readings, as the product does: on those the two agreeing says nothing about the reading. Headings in quotes are the document's own. Each public call is one
+function from the bytes lent to it to a pair: the answer's fields in the order of the call's answer, and the
+output as it returns (None where the call has no output). The output is lent as bytes, handed back as bytes.
+"""
+import sys
+from collections import namedtuple
+from functools import lru_cache
+
+MARK = b"HJC"
+VERSION = 1
+GREATEST_PRIME = 2147483647
+MOST_RECORDS = 4096
+MOST_SCALAR_BYTES = 32
+MOST_FILE_BYTES = 65536
+
+# ---------------------------------------------------------------------------------------------------------
+# Polynomials over the whole numbers modulo p: tuples from the constant term up, without zeros at the end.
+# The zero polynomial is () and has degree -1 here.
+# ---------------------------------------------------------------------------------------------------------
+
+ZERO = ()
+ONE = (1,)
+
+
+def polynomial(coefficients, p):
+    reduced = [c % p for c in coefficients]
+    while reduced and reduced[-1] == 0:
+        reduced.pop()
+    return tuple(reduced)
+
+
+def degree(a):
+    return len(a) - 1
+
+
+def plus(a, b, p):
+    longer = max(len(a), len(b))
+    return polynomial([(a[i] if i < len(a) else 0) + (b[i] if i < len(b) else 0) for i in range(longer)], p)
+
+
+def minus(a, b, p):
+    return plus(a, [-c for c in b], p)
+
+
+def times(a, b, p):
+    if not a or not b:
+        return ZERO
+    product = [0] * (len(a) + len(b) - 1)
+    for i, c in enumerate(a):
+        for j, e in enumerate(b):
+            product[i + j] += c * e
+    return polynomial(product, p)
+
+
+def divide(a, b, p):
+    """Quotient and remainder; b isn't zero."""
+    inverse = pow(b[-1], -1, p)
+    rest = list(a)
+    quotient = [0] * max(0, len(a) - len(b) + 1)
+    for shift in range(len(a) - len(b), -1, -1):
+        factor = rest[shift + len(b) - 1] * inverse % p
+        quotient[shift] = factor
+        for i, c in enumerate(b):
+            rest[shift + i] = (rest[shift + i] - factor * c) % p
+    return polynomial(quotient, p), polynomial(rest, p)
+
+
+def quotient_of(a, b, p):
+    """a / b where b divides a."""
+    quotient, rest = divide(a, b, p)
+    if rest != ZERO:
+        raise ArithmeticError("a division that the document takes for exact isn't")
+    return quotient
+
+
+def modulo(a, b, p):
+    return divide(a, b, p)[1]
+
+
+def monic(a, p):
+    return polynomial([c * pow(a[-1], -1, p) for c in a], p)
+
+
+def greatest_common_divisor(a, b, p):
+    """d, s, t with d = s·a + t·b monic. Not both a and b are zero."""
+    d, s, t = a, ONE, ZERO
+    e, s_next, t_next = b, ZERO, ONE
+    while e != ZERO:
+        q, rest = divide(d, e, p)
+        d, e = e, rest
+        s, s_next = s_next, minus(s, times(q, s_next, p), p)
+        t, t_next = t_next, minus(t, times(q, t_next, p), p)
+    scale = (pow(d[-1], -1, p),)
+    return times(d, scale, p), times(s, scale, p), times(t, scale, p)
+
+
+def derivative(a, p):
+    return polynomial([i * c for i, c in enumerate(a)][1:], p)
+
+
+# ---------------------------------------------------------------------------------------------------------
+# Curves and divisors as values
+# ---------------------------------------------------------------------------------------------------------
+
+Curve = namedtuple("Curve", "g p f")  # f with its leading 1, which the record doesn't store
+Divisor = namedtuple("Divisor", "u v")  # u with its leading 1; v without zeros at the end
+
+NEUTRAL = Divisor(ONE, ZERO)  # "Weight 0 is the neutral divisor, u = 1, v = 0"
+
+
+def weight(divisor):
+    return degree(divisor.u)
+
+
+@lru_cache(maxsize=None)
+def is_odd_prime_in_range(p):
+    """ "an odd prime p, 3 ≤ p ≤ 2,147,483,647", by trial division."""
+    if p < 3 or p > GREATEST_PRIME or p % 2 == 0:
+        return False
+    trial = 3
+    while trial * trial <= p:
+        if p % trial == 0:
+            return False
+        trial += 2
+    return True
+
+
+@lru_cache(maxsize=None)
+def has_repeated_factor(f, p):
+    """ "f and its derivative share a factor of degree 1 or more"; a derivative of 0 shares f itself."""
+    return degree(greatest_common_divisor(f, derivative(f, p), p)[0]) >= 1
+
+
+def divides_f_less_v_squared(curve, u, v):
+    """ "u divides f - v²"."""
+    return modulo(minus(curve.f, times(v, v, curve.p), curve.p), u, curve.p) == ZERO
+
+
+# ---------------------------------------------------------------------------------------------------------
+# "The sum"
+# ---------------------------------------------------------------------------------------------------------
+
+
+def compose(curve, first, second):
+    """ "Composition of (u1, v1) and (u2, v2)"."""
+    p = curve.p
+    (u1, v1), (u2, v2) = first, second
+    # "d is the monic greatest common divisor of u1, u2 and v1 + v2, with d = s1·u1 + s2·u2 + s3·(v1 + v2)"
+    v_sum = plus(v1, v2, p)
+    common, e1, e2 = greatest_common_divisor(u1, u2, p)
+    d, c, s3 = greatest_common_divisor(common, v_sum, p)
+    return composed_with(curve, first, second, d, times(c, e1, p), times(c, e2, p), s3)
+
+
+def composed_with(curve, first, second, d, s1, s2, s3):
+    p = curve.p
+    (u1, v1), (u2, v2) = first, second
+    # "Then u = u1·u2/d²"
+    u = quotient_of(times(u1, u2, p), times(d, d, p), p)
+    # "and v is (s1·u1·v2 + s2·u2·v1 + s3·(v1·v2 + f))/d modulo u"
+    numerator = times(s1, times(u1, v2, p), p)
+    numerator = plus(numerator, times(s2, times(u2, v1, p), p), p)
+    numerator = plus(numerator, times(s3, plus(times(v1, v2, p), curve.f, p), p), p)
+    return Divisor(u, modulo(quotient_of(numerator, d, p), u, p))
+
+
+def reduce(curve, composed):
+    """ "Reduction: while deg u > g, replace u by (f - v²)/u made monic, then v by -v modulo the new u".
+    Answers the divisor and the number of steps."""
+    p = curve.p
+    u, v = composed
+    steps = 0
+    while degree(u) > curve.g:
+        u = monic(quotient_of(minus(curve.f, times(v, v, p), p), u, p), p)
+        v = modulo(minus(ZERO, v, p), u, p)
+        steps += 1
+    return Divisor(u, v), steps
+
+
+def sum_and_steps(curve, first, second):
+    return reduce(curve, compose(curve, first, second))
+
+
+def sum_of(curve, first, second):
+    return sum_and_steps(curve, first, second)[0]
+
+
+def double_of(curve, divisor):
+    """ "Double: the sum of a divisor with itself"."""
+    return sum_of(curve, divisor, divisor)
+
+
+def opposite_of(curve, divisor):
+    """ "Opposite: (u, -v modulo p)"."""
+    return Divisor(divisor.u, minus(ZERO, divisor.v, curve.p))
+
+
+def multiple_of(curve, divisor, n):
+    """ "n-fold multiple: n copies summed, neutral for n = 0", by left-to-right double-and-add.
+    Answers the multiple and the two counts, as they were made."""
+    if n == 0:
+        return NEUTRAL, 0, 0
+    result, doublings, additions = divisor, 0, 0
+    for bit in bin(n)[3:]:  # the binary digits after the leading 1
+        result, doublings = double_of(curve, result), doublings + 1
+        if bit == "1":
+            result, additions = sum_of(curve, result, divisor), additions + 1
+    return result, doublings, additions
+
+
+def total_of(curve, divisors):
+    """ "Batch total: neutral, then each record added from first to last"."""
+    total = NEUTRAL
+    for divisor in divisors:
+        total = sum_of(curve, total, divisor)
+    return total
+
+
+def first_repeat_of(divisors):
+    """ "The first equal pair: least j, then least i < j, or none": (i, j) from 1, or (0, 0)."""
+    first_place = {}
+    for j, divisor in enumerate(divisors, start=1):
+        if divisor in first_place:
+            return first_place[divisor], j
+        first_place[divisor] = j
+    return 0, 0
+
+
+# ---------------------------------------------------------------------------------------------------------
+# "The records", with the refusals in the order of "Numbers the tablet shows"
+# ---------------------------------------------------------------------------------------------------------
+
+
+class Refused(Exception):
+    def __init__(self, number, place=0):
+        super().__init__(number, place)
+        self.number, self.place = number, place
+
+
+def number_at(data, start):
+    """ "All numbers in records are big-endian", here in 8 bytes."""
+    return int.from_bytes(data[start : start + 8], "big")
+
+
+def read_curve(record):
+    """Order: "curve 1 (short), 2, 3, 4, 1 (exact), 5, 6, 7"."""
+    if len(record) < 6:
+        raise Refused(1)
+    if record[0:3] != MARK:
+        raise Refused(2)
+    if int.from_bytes(record[3:5], "big") != VERSION:
+        raise Refused(3)
+    g = record[5]
+    if g not in (2, 3):
+        raise Refused(4)
+    if len(record) != {2: 54, 3: 70}[g]:
+        raise Refused(1)
+    p = number_at(record, 6)
+    if not is_odd_prime_in_range(p):
+        raise Refused(5)
+    stored = [number_at(record, 14 + 8 * i) for i in range(2 * g + 1)]
+    if any(c >= p for c in stored):
+        raise Refused(6)
+    f = tuple(stored) + (1,)
+    if has_repeated_factor(f, p):
+        raise Refused(7)
+    return Curve(g, p, f)
+
+
+def write_curve(curve):
+    head = MARK + VERSION.to_bytes(2, "big") + bytes([curve.g]) + curve.p.to_bytes(8, "big")
+    return head + b"".join(c.to_bytes(8, "big") for c in curve.f[:-1])
+
+
+def read_front_divisor(curve, data, place, fits):
+    """The divisor at the front of the data; fits(length of record, length of data) is the rule for 8.
+    Order: "each 8 (empty), 9, 8 (length), 10, 11". Answers the divisor and the bytes taken."""
+    if len(data) == 0:
+        raise Refused(8, place)
+    w = data[0]
+    if w > curve.g:
+        raise Refused(9, place)
+    length = 1 + 16 * w
+    if not fits(length, len(data)):
+        raise Refused(8, place)
+    u = [number_at(data, 1 + 8 * i) for i in range(w)]
+    v = [number_at(data, 1 + 8 * (w + i)) for i in range(w)]
+    if any(c >= curve.p for c in u + v):
+        raise Refused(10, place)
+    divisor = Divisor(tuple(u) + (1,), polynomial(v, curve.p))
+    if not divides_f_less_v_squared(curve, divisor.u, divisor.v):
+        raise Refused(11, place)
+    return divisor, length
+
+
+def read_divisor(curve, record, place):
+    """A record by itself has exactly 1 + 16w bytes."""
+    return read_front_divisor(curve, record, place, lambda length, given: given == length)[0]
+
+
+def read_batch(curve, batch):
+    """Records one after another; a byte after a record starts the next. In a batch 8 is "fewer bytes remain", and
+    "14 comes only after 4,096 good records and before the next is looked at"."""
+    divisors, start = [], 0
+    while start < len(batch):
+        if len(divisors) == MOST_RECORDS:
+            raise Refused(14)
+        front = batch[start : start + 49]  # no record has more bytes
+        divisor, taken = read_front_divisor(curve, front, len(divisors) + 1, lambda length, given: given >= length)
+        divisors.append(divisor)
+        start += taken
+    return divisors
+
+
+def write_divisor(divisor):
+    """ "One byte of weight w, then u_0 to u_(w-1), then v_0 to v_(w-1), 8 bytes each"."""
+    w = weight(divisor)
+    numbers = divisor.u[:w] + divisor.v + (0,) * (w - len(divisor.v))
+    return bytes([w]) + b"".join(c.to_bytes(8, "big") for c in numbers)
+
+
+def read_scalar(scalar):
+    """ "0 to 32 bytes, unsigned. Empty means 0; leading zeros are allowed"."""
+    if len(scalar) > MOST_SCALAR_BYTES:
+        raise Refused(12)
+    return int.from_bytes(scalar, "big")
+
+
+# ---------------------------------------------------------------------------------------------------------
+# The public calls
+# ---------------------------------------------------------------------------------------------------------
+
+
+def answered(work, out=None, extra=0):
+    """Runs the work, which answers the result's bytes (None: the call writes nothing) and the extra fields.
+    "On 0 the result stands at the front of the output and the rest of the output is unchanged. On any other
+    number length and counts are 0 and output and running total are unchanged." 13 comes last of all."""
+    try:
+        result, more = work()
+        if result is not None and len(out) < len(result):
+            raise Refused(13)
+    except Refused as refusal:
+        return (refusal.number, refusal.place, 0) + (0,) * extra, out
+    if result is None:
+        return (0, 0, 0) + more, out
+    return (0, 0, len(result)) + more, result + out[len(result) :]
+
+
+def check_curve(curve):
+    """number, place, length"""
+
+    def work():
+        read_curve(curve)
+        return None, ()
+
+    return answered(work)
+
+
+def check_divisor(curve, divisor):
+    """number, place, length"""
+
+    def work():
+        read_divisor(read_curve(curve), divisor, 1)
+        return None, ()
+
+    return answered(work)
+
+
+def rewrite_curve(curve, out):
+    """number, place, length"""
+    return answered(lambda: (write_curve(read_curve(curve)), ()), out)
+
+
+def rewrite_divisor(curve, divisor, out):
+    """number, place, length"""
+    return answered(lambda: (write_divisor(read_divisor(read_curve(curve), divisor, 1)), ()), out)
+
+
+def add(curve, a, b, out):
+    """number, place, length. The first divisor is finished, to 11, before the second is looked at."""
+
+    def work():
+        on = read_curve(curve)
+        first = read_divisor(on, a, 1)
+        second = read_divisor(on, b, 2)
+        return write_divisor(sum_of(on, first, second)), ()
+
+    return answered(work, out)
+
+
+def double(curve, a, out):
+    """number, place, length"""
+
+    def work():
+        on = read_curve(curve)
+        return write_divisor(double_of(on, read_divisor(on, a, 1))), ()
+
+    return answered(work, out)
+
+
+def opposite(curve, a, out):
+    """number, place, length"""
+
+    def work():
+        on = read_curve(curve)
+        return write_divisor(opposite_of(on, read_divisor(on, a, 1))), ()
+
+    return answered(work, out)
+
+
+def multiply(curve, a, scalar, out):
+    """number, place, length, doublings, additions"""
+
+    def work():
+        on = read_curve(curve)
+        divisor = read_divisor(on, a, 1)
+        result, doublings, additions = multiple_of(on, divisor, read_scalar(scalar))
+        return write_divisor(result), (doublings, additions)
+
+    return answered(work, out, extra=2)
+
+
+def total_batch(curve, batch, out):
+    """number, place, length, count"""
+
+    def work():
+        on = read_curve(curve)
+        divisors = read_batch(on, batch)
+        return write_divisor(total_of(on, divisors)), (len(divisors),)
+
+    return answered(work, out, extra=1)
+
+
+def first_repeat(curve, batch):
+    """number, place, length, first, second: i and j, "both 0 for none and on a refusal"."""
+
+    def work():
+        on = read_curve(curve)
+        return None, first_repeat_of(read_batch(on, batch))
+
+    return answered(work, extra=2)
+
+
+# "The pole's list": the flat running total is the tuple weight, u0, u1, u2, v0, v1, v2, count.
+
+
+def fresh_total():
+    """ "A fresh one is neutral with 0"."""
+    return (0, 0, 0, 0, 0, 0, 0, 0)
+
+
+def read_running_total(curve, total):
+    """15: "a running total's own divisor has a number of p or more or isn't valid on the curve given, or its
+    count is over 4,096". A weight above g, or an unused coefficient that isn't 0, isn't a valid flat total."""
+    w, u, v, count = total[0], total[1:4], total[4:7], total[7]
+    if w > curve.g or any(u[w:]) or any(v[w:]):
+        raise Refused(15)
+    if any(c >= curve.p for c in u[:w] + v[:w]):
+        raise Refused(15)
+    divisor = Divisor(u[:w] + (1,), polynomial(v[:w], curve.p))
+    if not divides_f_less_v_squared(curve, divisor.u, divisor.v):
+        raise Refused(15)
+    if count > MOST_RECORDS:
+        raise Refused(15)
+    return divisor, count
+
+
+def flat_total(divisor, count):
+    w = weight(divisor)
+    u = divisor.u[:w] + (0,) * (3 - w)
+    v = divisor.v + (0,) * (3 - len(divisor.v))
+    return (w,) + u + v + (count,)
+
+
+def scan(total, curve, record):
+    """number, place, length, then the eight numbers of the running total as it returns.
+    Order: "A scan into a running total checks curve, 15, 14, record"."""
+    try:
+        on = read_curve(curve)
+        held, count = read_running_total(on, total)
+        if count == MOST_RECORDS:
+            raise Refused(14)
+        divisor = read_divisor(on, record, 1)
+    except Refused as refusal:
+        return (refusal.number, refusal.place, 0) + total, None
+    return (0, 0, 0) + flat_total(sum_of(on, held, divisor), count + 1), None
+
+
+# ---------------------------------------------------------------------------------------------------------
+# The program
+# ---------------------------------------------------------------------------------------------------------
+
+
+def spaced_record(record):
+    """ "The weight byte is two lower-case hexadecimal digits, and each 8-byte number follows as one space and
+    16 digits"."""
+    return " ".join([record[:1].hex()] + [record[i : i + 8].hex() for i in range(1, len(record), 8)])
+
+
+def program_text(curve_file, batch_file):
+    """What the program prints; a file that can't be opened or read is None. "16 and 17 are tested for `curve`
+    first, then `batch`, 17 before 16, all before the records"."""
+    try:
+        for content in (curve_file, batch_file):
+            if content is None:
+                raise Refused(17)
+            if len(content) > MOST_FILE_BYTES:
+                raise Refused(16)
+        curve = read_curve(curve_file)
+        divisors = read_batch(curve, batch_file)
+    except Refused as refusal:
+        return "refused %d %d\n" % (refusal.number, refusal.place)
+    i, j = first_repeat_of(divisors)
+    repeat = "repeat %d %d" % (i, j) if j else "repeat none"
+    total = spaced_record(write_divisor(total_of(curve, divisors)))
+    return "count %d\n%s\ntotal %s\n" % (len(divisors), repeat, total)
+
+
+def file_content(path):
+    try:
+        with open(path, "rb") as file:
+            return file.read(MOST_FILE_BYTES + 1)
+    except OSError:
+        return None
+
+
+if __name__ == "__main__":
+    if len(sys.argv) == 3 and sys.argv[1] == "tally":
+        folder = sys.argv[2].rstrip("/")
+        sys.stdout.write(program_text(file_content(folder + "/curve"), file_content(folder + "/batch")))
+    elif len(sys.argv) == 1:
+        import selfcheck
+
+        sys.exit(selfcheck.main())
+    else:
+        sys.exit(__doc__)

@@ -1,0 +1,501 @@
+"""selfcheck.py: reference.py held against every example of document 01, against the rules of refusal by hand,
+and against methods that share nothing with it: ideals.py for sums, point counts for the number of valid divisors.
+
+`python3 tools/reference.py` runs it. Whatever can't be had from document 01's examples is written out by hand
+here: no expected number below comes from reference.py itself.
+"""
+import itertools
+
+import ideals
+import reference as r
+from frames import curve_record, divisor_record
+
+held = 0
+failures = []
+
+
+def expect(name, got, wanted):
+    global held
+    if got == wanted:
+        held += 1
+    else:
+        failures.append("%s: got %r, wanted %r" % (name, got, wanted))
+
+
+GUARD = b"\xa5"
+
+
+def expect_written(name, call, record, more=()):
+    """The call (a function of the output) on outputs one byte short, exact and longer."""
+    short = GUARD * (len(record) - 1)
+    expect(name + ", short", call(short), ((13, 0, 0) + (0,) * len(more), short))
+    for extra in (0, 1, 40):
+        out = GUARD * (len(record) + extra)
+        expect(name, call(out), ((0, 0, len(record)) + more, record + GUARD * extra))
+
+
+# Document 01's curves and divisors, "Street corners"
+CURVE_A = curve_record(2, 7, [1, 0, 0, 0, 0])
+CURVE_B = curve_record(3, 11, [1, 0, 0, 0, 0, 0, 0])
+NEUTRAL = b"\x00"
+X_1 = divisor_record([0], [1])  # (x, 1)
+X_6 = divisor_record([0], [6])  # (x, 6)
+X6_3 = divisor_record([6], [3])  # (x + 6, 3)
+X1_0 = divisor_record([1], [0])  # (x + 1, 0)
+XX_1 = divisor_record([0, 0], [1, 0])  # (x², 1)
+XX_6 = divisor_record([0, 0], [6, 0])  # (x², 6)
+XX6X = divisor_record([0, 6], [1, 2])  # (x² + 6x, 2x + 1)
+XX4X4 = divisor_record([4, 4], [0, 1])  # (x² + 4x + 4, x)
+B_X_1 = divisor_record([0], [1])
+B_X_10 = divisor_record([0], [10])
+B_XXX_1 = divisor_record([0, 0, 0], [1, 0, 0])
+B_XXX_10 = divisor_record([0, 0, 0], [10, 0, 0])
+
+
+def check_examples():
+    """A1 to A9 and B1 to B3."""
+
+    def sums(name, curve, a, b, record):
+        expect_written(name, lambda out: r.add(curve, a, b, out), record)
+        expect_written(name + " turned round", lambda out: r.add(curve, b, a, out), record)
+
+    def doubles(name, curve, a, record):
+        expect_written(name, lambda out: r.double(curve, a, out), record)
+        sums(name + " as a sum", curve, a, a, record)
+        multiples(name + " as a multiple", curve, a, 2, record, (1, 0))
+
+    def multiples(name, curve, a, n, record, counts):
+        for scalar in (bytes([n]), bytes(31) + bytes([n])):
+            expect_written(name, lambda out: r.multiply(curve, a, scalar, out), record, counts)
+        expect_written(name + " as a batch", lambda out: r.total_batch(curve, a * n, out), record, (n,))
+
+    sums("A1", CURVE_A, X_1, X6_3, XX6X)
+    doubles("A2", CURVE_A, X_1, XX_1)
+    multiples("A3", CURVE_A, X_1, 3, XX_6, (1, 1))
+    multiples("A4", CURVE_A, X_1, 4, X_6, (2, 0))
+    multiples("A5", CURVE_A, X_1, 5, NEUTRAL, (2, 1))
+    sums("A6", CURVE_A, X_1, X_6, NEUTRAL)
+    doubles("A7", CURVE_A, X1_0, NEUTRAL)
+    sums("A8", CURVE_A, XX6X, X_6, X6_3)
+    sums("A9", CURVE_A, XX6X, X_1, XX4X4)
+    doubles("B1", CURVE_B, B_XXX_1, B_X_10)
+    multiples("B2", CURVE_B, B_X_1, 4, B_XXX_10, (2, 0))
+    multiples("B3", CURVE_B, B_X_1, 7, NEUTRAL, (2, 2))
+    multiples("0-fold", CURVE_A, X_1, 0, NEUTRAL, (0, 0))
+    multiples("1-fold", CURVE_A, X_1, 1, X_1, (0, 0))
+    expect_written("empty scalar", lambda out: r.multiply(CURVE_A, X_1, b"", out), NEUTRAL, (0, 0))
+    expect_written("opposite", lambda out: r.opposite(CURVE_A, XX6X, out), divisor_record([0, 6], [6, 5]))
+    expect_written("opposite of y = 0", lambda out: r.opposite(CURVE_A, X1_0, out), X1_0)
+    expect_written("opposite of neutral", lambda out: r.opposite(CURVE_A, NEUTRAL, out), NEUTRAL)
+
+
+def check_corners():
+    """The refusals of "Street corners", each through every call that can give it."""
+    for p in (1, 2, 9, 2147483648, 0, 2147483646, 2**63, 2**64 - 1):
+        expect("p = %d" % p, r.check_curve(curve_record(2, p, [0] * 5)), ((5, 0, 0), None))
+        expect("p = %d, x^5 + 1" % p, r.check_curve(curve_record(2, p, [1, 0, 0, 0, 0])), ((5, 0, 0), None))
+    for p in (3, 2147483647):
+        record = curve_record(2, p, [1, 0, 0, 0, 0])
+        expect("p = %d" % p, r.check_curve(record), ((0, 0, 0), None))
+        expect_written("p = %d" % p, lambda out: r.rewrite_curve(record, out), record)
+    expect("x^5 + 1, p = 5", r.check_curve(curve_record(2, 5, [1, 0, 0, 0, 0])), ((7, 0, 0), None))
+    expect("x^7 + 1, p = 7", r.check_curve(curve_record(3, 7, [1] + [0] * 6)), ((7, 0, 0), None))
+    taken = curve_record(3, 7, [1, 6, 0, 0, 0, 0, 0])
+    expect("x^7 + 6x + 1, p = 7", r.check_curve(taken), ((0, 0, 0), None))
+    expect_written("x^7 + 6x + 1, p = 7", lambda out: r.rewrite_curve(taken, out), taken)
+    expect("f_i = p", r.check_curve(curve_record(2, 7, [1, 0, 0, 0, 7])), ((6, 0, 0), None))
+    # f = x^5 + 6x^4 + 1 has the derivative x³·(5x + 3) with roots 0 and 5, and f(0) = 1, f(5) = 2.
+    expect("f_i = p - 1", r.check_curve(curve_record(2, 7, [1, 0, 0, 0, 6])), ((0, 0, 0), None))
+
+    for number, record in (
+        (11, divisor_record([0], [2])),
+        (0, X_6),
+        (0, X6_3),
+        (10, divisor_record([0], [7])),
+        (10, divisor_record([7], [1])),
+        (10, divisor_record([0], [8])),
+        (10, divisor_record([0], [2**64 - 1])),
+        (8, b""),
+        (8, X_1[:-1]),
+        (8, X_1 + b"\0"),
+        (8, b"\0\0"),
+        (8, b"\2" + X_1[1:]),
+        (9, b"\3"),
+        (9, b"\xff"),
+        (9, b"\3" + bytes(48)),
+        (0, NEUTRAL),
+    ):
+        place = 1 if number else 0
+        out = GUARD * 60
+        expect("check %r" % record, r.check_divisor(CURVE_A, record), ((number, place, 0), None))
+        if number:
+            expect("rewrite", r.rewrite_divisor(CURVE_A, record, out), ((number, 1, 0), out))
+            expect("double", r.double(CURVE_A, record, out), ((number, 1, 0), out))
+            expect("opposite", r.opposite(CURVE_A, record, out), ((number, 1, 0), out))
+            expect("multiply", r.multiply(CURVE_A, record, b"\1", out), ((number, 1, 0, 0, 0), out))
+            expect("add, first", r.add(CURVE_A, record, X_1, out), ((number, 1, 0), out))
+            expect("add, second", r.add(CURVE_A, X_1, record, out), ((number, 2, 0), out))
+            total = (1, 0, 0, 0, 1, 0, 0, 9)
+            expect("scan", r.scan(total, CURVE_A, record), ((number, 1, 0) + total, None))
+        else:
+            expect_written("rewrite", lambda out: r.rewrite_divisor(CURVE_A, record, out), record)
+
+    five_fold = (5).to_bytes(32, "big")
+    expect_written("32 bytes", lambda out: r.multiply(CURVE_A, X_1, five_fold, out), NEUTRAL, (2, 1))
+    # 32 bytes FF are 2^256 - 1; 2^4 = 1 modulo 5, so (x, 1) is multiplied by 0 modulo 5.
+    expect_written("32 bytes FF", lambda out: r.multiply(CURVE_A, X_1, b"\xff" * 32, out), NEUTRAL, (255, 255))
+    out = GUARD * 33
+    expect("33 bytes", r.multiply(CURVE_A, X_1, b"\0" + five_fold, out), ((12, 0, 0, 0, 0), out))
+    expect("33 zero bytes", r.multiply(CURVE_A, X_1, bytes(33), out), ((12, 0, 0, 0, 0), out))
+    expect("12 before 13", r.multiply(CURVE_A, X_1, bytes(33), b""), ((12, 0, 0, 0, 0), b""))
+    out = GUARD * 32
+    expect("output of 32", r.double(CURVE_A, X_1, out), ((13, 0, 0), out))
+    expect("output of 33", r.double(CURVE_A, X_1, out + GUARD), ((0, 0, 33), XX_1))
+    expect("output of 0", r.add(CURVE_A, X_1, X_6, b""), ((13, 0, 0), b""))
+
+
+def check_order():
+    """The order of refusals: one record that has every fault at once, mended from first to last. What the
+    document puts first must be answered until it's mended."""
+    bad_f = [7, 0, 0, 0, 0]  # one number of p or more, and 0 in its place makes x^5: a repeated factor
+    ladder = [
+        (1, b"XYZ\0\7"),  # short, a wrong mark, a wrong version
+        (1, b"HJC\0\1\2"),  # six bytes with nothing wrong so far
+        (2, b"XYZ\0\7\7"),
+        (3, b"HJC\0\7\7"),
+        (4, b"HJC\0\1\7"),
+        (2, curve_record(9, 9, bad_f, mark=b"XYZ", version=7)[:-1]),
+        (3, curve_record(9, 9, bad_f, version=7)[:-1]),
+        (4, curve_record(9, 9, bad_f)[:-1]),
+        (1, curve_record(2, 9, [9, 0, 0, 0, 0])[:-1]),
+        (1, curve_record(3, 9, [9, 0, 0, 0, 0])),
+        (5, curve_record(2, 9, [9, 0, 0, 0, 0])),
+        (6, curve_record(2, 7, bad_f)),
+        (7, curve_record(2, 7, [0, 0, 0, 0, 0])),
+    ]
+    wrong_divisors = [
+        (8, b""),
+        (9, b"\3" + (7).to_bytes(8, "big") * 3),
+        (8, b"\1" + (7).to_bytes(8, "big") * 3),
+        (10, divisor_record([7], [2])),
+        (11, divisor_record([0], [2])),
+    ]
+    later = wrong_divisors + [(0, X_1)]
+    bad_total, full_total = (9,) * 7 + (5000,), (0,) * 7 + (4096,)
+    for number, curve in ladder:
+        expect("curve %d" % number, r.check_curve(curve), ((number, 0, 0), None))
+        expect("curve %d, rewrite" % number, r.rewrite_curve(curve, b""), ((number, 0, 0), b""))
+        expect("curve %d, scan" % number, r.scan(bad_total, curve, b""), ((number, 0, 0) + bad_total, None))
+        for _, wrong in later:
+            expect("curve first", r.check_divisor(curve, wrong), ((number, 0, 0), None))
+            expect("curve first", r.rewrite_divisor(curve, wrong, b""), ((number, 0, 0), b""))
+            expect("curve first", r.add(curve, wrong, wrong, b""), ((number, 0, 0), b""))
+            expect("curve first", r.double(curve, wrong, b""), ((number, 0, 0), b""))
+            expect("curve first", r.opposite(curve, wrong, b""), ((number, 0, 0), b""))
+            expect("curve first", r.multiply(curve, wrong, bytes(33), b""), ((number, 0, 0, 0, 0), b""))
+            expect("curve first", r.total_batch(curve, wrong, b""), ((number, 0, 0, 0), b""))
+            expect("curve first", r.first_repeat(curve, wrong), ((number, 0, 0, 0, 0), None))
+    for number, wrong in wrong_divisors:
+        for _, second in later:
+            expect("first divisor first", r.add(CURVE_A, wrong, second, b""), ((number, 1, 0), b""))
+        expect("second divisor", r.add(CURVE_A, X_1, wrong, b""), ((number, 2, 0), b""))
+        expect("before 12", r.multiply(CURVE_A, wrong, bytes(33), b""), ((number, 1, 0, 0, 0), b""))
+        expect("before 13", r.double(CURVE_A, wrong, b""), ((number, 1, 0), b""))
+        expect("before 13", r.opposite(CURVE_A, wrong, b""), ((number, 1, 0), b""))
+        expect("before 13", r.rewrite_divisor(CURVE_A, wrong, b""), ((number, 1, 0), b""))
+        expect("15 first", r.scan(bad_total, CURVE_A, wrong), ((15, 0, 0) + bad_total, None))
+        expect("14 first", r.scan(full_total, CURVE_A, wrong), ((14, 0, 0) + full_total, None))
+
+
+def check_batches():
+    out = GUARD * 40
+    expect_written("empty batch", lambda out: r.total_batch(CURVE_A, b"", out), NEUTRAL, (0,))
+    expect("empty batch, repeat", r.first_repeat(CURVE_A, b""), ((0, 0, 0, 0, 0), None))
+    three = X_1 + X6_3 + X_1
+    expect_written("case P", lambda out: r.total_batch(CURVE_A, three, out), XX4X4, (3,))
+    expect("case P, repeat", r.first_repeat(CURVE_A, three), ((0, 0, 0, 1, 3), None))
+    for number, place, batch in (
+        (8, 2, X_1 + X_1[:-1]),
+        (8, 2, X_1 + b"\1"),
+        (9, 2, X_1 + b"\3"),
+        (9, 3, X_1 + b"\0\3" + bytes(60)),
+        (10, 2, X_1 + divisor_record([7], [2])),
+        (11, 3, three[:34] + divisor_record([0], [2]) + b"\xff"),
+        (11, 1, divisor_record([0], [2]) + divisor_record([7], [2])),
+        (14, 0, b"\0" * 4097),
+        (14, 0, X_1 + b"\0" * 4095 + b"\xff"),
+        (14, 0, X_1 * 2 + b"\0" * 4094 + b"\1"),
+        (9, 4096, b"\0" * 4095 + b"\xff" + b"\0"),
+        (8, 4096, b"\0" * 4095 + b"\2"),
+    ):
+        expect("batch", r.total_batch(CURVE_A, batch, out), ((number, place, 0, 0), out))
+        expect("before 13", r.total_batch(CURVE_A, batch, b""), ((number, place, 0, 0), b""))
+        expect("repeat", r.first_repeat(CURVE_A, batch), ((number, place, 0, 0, 0), None))
+    full = b"\0" * 4095 + X_1
+    expect_written("4,096 records", lambda out: r.total_batch(CURVE_A, full, out), X_1, (4096,))
+    expect("4,096 records", r.first_repeat(CURVE_A, full), ((0, 0, 0, 1, 2), None))
+    a, b, c = X_1, X6_3, X_6
+    for batch, pair in (
+        (a + b, (0, 0)),
+        (a + b + b + a, (2, 3)),
+        (a + b + c + a + b, (1, 4)),
+        (a + a + a, (1, 2)),
+        (b"\0" + a + b"\0", (1, 3)),
+        (a + XX_1 + c + XX_1, (2, 4)),
+    ):
+        expect("repeat", r.first_repeat(CURVE_A, batch), ((0, 0, 0) + pair, None))
+    letters = "abcd"
+    for length in range(7):
+        for word in itertools.product(letters, repeat=length):
+            pairs = [(j, i) for j in range(1, length + 1) for i in range(1, j) if word[i - 1] == word[j - 1]]
+            j, i = min(pairs) if pairs else (0, 0)
+            expect("least j, then least i", r.first_repeat_of(word), (i, j))
+
+
+def check_running_totals():
+    expect("fresh", r.fresh_total(), (0,) * 8)
+    taken, total = b"", r.fresh_total()
+    for k, record in enumerate((X_1, X6_3, X_1, NEUTRAL, XX6X, X1_0, X_6, XX_1), start=1):
+        (number, place, length, *total), _ = r.scan(tuple(total), CURVE_A, record)
+        taken += record
+        written = r.total_batch(CURVE_A, taken, GUARD * 33)
+        w = total[0]
+        as_record = divisor_record(total[1 : 1 + w], total[4 : 4 + w])
+        expect("scan %d" % k, (number, place, length, total[7]), (0, 0, 0, k))
+        expect("scan %d" % k, written, ((0, 0, len(as_record), k), as_record + GUARD * (33 - len(as_record))))
+    good = (1, 0, 0, 0, 1, 0, 0)  # (x, 1)
+    for count, number in ((4095, 0), (4096, 14), (4097, 15), (2**64 - 1, 15), (0, 0)):
+        got, _ = r.scan(good + (count,), CURVE_A, X_1)
+        if number:
+            expect("count %d" % count, got, (number, 0, 0) + good + (count,))
+        else:
+            expect("count %d" % count, got, (0, 0, 0, 2, 0, 0, 0, 1, 0, 0, count + 1))
+    for wrong in (
+        (3, 0, 0, 0, 1, 0, 0),  # weight above g
+        (4, 0, 0, 0, 0, 0, 0),
+        (2**64 - 1, 0, 0, 0, 0, 0, 0),
+        (0, 1, 0, 0, 0, 0, 0),  # a coefficient that isn't used
+        (1, 0, 1, 0, 1, 0, 0),
+        (1, 0, 0, 0, 1, 0, 2**63),
+        (2, 0, 0, 1, 1, 0, 0),
+        (2, 0, 0, 0, 1, 0, 7),
+        (1, 7, 0, 0, 1, 0, 0),  # a number of p or more
+        (1, 0, 0, 0, 8, 0, 0),
+        (1, 0, 0, 0, 2, 0, 0),  # not valid
+    ):
+        for count in (0, 4096, 4097):
+            for record in (X_1, b"", b"\xff"):
+                total = wrong + (count,)
+                expect("15", r.scan(total, CURVE_A, record), ((15, 0, 0) + total, None))
+    three = (3, 0, 0, 0, 1, 0, 0, 1)  # (x³, 1) belongs to curve B
+    expect("weight 3", r.scan(three, CURVE_B, B_XXX_1), ((0, 0, 0, 1, 0, 0, 0, 10, 0, 0, 2), None))
+    expect("15", r.scan(three, CURVE_A, X_1), ((15, 0, 0) + three, None))
+
+
+def check_program():
+    case_p = X_1 + X6_3 + X_1
+    expect(
+        "case P",
+        r.program_text(CURVE_A, case_p),
+        "count 3\nrepeat 1 3\ntotal 02 0000000000000004 0000000000000004 0000000000000000 0000000000000001\n",
+    )
+    expect("empty batch", r.program_text(CURVE_A, b""), "count 0\nrepeat none\ntotal 00\n")
+    expect("digits", r.program_text(CURVE_B, B_X_10), "count 1\nrepeat none\ntotal 01 0000000000000000 000000000000000a\n")
+    expect("A6", r.program_text(CURVE_A, X_1 + X_6), "count 2\nrepeat none\ntotal 00\n")
+    full = b"\0" * 4096
+    expect("4,096", r.program_text(CURVE_A, full), "count 4096\nrepeat 1 2\ntotal 00\n")
+    expect("4,097", r.program_text(CURVE_A, full + b"\0"), "refused 14 0\n")
+    expect("11", r.program_text(CURVE_A, X_1 + divisor_record([0], [2])), "refused 11 2\n")
+    expect("8", r.program_text(CURVE_A, X_1 + X_1 + X_1[:5]), "refused 8 3\n")
+    expect("1", r.program_text(b"", b""), "refused 1 0\n")
+    long, longest = bytes(65537), bytes(65536)
+    for curve, batch, number in (
+        (None, None, 17), (None, long, 17), (None, b"", 17), (long, None, 16), (long, long, 16), (long, b"", 16),
+        (b"", None, 17), (CURVE_A, None, 17), (b"", long, 16), (CURVE_A, long, 16), (longest, b"", 2),
+        (CURVE_A, longest, 14), (b"", longest, 1),
+    ):  # fmt: skip
+        expect("files", r.program_text(curve, batch), "refused %d 0\n" % number)
+
+
+# ---------------------------------------------------------------------------------------------------------
+# Small curves, all of their divisors
+# ---------------------------------------------------------------------------------------------------------
+
+
+def all_divisors(curve):
+    g, p = curve.g, curve.p
+    found = []
+    for w in range(g + 1):
+        for u in itertools.product(range(p), repeat=w):
+            for v in itertools.product(range(p), repeat=w):
+                divisor = r.Divisor(u + (1,), r.polynomial(v, p))
+                if r.divides_f_less_v_squared(curve, divisor.u, divisor.v):
+                    found.append(divisor)
+    return found
+
+
+def points_over_extension(curve, k):
+    """The number of points of y² = f(x) over the field of p^k elements, with the one at infinity."""
+    p = curve.p
+    elements = list(itertools.product(range(p), repeat=k))
+
+    def multiplied(a, b, modulus):
+        rest = [0] * (2 * k - 1)
+        for i, j in itertools.product(range(k), repeat=2):
+            rest[i + j] += a[i] * b[j]
+        for top in range(2 * k - 2, k - 1, -1):
+            for i in range(k):
+                rest[top - k + i] -= rest[top] * modulus[i]
+        return tuple(c % p for c in rest[:k])
+
+    # An irreducible x^k + ...: for k = 2 and 3 one without a root.
+    modulus = next(
+        m for m in elements
+        if k == 1 or all((x**k + sum(c * x**i for i, c in enumerate(m))) % p for x in range(p))
+    )  # fmt: skip
+    roots = {}
+    for y in elements:
+        square = multiplied(y, y, modulus)
+        roots[square] = roots.get(square, 0) + 1
+    points = 1
+    for x in elements:
+        value = (0,) * k
+        for c in reversed(curve.f):
+            value = multiplied(value, x, modulus)
+            value = ((value[0] + c) % p,) + value[1:]
+        points += roots.get(value, 0)
+    return points
+
+
+def group_order(curve):
+    """From the numbers of points over the first g extensions: the L-polynomial at 1."""
+    p, g = curve.p, curve.g
+    s = [points_over_extension(curve, k) - p**k - 1 for k in range(1, g + 1)]
+    a = [1]
+    for k in range(1, g + 1):
+        a.append(sum(s[i] * a[k - 1 - i] for i in range(k)) // k)
+    return sum(a) + sum(a[i] * p ** (g - i) for i in range(g))
+
+
+def check_small_curves():
+    curves = [
+        (2, 3, (1, 0, 0, 0, 0)), (2, 3, (0, 2, 0, 0, 0)), (2, 3, (1, 1, 0, 0, 1)), (2, 5, (0, 4, 0, 0, 0)),
+        (2, 5, (1, 2, 0, 3, 3)), (2, 7, (1, 0, 0, 0, 0)), (3, 3, (1, 2, 0, 0, 0, 0, 0)), (3, 3, (0, 1, 1, 0, 0, 1, 1)),
+        (3, 5, (0, 4, 0, 0, 0, 0, 1)),
+    ]  # fmt: skip
+    for g, p, stored in curves:
+        name = "g = %d, p = %d, f = %s" % (g, p, stored)
+        curve = r.read_curve(curve_record(g, p, stored))
+        divisors = all_divisors(curve)
+        known = set(divisors)
+        expect(name + ": number of valid divisors", len(divisors), group_order(curve))
+        table, most_steps = {}, 0
+        for a, b in itertools.product(divisors, repeat=2):
+            table[a, b], steps = r.sum_and_steps(curve, a, b)
+            most_steps = max(most_steps, steps)
+        expect(name + ": sums are valid", all(s in known for s in table.values()), True)
+        expect(name + ": at most g - 1 reductions", most_steps, g - 1)
+        expect(name + ": order of two", all(table[a, b] == table[b, a] for a, b in table), True)
+        expect(name + ": neutral", all(table[a, r.NEUTRAL] == a for a in divisors), True)
+        inverse = all((s == r.NEUTRAL) == (b == r.opposite_of(curve, a)) for (a, b), s in table.items())
+        expect(name + ": opposite and nothing else gives neutral", inverse, True)
+        stride = 1 if len(divisors) < 40 else 7
+        grouped = all(
+            table[table[a, b], c] == table[a, table[b, c]]
+            for a, b, c in itertools.product(divisors[::stride], divisors, divisors[::stride])
+        )
+        expect(name + ": grouping", grouped, True)
+        pairs = list(table)[:: 1 if len(divisors) < 40 else 5]
+        agree = all(ideals.sum_by_ideals(g, p, curve.f, a, b) == tuple(table[a, b]) for a, b in pairs)
+        expect(name + ": sums by ideals", agree, True)
+        order = len(divisors)
+        expect(
+            name + ": the group's order times a divisor",
+            all(r.multiple_of(curve, a, order)[0] == r.NEUTRAL for a in divisors),
+            True,
+        )
+        for n in range(20):
+            for a in divisors[:: max(1, order // 10)]:
+                multiple, doublings, additions = r.multiple_of(curve, a, n)
+                expect(name + ": %d-fold" % n, multiple, r.total_of(curve, [a] * n))
+                expect(name + ": counts", (doublings, additions), (max(0, n.bit_length() - 1), max(0, bin(n).count("1") - 1)))
+        check_any_triple(name, curve, divisors)
+        check_turned_batches(name, curve, divisors)
+
+
+def check_any_triple(name, curve, divisors):
+    """ "Any triple s1, s2, s3 gives the same v on an accepted curve"."""
+    p = curve.p
+    step = max(1, len(divisors) // 12)
+    same = True
+    for a, b in itertools.product(divisors[::step], divisors[1::step]):
+        w = r.plus(a.v, b.v, p)
+        common, e1, e2 = r.greatest_common_divisor(a.u, b.u, p)
+        d, c, s3 = r.greatest_common_divisor(common, w, p)
+        s1, s2 = r.times(c, e1, p), r.times(c, e2, p)
+        plain = r.composed_with(curve, a, b, d, s1, s2, s3)
+        for k1, k2, k3 in (((1,), (), ()), ((), (2, 1), ()), ((), (), (1, 1)), ((0, 1), (1,), (2,))):
+            # k1·(u2, -u1, 0) + k2·(w, 0, -u1) + k3·(0, w, -u2) changes the triple and not the sum d
+            t1 = r.plus(s1, r.plus(r.times(k1, b.u, p), r.times(k2, w, p), p), p)
+            t2 = r.plus(s2, r.minus(r.times(k3, w, p), r.times(k1, a.u, p), p), p)
+            t3 = r.minus(s3, r.plus(r.times(k2, a.u, p), r.times(k3, b.u, p), p), p)
+            same = same and r.composed_with(curve, a, b, d, t1, t2, t3) == plain
+    expect(name + ": any triple", same, True)
+
+
+def check_turned_batches(name, curve, divisors):
+    """The total doesn't depend on the order of the batch."""
+    step = max(1, len(divisors) // 5)
+    few = divisors[1::step][:5]
+    totals = {r.total_of(curve, order) for order in itertools.permutations(few)}
+    expect(name + ": order of a batch", len(totals), 1)
+
+
+def check_large_curves():
+    """Sums by ideals again where numbers are large, on divisors grown from points."""
+    for g, p, stored in (
+        (2, 2147483647, [2147483646] * 5),
+        (3, 2147483647, [2147483646] * 7),
+        (2, 65537, [3, 1, 4, 1, 5]),
+        (3, 11, [1, 0, 0, 0, 0, 0, 0]),
+        (3, 13, [2, 7, 1, 8, 2, 8, 1]),
+    ):
+        curve = r.read_curve(curve_record(g, p, stored))
+        points, x = [], 0
+        while len(points) < 4 and x < p:
+            value = sum(c * pow(x, i, p) for i, c in enumerate(curve.f)) % p
+            y = next((y for y in range(1, min(p, 70000)) if y * y % p == value), None) if p < 70000 else None
+            if p % 4 == 3:
+                root = pow(value, (p + 1) // 4, p)
+                y = root if root * root % p == value else None
+            if y:
+                points.append(r.Divisor((-x % p, 1), (y,)))
+            x += 1
+        grown = list(points)
+        for k in range(30):
+            a, b = grown[k % len(grown)], grown[-1 - k // 3]
+            total, steps = r.sum_and_steps(curve, a, b)
+            expect("large sum", ideals.sum_by_ideals(g, p, curve.f, a, b), tuple(total))
+            expect("large sum is valid", r.divides_f_less_v_squared(curve, *total) and r.weight(total) <= g, True)
+            expect("large sum, steps", steps <= g - 1, True)
+            grown.append(total)
+
+
+def main():
+    for part in (
+        check_examples,
+        check_corners,
+        check_order,
+        check_batches,
+        check_running_totals,
+        check_program,
+        check_small_curves,
+        check_large_curves,
+    ):
+        before = held + len(failures)
+        part()
+        print("%-22s %6d checks" % (part.__name__, held + len(failures) - before))
+    for failure in failures[:40]:
+        print("FAILED " + failure)
+    print("%d checks held, %d failed" % (held, len(failures)))
+    return 1 if failures else 0

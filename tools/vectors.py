@@ -1,0 +1,1079 @@
+#!/usr/bin/env python3
+"""vectors.py: makes the input and the expected output of the program `vectors`, and counts what they cover.
+
+    python3 tools/vectors.py SEED             writes both files and prints the census
+    python3 tools/vectors.py SEED --check     writes nothing: reads both files again, answers every frame again, sums
+                                              again by ideals.py, makes all anew from SEED, compares, prints the census
+    --input PATH, --expected PATH             other files than crates/vectors/data/vectors and crates/vectors/stdout
+
+Exit 1 if the census falls short of what it must cover (`shortfalls` below) or if a check fails. The format is
+described in frames.py, the answers are reference.py's. The same SEED gives the same bytes.
+"""
+import argparse
+import hashlib
+import itertools
+import os
+import sys
+from collections import Counter
+
+import ideals
+import reference as r
+from frames import (
+    ADD, CHECK_CURVE, CHECK_DIVISOR, DOUBLE, FIRST_REPEAT, GUARD, MOST_OUTPUT, MULTIPLY, NAMES, OPPOSITE, REWRITE_CURVE,
+    REWRITE_DIVISOR, SCAN, TOTAL_BATCH, WITH_OUTPUT, Frame, answer, curve_record, decoded, divisor_record, encoded, text_of,
+)  # fmt: skip
+
+PRIMES = (3, 5, 7, 11, 13, 1009, 65537, 2147483629, 2147483647)
+GENERA = (2, 3)
+MOST_BYTES = 1500000
+ENOUGH = 20  # of each kind of sum, per genus and prime
+ASKED = 22  # what the generator tries for
+NEUTRAL_RECORD = r.write_divisor(r.NEUTRAL)
+
+
+class Dice:
+    """Numbers drawn from SHA-256 of the seed and a counter: no library's generator, so always the same."""
+
+    def __init__(self, seed):
+        self.seed, self.counter = seed, 0
+
+    def below(self, n):
+        self.counter += 1
+        digest = hashlib.sha256(b"%s %d" % (self.seed.encode(), self.counter)).digest()
+        return int.from_bytes(digest, "big") % n
+
+    def pick(self, things):
+        return things[self.below(len(things))]
+
+    def turned(self, things):
+        things = list(things)
+        for i in range(len(things) - 1, 0, -1):
+            j = self.below(i + 1)
+            things[i], things[j] = things[j], things[i]
+        return things
+
+    def some_bytes(self, n):
+        return bytes(self.below(256) for _ in range(n))
+
+
+# ---------------------------------------------------------------------------------------------------------
+# Curves and divisors to draw from
+# ---------------------------------------------------------------------------------------------------------
+
+
+def square_root(a, p):
+    """A root of a modulo p, or None; Tonelli and Shanks, which is one power where p = 3 modulo 4."""
+    a %= p
+    if a == 0:
+        return 0
+    if pow(a, (p - 1) // 2, p) != 1:
+        return None
+    odd, twos = p - 1, 0
+    while odd % 2 == 0:
+        odd, twos = odd // 2, twos + 1
+    stranger = next(n for n in range(2, p) if pow(n, (p - 1) // 2, p) == p - 1) if p > 3 else 2
+    power, root, left = pow(stranger, odd, p), pow(a, (odd + 1) // 2, p), pow(a, odd, p)
+    while left != 1:
+        steps, t = 0, left
+        while t != 1:
+            t, steps = t * t % p, steps + 1
+        factor = pow(power, 1 << (twos - steps - 1), p)
+        root, left = root * factor % p, left * factor * factor % p
+        power, twos = factor * factor % p, steps
+    return root
+
+
+def value_at(polynomial, x, p):
+    value = 0
+    for c in reversed(polynomial):
+        value = (value * x + c) % p
+    return value
+
+
+def drawn_curve(dice, g, p, roots, top):
+    """An accepted curve whose f has the given number of drawn roots and f_2g = 0 or not, as top says."""
+    for _ in range(4000):
+        f = r.ONE
+        chosen = []
+        while len(chosen) < min(roots, p):
+            x = dice.below(p)
+            if x not in chosen:
+                chosen.append(x)
+                f = r.times(f, (-x % p, 1), p)
+        rest = tuple(dice.below(p) for _ in range(2 * g + 1 - len(chosen))) + (1,)
+        f = r.times(f, rest, p)
+        if not top:
+            # f_2g = 0: choose the rest's second coefficient so that it cancels
+            rest = rest[:-2] + ((rest[-2] - f[2 * g]) % p, 1)
+            f = r.ONE
+            for x in chosen:
+                f = r.times(f, (-x % p, 1), p)
+            f = r.times(f, rest, p)
+        if (f[2 * g] != 0) == top and not r.has_repeated_factor(f, p):
+            return r.Curve(g, p, f), chosen
+    raise ValueError("no such curve")
+
+
+class Pool:
+    """A curve with its record and divisors on it, to draw from."""
+
+    def __init__(self, dice, curve, known_roots):
+        self.dice, self.curve, self.record = dice, curve, r.write_curve(curve)
+        p = curve.p
+        tries = range(p) if p < 2000 else [dice.below(p) for _ in range(60)] + known_roots
+        self.points, self.flats = [], []  # weight 1 with y ≠ 0, one of each pair; weight 1 with y = 0
+        for x in tries:
+            y = square_root(value_at(curve.f, x, p), p)
+            if y == 0:
+                self.flats.append(r.Divisor((-x % p, 1), r.ZERO))
+            elif y is not None:
+                self.points.append(r.Divisor((-x % p, 1), (y,)))
+        self.whole = self.every_divisor() if p <= 5 else None
+        self.grown = list(self.points[:6]) + list(self.flats[:3])
+        self.has_divisors = bool(self.whole or self.points)
+        if not self.whole and self.points:
+            for _ in range(24):
+                self.grown.append(r.sum_of(curve, dice.pick(self.grown), dice.pick(self.grown)))
+            self.grown = self.grown[-18:]
+
+    def every_divisor(self):
+        """On the smallest primes: all valid divisors there are."""
+        g, p = self.curve.g, self.curve.p
+        found = []
+        for w in range(g + 1):
+            for u in itertools.product(range(p), repeat=w):
+                for v in itertools.product(range(p), repeat=w):
+                    v = r.polynomial(v, p)
+                    if r.divides_f_less_v_squared(self.curve, u + (1,), v):
+                        found.append(r.Divisor(u + (1,), v))
+        return found
+
+    def opposite(self, a):
+        return r.opposite_of(self.curve, a)
+
+    def sum(self, *divisors):
+        return r.total_of(self.curve, divisors)
+
+    def anything(self):
+        """Any divisor: from the whole group where it is small, otherwise grown by sums."""
+        if self.whole:
+            return self.dice.pick(self.whole)
+        return self.sum(self.dice.pick(self.grown), self.dice.pick(self.grown))
+
+    def heavy(self):
+        """Any divisor that isn't neutral."""
+        while True:
+            a = self.anything()
+            if a != r.NEUTRAL:
+                return a
+
+    def signed_points(self, n):
+        """At most n points over different x, each with a drawn sign."""
+        chosen = self.dice.turned(self.points)[:n] if len(self.points) < 20 else []
+        while len(chosen) < n and len(self.points) >= 20:
+            point = self.dice.pick(self.points)
+            if point not in chosen:
+                chosen.append(point)
+        return [a if self.dice.below(2) else self.opposite(a) for a in chosen]
+
+
+# The kinds of pairs to sum. Each is a recipe that draws a pair; what a pair really is, `kinds_of_sum` says.
+
+
+def some(dice, things, most):
+    """From the front of the list, at most `most`, at least none."""
+    return things[: dice.below(most + 1)]
+
+
+def recipe_tangent(pool):
+    """A point in both, with the same y."""
+    g, dice = pool.curve.g, pool.dice
+    points = pool.signed_points(2 * g - 1)
+    if not points:
+        return None
+    shared = [points[0]] * (1 + dice.below(2)) if g == 3 or dice.below(2) else points[:1]
+    left = some(dice, points[1:g], g - len(shared))
+    right = some(dice, points[g:], g - 1)
+    return pool.sum(*shared, *left), pool.sum(points[0], *right)
+
+
+def recipe_cancelling(pool):
+    """Points in one and their opposites in the other, perhaps one of them twice, perhaps beside a point that both
+    hold."""
+    g, dice = pool.curve.g, pool.dice
+    points = pool.signed_points(2 * g)
+    if len(points) < 2:
+        return None
+    undone = [points[0]]
+    if g == 3 and dice.below(2):
+        undone.append(points[dice.below(2)])
+    left, right = undone, [pool.opposite(a) for a in undone]
+    if dice.below(2) and points[1] not in undone:
+        left, right = left + [points[1]], right + [points[1]]
+    left = left + some(dice, points[2:][: g - len(left)], 2)
+    right = right + some(dice, points[g + 1 :][: g - len(right)], 2)
+    return pool.sum(*left), pool.sum(*right)
+
+
+def recipe_opposite(pool):
+    a = pool.anything() if pool.dice.below(3) else pool.sum(*pool.signed_points(1))
+    return a, pool.opposite(a)
+
+
+def recipe_same(pool):
+    a = pool.anything()
+    return a, a
+
+
+def recipe_flat(pool):
+    """Points with y = 0 in one or both."""
+    g, dice = pool.curve.g, pool.dice
+    if not pool.flats:
+        return None
+    flats, points = dice.turned(pool.flats), pool.signed_points(2 * g)
+    left = flats[: 1 + dice.below(2)]
+    left += some(dice, points[:g], g - len(left))
+    right = flats[dice.below(2) :][: dice.below(3)]
+    right += some(dice, points[g:], g - len(right))
+    return pool.sum(*left), pool.sum(*right)
+
+
+def recipe_light(pool):
+    """A weight below g on one side or on both."""
+    dice = pool.dice
+    light = dice.pick([r.NEUTRAL, pool.sum(*pool.signed_points(1 + dice.below(pool.curve.g - 1)))])
+    other = pool.anything() if dice.below(2) else pool.sum(*pool.signed_points(1))
+    return (light, other) if dice.below(2) else (other, light)
+
+
+def recipe_light_result(pool):
+    """A result of weight below g: (c + light) and the opposite of c."""
+    c, light = pool.anything(), pool.sum(*pool.signed_points(pool.dice.below(pool.curve.g)))
+    if pool.dice.below(2):
+        c = pool.sum(*pool.signed_points(2))
+    return pool.sum(c, light), pool.opposite(c)
+
+
+def recipe_anything(pool):
+    return pool.anything(), pool.anything()
+
+
+def recipe_beside(pool):
+    """A common part of any form, also without a point over p: c and c + a point, or c and point - c."""
+    c, points = pool.anything(), pool.signed_points(1)
+    if r.weight(c) >= pool.curve.g and pool.whole:
+        c = pool.dice.pick([a for a in pool.whole if r.weight(a) < pool.curve.g])
+    return (pool.sum(c, *points), c) if pool.dice.below(2) else (pool.sum(c, *points), pool.opposite(c))
+
+
+RECIPES = (
+    recipe_tangent, recipe_cancelling, recipe_opposite, recipe_same, recipe_flat, recipe_light, recipe_light_result,
+    recipe_anything, recipe_beside,
+)  # fmt: skip
+
+SHARED, SHARED_TANGENT, SHARED_CANCELLING = "shared root", "shared, d = 1", "shared, d ≠ 1"
+OPPOSITES, FLAT, LIGHT, LIGHT_RESULT = "opposite", "y = 0", "weight < g in", "weight < g out"
+TOP, NO_TOP, TWO_STEPS, COPRIME = "f_2g ≠ 0", "f_2g = 0", "two reductions", "coprime"
+KINDS = (
+    SHARED, SHARED_TANGENT, SHARED_CANCELLING, OPPOSITES, FLAT, LIGHT, LIGHT_RESULT, TOP, NO_TOP, TWO_STEPS, COPRIME,
+)  # fmt: skip
+
+
+def has_flat_point(curve, a):
+    """A point with y = 0 over some extension: u and v share a factor."""
+    return r.degree(r.greatest_common_divisor(a.u, a.v, curve.p)[0]) >= 1
+
+
+def kinds_of_sum(curve, a, b):
+    p, g = curve.p, curve.g
+    kinds = {TOP if curve.f[2 * g] else NO_TOP}
+    common = r.greatest_common_divisor(a.u, b.u, p)[0]
+    if r.degree(common) >= 1:
+        d = r.greatest_common_divisor(common, r.plus(a.v, b.v, p), p)[0]
+        kinds |= {SHARED, SHARED_TANGENT if d == r.ONE else SHARED_CANCELLING}
+    else:
+        kinds.add(COPRIME)
+    result, steps = r.sum_and_steps(curve, a, b)
+    if result == r.NEUTRAL and a != r.NEUTRAL:
+        kinds.add(OPPOSITES)
+    if has_flat_point(curve, a) or has_flat_point(curve, b):
+        kinds.add(FLAT)
+    if r.weight(a) < g or r.weight(b) < g:
+        kinds.add(LIGHT)
+    if r.weight(result) < g:
+        kinds.add(LIGHT_RESULT)
+    if steps == 2:
+        kinds.add(TWO_STEPS)
+    return kinds
+
+
+def shape_of_sum(curve, a, b):
+    """The way a sum takes: g, degree of d, degree composed, reductions, weight of the result."""
+    composed = r.compose(curve, a, b)
+    result, steps = r.reduce(curve, composed)
+    cancelled = (r.weight(a) + r.weight(b) - r.weight(composed)) // 2
+    return curve.g, cancelled, r.weight(composed), steps, r.weight(result)
+
+
+# All the shapes there are. Composed degree m above g leaves max(2g + 1, 2·deg v) - m, with deg v < m.
+SHAPES = (
+    [(2, 0, w, 0, w) for w in (0, 1, 2)] + [(2, 0, 3, 1, 2), (2, 0, 4, 1, 1), (2, 0, 4, 1, 2)]
+    + [(2, 1, w, 0, w) for w in (0, 1, 2)] + [(2, 2, 0, 0, 0)]
+    + [(3, 0, w, 0, w) for w in (0, 1, 2, 3)] + [(3, 0, 4, 1, 3), (3, 0, 5, 1, 2), (3, 0, 5, 1, 3)]
+    + [(3, 0, 6, 1, 1), (3, 0, 6, 1, 2), (3, 0, 6, 2, 3)]
+    + [(3, 1, w, 0, w) for w in (0, 1, 2, 3)] + [(3, 1, 4, 1, 3)] + [(3, 2, w, 0, w) for w in (0, 1, 2)] + [(3, 3, 0, 0, 0)]
+)  # fmt: skip
+ASKED_SHAPES = 4  # of each shape, per prime, where the tries come by them
+
+
+# ---------------------------------------------------------------------------------------------------------
+# Frames that are done
+# ---------------------------------------------------------------------------------------------------------
+
+
+class Collection:
+    def __init__(self):
+        self.frames, self.seen, self.orders = [], set(), Counter()
+
+    def put(self, frame):
+        """Takes a frame once; says whether it was new."""
+        if frame in self.seen:
+            return False
+        self.seen.add(frame)
+        self.frames.append(frame)
+        return True
+
+
+def enough_output(dice, need):
+    """An output that fits: exactly, by one byte more, or by many."""
+    return dice.pick([need, need, need + 1, need + 1 + dice.below(MOST_OUTPUT - need)])
+
+
+def any_output(dice, need):
+    """Mostly one that fits, sometimes one byte short, shorter, or empty."""
+    return dice.pick([enough_output(dice, need)] * 5 + [need - 1, dice.below(need), 0])
+
+
+def need_of(frame):
+    """The length of the result, for a frame that a large output lets succeed."""
+    fields, _ = answer(frame._replace(output=MOST_OUTPUT))
+    return fields[2]
+
+
+def put_with_outputs(dice, collection, frame, outputs):
+    need = need_of(frame)
+    for output in outputs:
+        collection.put(frame._replace(output=output(dice, need)))
+
+
+def pools_for(dice, g, p):
+    """Curves of each sort: f_2g zero or not, with roots and without, x^(2g+1) + 1, and all f_i = p - 1."""
+    shapes = [(0, True), (1, True), (2, True), (3, True), (3, False), (0, False)]
+    if p < 14:
+        shapes += [(1, True), (2, True), (0, True), (1, False)]
+    pools = []
+    for roots, top in shapes:
+        pool = Pool(dice, *drawn_curve(dice, g, p, roots, top))
+        while not pool.has_divisors:
+            pool = Pool(dice, *drawn_curve(dice, g, p, roots, top))
+        pools.append(pool)
+    for stored in ((1,) + (0,) * (2 * g), (p - 1,) * (2 * g + 1)):
+        f = stored + (1,)
+        if not r.has_repeated_factor(f, p):
+            pools.append(Pool(dice, r.Curve(g, p, f), []))
+    return [pool for pool in pools if pool.has_divisors]
+
+
+def put_sums(dice, collection, g, p, pools):
+    counts = Counter()
+    wanted = {kind: ASKED for kind in KINDS}
+    if g == 2:
+        wanted[TWO_STEPS] = 0  # never more than g - 1 reductions
+    tries = 0
+    while tries < 500 or any(counts[k] < n for k, n in wanted.items()) and tries < 6000:
+        pool, recipe = pools[tries % len(pools)], RECIPES[(tries // len(pools)) % len(RECIPES)]
+        tries += 1
+        pair = recipe(pool)
+        if pair is None:
+            continue
+        kinds, shape = kinds_of_sum(pool.curve, *pair), shape_of_sum(pool.curve, *pair)
+        if all(counts[k] >= wanted[k] for k in kinds) and counts[shape] >= ASKED_SHAPES:
+            continue
+        frame = Frame(ADD, pool.record, *map(r.write_divisor, pair))
+        if collection.put(frame._replace(output=enough_output(dice, need_of(frame)))):
+            counts.update(kinds | {shape})
+            if dice.below(8) == 0:
+                need = need_of(frame)
+                collection.put(frame._replace(output=dice.pick([need - 1, dice.below(need), 0])))
+
+
+def put_doubles_and_opposites(dice, collection, pools):
+    for n in range(24):
+        pool = pools[n % len(pools)]
+        a = pool.anything()
+        if n % 3 == 0 and pool.flats:
+            a = pool.sum(dice.pick(pool.flats), *some(dice, pool.signed_points(2), pool.curve.g - 1))
+        elif n % 3 == 1:
+            a = pool.sum(*pool.signed_points(1 + dice.below(pool.curve.g)))
+        for operation in (DOUBLE, OPPOSITE)[: 1 if n % 2 else 2]:
+            outputs = [enough_output] if n % 4 else [enough_output, any_output]
+            put_with_outputs(dice, collection, Frame(operation, pool.record, r.write_divisor(a)), outputs)
+
+
+def put_checks(dice, collection, pools):
+    for n, pool in enumerate(pools[:6]):
+        a = r.write_divisor(pool.anything())
+        collection.put(Frame(CHECK_CURVE, pool.record))
+        collection.put(Frame(CHECK_DIVISOR, pool.record, a))
+        put_with_outputs(dice, collection, Frame(REWRITE_CURVE, pool.record), [any_output])
+        put_with_outputs(dice, collection, Frame(REWRITE_DIVISOR, pool.record, a), [any_output])
+
+
+def put_multiples(dice, collection, pools):
+    scalars = [
+        b"", b"\0", bytes(32), b"\1", b"\0\0\1", b"\2", b"\3", b"\4", b"\7", b"\x80", b"\xff", b"\0\xff\0", b"\1" + bytes(31),
+        bytes(31) + b"\5",
+    ]  # fmt: skip
+    scalars = dice.turned(scalars)[:8] + [dice.some_bytes(1 + dice.below(4)) for _ in range(4)]
+    scalars += [dice.some_bytes(8), dice.some_bytes(20), dice.some_bytes(32), b"\xff" * dice.pick([8, 16, 32])]
+    for n, scalar in enumerate(scalars):
+        pool = pools[n % len(pools)]
+        a = r.write_divisor(pool.sum(*pool.signed_points(1)) if n % 3 == 0 else pool.anything())
+        output = enough_output if n % 4 else any_output
+        put_with_outputs(dice, collection, Frame(MULTIPLY, pool.record, a, scalar), [output])
+        if pool.whole:
+            # the order of the group, written with leading zeros: the neutral comes out
+            order = len(pool.whole).to_bytes(2 + dice.below(6), "big")
+            put_with_outputs(dice, collection, Frame(MULTIPLY, pool.record, a, order), [enough_output])
+
+
+def drawn_batch(dice, pool, length):
+    """Records of all weights; some are drawn twice, some undo another."""
+    taken = []
+    for _ in range(length):
+        kind = dice.below(7)
+        if kind == 0 and taken:
+            taken.append(dice.pick(taken))
+        elif kind == 1 and taken:
+            taken.append(pool.opposite(dice.pick(taken)))
+        elif kind == 2:
+            taken.append(r.NEUTRAL)
+        elif kind == 3:
+            taken.append(pool.sum(*pool.signed_points(1)))
+        else:
+            taken.append(pool.anything())
+    return taken
+
+
+def put_batches(dice, collection, pools):
+    for n, length in enumerate((0, 1, 2, 3, 4, 7, 14)):
+        pool = pools[n % len(pools)]
+        batch = b"".join(map(r.write_divisor, drawn_batch(dice, pool, length)))
+        put_with_outputs(dice, collection, Frame(TOTAL_BATCH, pool.record, batch), [enough_output, any_output])
+        collection.put(Frame(FIRST_REPEAT, pool.record, batch))
+        # different divisors, and the same with one of them again
+        different = sorted(set(drawn_batch(dice, pool, length) + [pool.anything() for _ in range(3)]))
+        records = [r.write_divisor(a) for a in dice.turned(different)[: length + 1]]
+        collection.put(Frame(FIRST_REPEAT, pool.record, b"".join(records)))
+        for _ in range(2 if length < 7 else 1):
+            again = list(records)
+            for _ in range(1 + dice.below(2)):
+                again.insert(dice.below(len(again) + 1), dice.pick(records))
+            collection.put(Frame(FIRST_REPEAT, pool.record, b"".join(again)))
+        # a last record that is cut
+        record = r.write_divisor(pool.heavy())
+        for cut in (batch + record[:-1], batch + record[: 1 + dice.below(len(record) - 1)])[: 2 if length < 7 else 1]:
+            collection.put(Frame(TOTAL_BATCH, pool.record, cut, b"", 49))
+            collection.put(Frame(FIRST_REPEAT, pool.record, cut))
+
+
+def put_scans(dice, collection, pools):
+    for n in range(3):
+        pool, total = pools[n % len(pools)], r.fresh_total()
+        for a in drawn_batch(dice, pool, 5):
+            frame = Frame(SCAN, pool.record, r.write_divisor(a), b"", 0, total)
+            collection.put(frame)
+            total = answer(frame)[0][3:]
+    for count in (0, 1, 4095, 4096, 4097, 2 + dice.below(4000)):
+        # a total whose divisor and count needn't fit each other
+        pool = dice.pick(pools)
+        held, a = pool.anything(), pool.anything()
+        collection.put(Frame(SCAN, pool.record, r.write_divisor(a), b"", 0, r.flat_total(held, count)))
+        a = pool.opposite(held)
+        collection.put(Frame(SCAN, pool.record, r.write_divisor(a), b"", 0, r.flat_total(held, count)))
+
+
+# ---------------------------------------------------------------------------------------------------------
+# Frames that are refused, with one fault and with two
+# ---------------------------------------------------------------------------------------------------------
+
+# Faults of a curve record in document 01's order. 1 stands twice: short (a) and of a wrong length (b).
+CURVE_FAULTS = ("1a", "2", "3", "4", "1b", "5", "6", "7")
+# Faults of a divisor record; 8 stands twice: empty (a) and of a wrong length (b).
+DIVISOR_FAULTS = ("8a", "9", "8b", "10", "11")
+
+WRONG_MARKS = (b"HJD", b"hjc", b"\0\0\0", b"CJH", b"HKC", b"IJC", b"HJ\xc3")
+WRONG_VERSIONS = (0, 2, 256, 257, 65535)
+WRONG_GENERA = (0, 1, 4, 5, 130, 255)
+WRONG_PRIMES = (
+    0, 1, 2, 4, 8, 9, 15, 25, 49, 121, 561, 65536, 25326001, 46337 * 46337, 46327 * 46337, 2147483645, 2147483646,
+    2147483648, 2147483649, 2147483659, 4294967291, 4294967296 + 7, 2305843009213693951, 2**63, 2**64 - 1,
+)  # fmt: skip
+
+
+def number_of(fault):
+    return int(fault.rstrip("ab"))
+
+
+def faulty_curve(dice, curve, faults):
+    """The curve's record with all the given faults at once, or None where they can't go together."""
+    g, p, stored = curve.g, curve.p, list(curve.f[:-1])
+    mark, version, genus = b"HJC", 1, g
+    if "7" in faults:
+        stored = [0] * len(stored) if dice.below(2) else [0, 0] + stored[2:]
+    if "5" in faults:
+        p = dice.pick(WRONG_PRIMES)
+    if "6" in faults:
+        i = dice.below(len(stored))
+        stored[i] = dice.pick([p, p + 1, p + stored[i], 2**64 - 1])
+        stored[i] = min(stored[i], 2**64 - 1)
+    elif "5" in faults:
+        stored = [c % p if p else c for c in stored]
+    if "2" in faults:
+        mark = dice.pick(WRONG_MARKS)
+    if "3" in faults:
+        version = dice.pick(WRONG_VERSIONS)
+    if "4" in faults:
+        genus = dice.pick(WRONG_GENERA)
+    record = curve_record(genus, p, stored, mark, version)
+    if "1b" in faults:
+        record = dice.pick([record[:-1], record + b"\0", record + bytes(16), record[: max(14, len(record) - 16)]])
+        if record[5:6] in (b"\2", b"\3") and len(record) == {2: 54, 3: 70}[record[5]]:
+            record += b"\0"
+    if "1a" in faults:
+        if set(faults) & {"4", "1b", "5", "6", "7"}:
+            return None
+        least = 5 if "3" in faults else 3 if "2" in faults else 0
+        record = record[: least + dice.below(6 - least)]
+    return record
+
+
+def faulty_divisor(dice, curve, a, faults, in_batch=False):
+    """A record with all the given faults at once, made from the divisor a, which isn't neutral; None where they
+    can't go together. In a batch a wrong length can only be a cut."""
+    g, p, w = curve.g, curve.p, r.weight(a)
+    if "8a" in faults:
+        return None if in_batch or len(faults) > 1 else b""
+    u, v = list(a.u[:w]), list(a.v) + [0] * (w - len(a.v))
+    if "11" in faults:
+        wrong = [
+            (i, c) for i in range(w) for c in (0, 1, 2, p - 1)
+            if not r.divides_f_less_v_squared(curve, a.u, r.polynomial(v[:i] + [c] + v[i + 1 :], p))
+        ]  # fmt: skip
+        if not wrong:
+            return None
+        i, c = dice.pick(wrong)
+        v[i] = c
+    weight_byte = w
+    if "9" in faults:
+        weight_byte = dice.pick([g + 1, g + 1, g + 2, 128, 255])
+        if weight_byte == g + 1 and "8b" not in faults:
+            u, v = (n + [0] * (g + 1 - w) for n in (u, v))
+    if "10" in faults:
+        row = dice.pick([u, v])
+        i = dice.below(len(row))
+        row[i] = dice.pick([row[i] + p, p, 2**64 - 1])  # the first would be taken if it were reduced modulo p
+    record = divisor_record(u, v, weight_byte)
+    if "8b" in faults:
+        cuts = [record[:-1], record[:-8], record[: 1 + dice.below(len(record) - 1)]]
+        record = dice.pick(cuts if in_batch else cuts + [record + b"\0", record + bytes(16)])
+    return record
+
+
+class Base:
+    """One good call of an operation and its stages: where a fault may stand, in document 01's order."""
+
+    def __init__(self, dice, operation, pool):
+        self.dice, self.operation, self.pool = dice, operation, pool
+        stages = [("curve", fault) for fault in CURVE_FAULTS]
+        first = [("first", fault) for fault in DIVISOR_FAULTS]
+        second = [("second", fault) for fault in DIVISOR_FAULTS]
+        if operation in (CHECK_DIVISOR, REWRITE_DIVISOR, DOUBLE, OPPOSITE, MULTIPLY):
+            stages += first
+        elif operation in (ADD, TOTAL_BATCH, FIRST_REPEAT):
+            stages += first + second
+        elif operation == SCAN:
+            stages += [("total", "15"), ("total", "14")] + first
+        if operation == MULTIPLY:
+            stages.append(("scalar", "12"))
+        if operation in WITH_OUTPUT:
+            stages.append(("output", "13"))
+        self.stages = stages
+
+    def divisor(self, faults, in_batch=False):
+        if not faults:
+            return r.write_divisor(self.pool.heavy())
+        return faulty_divisor(self.dice, self.pool.curve, self.pool.heavy(), faults, in_batch)
+
+    def frame(self, faults):
+        """The frame with these faults and the place that the first of them must give; None where they can't go
+        together."""
+        dice, operation, pool = self.dice, self.operation, self.pool
+        by_part = {part: [f for where, f in faults if where == part] for part, _ in self.stages}
+        curve = faulty_curve(dice, pool.curve, by_part["curve"]) if by_part["curve"] else pool.record
+        if curve is None:
+            return None
+        first = second = b""
+        total, places = None, {"first": 1, "second": 2}
+        if operation in (TOTAL_BATCH, FIRST_REPEAT):
+            # good records, the first fault, good records, the second fault; 8 can stand only at the end
+            if "8b" in by_part["first"] and by_part["second"]:
+                return None
+            batch, count = [], 0
+            for part in ("first", "second"):
+                good = [r.write_divisor(self.pool.anything()) for _ in range(dice.below(4))]
+                batch, count = batch + good, count + len(good)
+                if by_part[part]:
+                    record = self.divisor(by_part[part], in_batch=True)
+                    if record is None:
+                        return None
+                    batch, count = batch + [record], count + 1
+                    places[part] = count
+                    if "8b" in by_part[part]:
+                        break
+            first = b"".join(batch)
+        else:
+            if any(part == "first" for part, _ in self.stages):
+                first = self.divisor(by_part["first"])
+            if operation == ADD:
+                second = self.divisor(by_part["second"])
+            if first is None or second is None:
+                return None
+        if operation == MULTIPLY:
+            second = dice.some_bytes(3)
+            if by_part["scalar"]:
+                second = dice.pick([bytes(33), b"\0" + dice.some_bytes(32), dice.some_bytes(40), b"\xff" * 33])
+        if operation == SCAN:
+            total = self.running_total(by_part["total"])
+            if total is None:
+                return None
+        output = 0
+        if operation in WITH_OUTPUT:
+            output = 0 if by_part.get("output") else dice.pick([49, 70, 80, MOST_OUTPUT])
+            if operation == REWRITE_CURVE and output:
+                output = 70 + dice.below(20)
+            if by_part.get("output") and len(faults) == 1:
+                # the only fault: one byte short of the need, or shorter
+                good = Frame(operation, curve, first, second, MOST_OUTPUT)
+                output = dice.pick([need_of(good) - 1, dice.below(need_of(good)), 0])
+        return Frame(operation, curve, first, second, output, total), places.get(faults[0][0], 0)
+
+    def running_total(self, faults):
+        dice, curve = self.dice, self.pool.curve
+        a = self.pool.heavy()
+        count = 4096 if "14" in faults else dice.pick([0, 7, 4095])
+        total = list(r.flat_total(a, count))
+        if "15" in faults:
+            w = r.weight(a)
+            kinds = ["weight", "number", "valid"] + (["unused"] if w < 3 else []) + ([] if "14" in faults else ["count"])
+            kind = dice.pick(kinds)
+            if kind == "weight":
+                total[0] = dice.pick([curve.g + 1, 4, 255, 256 + w, 2**32 + w, 2**63, 2**64 - 1])
+            elif kind == "number":
+                k = dice.pick([1, 4]) + dice.below(w)
+                total[k] = dice.pick([total[k] + curve.p, curve.p, 2**64 - 1])
+            elif kind == "unused":
+                k = dice.pick([1, 4]) + w + dice.below(3 - w)
+                total[k] = dice.pick([1, curve.p - 1, curve.p, 2**64 - 1])
+            elif kind == "count":
+                total[7] = dice.pick([4097, 5000, 65536, 2**32, 2**63, 2**64 - 1])
+            else:
+                u, v = total[1 : 1 + w], total[4 : 4 + w]
+                wrong = [c for c in range(min(curve.p, 50)) if not r.divides_f_less_v_squared(
+                    curve, tuple(u) + (1,), r.polynomial([c] + v[1:], curve.p))]  # fmt: skip
+                if not wrong:
+                    return None
+                total[4] = dice.pick(wrong)
+        return tuple(total)
+
+
+def put_refusals(dice, collection, pools):
+    """Every stage of every call by itself, and every pair of stages that can go together: the earlier must win."""
+    for operation in range(CHECK_CURVE, SCAN + 1):
+        stages = Base(dice, operation, pools[0]).stages
+        for faults in itertools.chain(
+            ((stage,) for stage in stages for _ in range(3)), itertools.combinations(stages, 2)
+        ):
+            for _ in range(12):
+                made = Base(dice, operation, dice.pick(pools)).frame(faults)
+                if made is None:
+                    continue
+                frame, place = made
+                if collection.put(frame):
+                    fields = answer(frame)[0]
+                    number = number_of(faults[0][1])
+                    wanted = (number, place if 8 <= number <= 11 else 0)
+                    if fields[:2] != wanted:
+                        raise AssertionError("%s %s: %s" % (NAMES[operation], faults, fields))
+                    collection.orders[(NAMES[operation],) + tuple("%s %s" % f for f in faults)] += 1
+                    break
+
+
+def put_every_curve_fault(dice, collection):
+    """All the wrong marks, versions, genera, primes and lengths by themselves."""
+    for g, p in ((2, 7), (3, 11), (2, 2147483647), (3, 2147483647)):
+        f = [1] + [0] * (2 * g)
+        good = curve_record(g, p, f)
+        wrong = [good[:n] for n in range(7)] + [good[:n] for n in (13, 14, len(good) - 16, len(good) - 1)]
+        wrong += [good + bytes(n) for n in (1, 8, 16, 17)]
+        wrong += [curve_record(g, p, f, mark=mark) for mark in WRONG_MARKS]
+        wrong += [curve_record(g, p, f, version=version) for version in WRONG_VERSIONS]
+        wrong += [curve_record(genus, p, f) for genus in WRONG_GENERA] + [curve_record(5 - g, p, f)]
+        wrong += [curve_record(g, n, f) for n in WRONG_PRIMES]
+        wrong += [curve_record(g, n, [n] * len(f)) for n in (9, 2147483648, 2**64 - 1)]
+        for i in range(len(f)):
+            for c in (p, p - 1, p + 1, 2**32, 2**64 - 1):
+                wrong.append(curve_record(g, p, f[:i] + [c] + f[i + 1 :]))
+        for record in wrong:
+            collection.put(Frame(CHECK_CURVE, record))
+        for record in wrong[:: 5]:
+            collection.put(Frame(REWRITE_CURVE, record, b"", b"", MOST_OUTPUT))
+        # six bytes are looked at, five are not
+        for mark, version, genus in itertools.product((b"HJC", b"HJX"), (1, 2), (g, 4)):
+            for length in (5, 6, 7, len(good) - 1):
+                collection.put(Frame(CHECK_CURVE, curve_record(genus, p, f, mark, version)[:length]))
+    # repeated factors: (x - a)²·rest, a derivative of 0, a quadratic factor twice
+    for g, p in itertools.product(GENERA, PRIMES):
+        for _ in range(6):
+            factor = tuple(dice.below(p) for _ in range(1 + dice.below(g))) + (1,)
+            square = r.times(factor, factor, p)
+            rest = tuple(dice.below(p) for _ in range(2 * g + 2 - len(square))) + (1,)
+            f = r.times(square, rest, p)
+            record = curve_record(g, p, f[:-1])
+            collection.put(Frame(CHECK_CURVE, record))
+            collection.put(Frame(REWRITE_CURVE, record, b"", b"", dice.pick([0, 53, 54, 70])))
+        if p == 2 * g + 1 or (g == 3 and p == 7):
+            collection.put(Frame(CHECK_CURVE, curve_record(g, p, [p - 1] + [0] * (2 * g))))
+
+
+def put_every_divisor_fault(dice, collection, pools):
+    """Every coefficient by itself, every length, every weight byte; scalars over 32 bytes."""
+    for pool in pools:
+        g, p = pool.curve.g, pool.curve.p
+        by_weight = {}
+        for _ in range(200):
+            a = pool.anything()
+            by_weight.setdefault(r.weight(a), a)
+        for w, a in sorted(by_weight.items()):
+            good = r.write_divisor(a)
+            numbers = list(a.u[:w]) + list(a.v) + [0] * (w - len(a.v))
+            wrong = []
+            for i in range(2 * w):
+                for c in (p, numbers[i] + p, p - 1, 2**32, 2**64 - 1):
+                    changed = numbers[:i] + [c] + numbers[i + 1 :]
+                    wrong.append(divisor_record(changed[:w], changed[w:]))
+                if numbers[i] + 1 < p:
+                    changed = numbers[:i] + [numbers[i] + 1] + numbers[i + 1 :]
+                    wrong.append(divisor_record(changed[:w], changed[w:]))
+            wrong += [good[:n] for n in (0, 1, 2, 16, 17, 32, 33) if n < len(good)] + [good[:-1]]
+            wrong += [good + bytes(n) for n in (1, 16, 17)] + [bytes([n]) + good[1:] for n in (0, 1, 2, 3, 4, 255)]
+            other = r.write_divisor(pool.anything())
+            for record in wrong:
+                collection.put(Frame(CHECK_DIVISOR, pool.record, record))
+                if dice.below(5) == 0:
+                    output = dice.pick([0, 33, 49, 64])
+                    operation = dice.pick([REWRITE_DIVISOR, DOUBLE, OPPOSITE, ADD, ADD, MULTIPLY, SCAN])
+                    if operation == ADD:
+                        pair = (record, other) if dice.below(3) == 0 else (other, record)
+                        collection.put(Frame(ADD, pool.record, *pair, output))
+                    elif operation == MULTIPLY:
+                        collection.put(Frame(MULTIPLY, pool.record, record, dice.some_bytes(dice.pick([1, 33])), output))
+                    elif operation == SCAN:
+                        total = r.flat_total(pool.anything(), dice.below(4096))
+                        collection.put(Frame(SCAN, pool.record, record, b"", 0, total))
+                    else:
+                        collection.put(Frame(operation, pool.record, record, b"", output))
+            for scalar in (b"\0" * 32, b"\0" * 33, b"\0" * 32 + b"\1", dice.some_bytes(34), dice.some_bytes(64)):
+                collection.put(Frame(MULTIPLY, pool.record, good, scalar, dice.pick([0, 49])))
+
+
+def put_every_total_fault(dice, collection, pools):
+    """Every number of a running total by itself, with a count below, at and above 4,096, before a good record and
+    before a wrong one: 15 wins over 14, and both over the record."""
+    for pool in pools:
+        g, p = pool.curve.g, pool.curve.p
+        by_weight = {0: r.NEUTRAL}
+        for _ in range(200):
+            a = pool.anything()
+            by_weight.setdefault(r.weight(a), a)
+        for w, a in sorted(by_weight.items()):
+            good = r.flat_total(a, 0)[:7]
+            totals = [good] + [(n,) + good[1:] for n in (0, 1, 2, 3, 4, 256 + w, 2**32 + w, 2**64 - 1)]
+            for i in range(1, 7):
+                for c in (1, p - 1, p, good[i] + p, 2**32, 2**64 - 1):
+                    totals.append(good[:i] + (c,) + good[i + 1 :])
+            for total in totals:
+                count = dice.pick([0, 1, 4095, 4096, 4096, 4097, 2**32, 2**64 - 1])
+                record = dice.pick([r.write_divisor(pool.anything())] * 3 + [b"", b"\xff", divisor_record([p], [0])])
+                collection.put(Frame(SCAN, pool.record, record, b"", 0, total + (count,)))
+
+
+def put_long_batches(dice, collection, pools_of):
+    """4,096 and 4,097 records, kept small by neutral ones; thousands of different points."""
+    pool = pools_of[2, 2147483647][0]
+    points = []
+    x = 1
+    while len(points) < 4000:
+        x += 1 + dice.below(1000)
+        y = square_root(value_at(pool.curve.f, x, pool.curve.p), pool.curve.p)
+        if y:
+            points.append(divisor_record([pool.curve.p - x], [y if dice.below(2) else pool.curve.p - y]))
+    collection.put(Frame(FIRST_REPEAT, pool.record, b"".join(points)))
+    collection.put(Frame(FIRST_REPEAT, pool.record, b"".join(points[:2000] + points[:1])))
+    collection.put(Frame(TOTAL_BATCH, pool.record, b"".join(points[:1000]), b"", 33))
+    for key in ((3, 11), (2, 2147483647), (3, 65537)):
+        pool = pools_of[key][0]
+        heavy = [r.write_divisor(pool.anything()) for _ in range(30)]
+        full = dice.turned(heavy + [NEUTRAL_RECORD] * 4066)
+        bad = divisor_record([pool.curve.p], [0])
+        for batch, output in (
+            (full, 49),
+            (full + [NEUTRAL_RECORD], 49),
+            (full + [b"\xff"], 0),
+            (full[:-1] + [bad], 49),
+            (full[:-1] + [bad, NEUTRAL_RECORD], 0),
+            (full[:-1] + [b"\1"], 49),
+        )[: 6 if key == (3, 11) else 2]:
+            collection.put(Frame(TOTAL_BATCH, pool.record, b"".join(batch), b"", output))
+            collection.put(Frame(FIRST_REPEAT, pool.record, b"".join(batch)))
+    for fault in ("1b", "7"):
+        curve = faulty_curve(dice, pool.curve, [fault])
+        collection.put(Frame(TOTAL_BATCH, curve, NEUTRAL_RECORD * 4097, b"", 49))
+        collection.put(Frame(FIRST_REPEAT, curve, NEUTRAL_RECORD * 4097))
+
+
+def made(seed):
+    dice, collection = Dice(seed), Collection()
+    pools_of = {}
+    for g, p in itertools.product(GENERA, PRIMES):
+        pools = pools_of[g, p] = pools_for(dice, g, p)
+        put_sums(dice, collection, g, p, pools)
+        put_doubles_and_opposites(dice, collection, pools)
+        put_multiples(dice, collection, pools)
+        put_batches(dice, collection, pools)
+        put_scans(dice, collection, pools)
+        put_checks(dice, collection, pools)
+    faulty = [pools_of[g, p][k] for g in GENERA for p in (7, 11, 13, 65537, 2147483647) for k in (0, 1)]
+    put_refusals(dice, collection, faulty)
+    put_every_curve_fault(dice, collection)
+    put_every_divisor_fault(dice, collection, [pools_of[key][1] for key in ((2, 7), (3, 11), (2, 2147483647), (3, 2147483647))])
+    put_every_total_fault(dice, collection, [pools_of[key][1] for key in ((2, 7), (3, 11), (2, 2147483647), (3, 65537))])
+    put_long_batches(dice, collection, pools_of)
+    return collection
+
+
+# ---------------------------------------------------------------------------------------------------------
+# The census: from the frames alone, as they are read back
+# ---------------------------------------------------------------------------------------------------------
+
+
+class Census:
+    def __init__(self, frames, orders):
+        self.frames, self.orders = frames, orders
+        self.kinds = {(g, p): Counter() for g in GENERA for p in PRIMES}
+        self.done = Counter()
+        self.numbers = Counter()
+        self.outputs = Counter()
+        self.batches = Counter()
+        self.done_per_curve = Counter()
+        self.longest = Counter()
+        self.shapes = Counter()
+        self.text = []
+        for frame in frames:
+            self.take(frame)
+
+    def take(self, frame):
+        answered = fields, out = answer(frame)
+        self.text.append(text_of(frame, answered))
+        number, operation = fields[0], frame.operation
+        self.numbers[operation, number] += 1
+        for name in ("curve", "first", "second"):
+            self.longest[NAMES[operation], name] = max(self.longest[NAMES[operation], name], len(getattr(frame, name)))
+        if operation in WITH_OUTPUT:
+            if number == 13:
+                self.outputs["below the need"] += 1
+                self.outputs["below the need by one"] += need_of(frame) - 1 == frame.output
+                self.outputs["empty"] += frame.output == 0
+            elif number == 0:
+                self.outputs["equal to the need" if frame.output == fields[2] else "above the need"] += 1
+            else:
+                self.outputs["kept whole on another refusal"] += 1
+            kept = out[fields[2] :]
+            if kept != bytes([GUARD]) * len(kept) or len(out) != frame.output:
+                raise AssertionError("a guard byte is changed")
+        if operation in (TOTAL_BATCH, FIRST_REPEAT):
+            if number == 0:
+                curve = r.read_curve(frame.curve)
+                size = len(r.read_batch(curve, frame.first))
+                self.batches["empty" if size == 0 else "of one" if size == 1 else "of 4,096" if size == 4096 else "longer"] += 1
+                if operation == FIRST_REPEAT:
+                    self.batches["a repeat" if fields[4] else "no repeat"] += 1
+            elif number == 8:
+                self.batches["a cut last record"] += 1
+            elif number == 14:
+                self.batches["over 4,096"] += 1
+        if number != 0:
+            return
+        self.done[operation] += 1
+        curve = r.read_curve(frame.curve)
+        key = curve.g, curve.p
+        self.done_per_curve[key, operation] += 1
+        if operation == ADD and key in self.kinds:
+            a, b = r.read_divisor(curve, frame.first, 1), r.read_divisor(curve, frame.second, 2)
+            self.kinds[key].update(kinds_of_sum(curve, a, b))
+            self.shapes[shape_of_sum(curve, a, b)] += 1
+        if operation == DOUBLE and has_flat_point(curve, r.read_divisor(curve, frame.first, 1)):
+            self.done_per_curve[key, "flat double"] += 1
+
+    def shortfalls(self):
+        short = []
+
+        def need(what, count, least):
+            if count < least:
+                short.append("%s: %d of %d" % (what, count, least))
+
+        calls = (ADD, DOUBLE, OPPOSITE, MULTIPLY, TOTAL_BATCH, SCAN, FIRST_REPEAT)
+        need("sums, doubles, opposites, multiples, totals, scans, repeats", sum(self.done[o] for o in calls), 2000)
+        for (g, p), kinds in self.kinds.items():
+            for kind in KINDS:
+                if kind != TWO_STEPS or g == 3:
+                    need("g = %d, p = %d: %s" % (g, p, kind), kinds[kind], ENOUGH)
+            if g == 2 and kinds[TWO_STEPS]:
+                short.append("two reductions in genus 2")
+            for operation in calls:
+                need("g = %d, p = %d: %s" % (g, p, NAMES[operation]), self.done_per_curve[(g, p), operation], 5)
+        for shape in SHAPES:
+            least = 9 if shape == (2, 0, 0, 0, 0) or shape == (3, 0, 0, 0, 0) else ENOUGH
+            need("shape %d %d %d %d %d" % shape, self.shapes[shape], least)
+        if set(self.shapes) - set(SHAPES):
+            short.append("shapes that can't be: %s" % (set(self.shapes) - set(SHAPES)))
+        for number in range(16):
+            need("number %d" % number, sum(n for (_, k), n in self.numbers.items() if k == number), 10)
+        for what in ("below the need", "below the need by one", "empty", "equal to the need", "above the need"):
+            need("outputs " + what, self.outputs[what], ENOUGH)
+        for what, least in (
+            ("empty", 10), ("of one", 10), ("of 4,096", 2), ("over 4,096", 2), ("a cut last record", 10), ("a repeat", 50),
+            ("no repeat", 50),
+        ):  # fmt: skip
+            need("batches: " + what, self.batches[what], least)
+        # Neighbours in the order: each two stages that follow each other and can go together, in every call.
+        for operation in range(CHECK_CURVE, SCAN + 1):
+            stages = ["%s %s" % stage for stage in Base(None, operation, None).stages]
+            for one, other in zip(stages, stages[1:]):
+                empty_with_more = one.endswith("8a")  # an empty record has no other fault
+                in_batch = operation in (TOTAL_BATCH, FIRST_REPEAT) and (one.endswith("8a") or other.endswith("8a"))
+                if not empty_with_more and not in_batch:
+                    need("%s: %s before %s" % (NAMES[operation], one, other), self.orders[NAMES[operation], one, other], 1)
+        return short
+
+    def lines(self, size):
+        yield "%d frames, %d bytes of input, %d bytes of expected text" % (len(self.frames), size, sum(map(len, self.text)))
+        yield ""
+        yield "calls by number answered"
+        yield "%-16s" % "" + "".join("%6d" % number for number in range(16)) + "     all"
+        for operation in range(CHECK_CURVE, SCAN + 1):
+            row = [self.numbers[operation, number] for number in range(16)]
+            yield "%-16s" % NAMES[operation] + "".join("%6d" % n if n else "     ." for n in row) + "%8d" % sum(row)
+        row = [sum(self.numbers[o, number] for o in range(12)) for number in range(16)]
+        yield "%-16s" % "all" + "".join("%6d" % n for n in row) + "%8d" % sum(row)
+        yield ""
+        yield "sums that were done, by genus, prime and kind (a sum may be of several kinds)"
+        yield "%-14s" % "" + "".join("%16s" % kind for kind in KINDS) + "     all"
+        for (g, p), kinds in self.kinds.items():
+            row = "".join("%16d" % kinds[kind] for kind in KINDS)
+            yield "%d %-12d" % (g, p) + row + "%8d" % self.done_per_curve[(g, p), ADD]
+        yield ""
+        others = (DOUBLE, "flat double", OPPOSITE, MULTIPLY, TOTAL_BATCH, FIRST_REPEAT, SCAN)
+        yield "other calls that were done, by genus and prime"
+        yield "%-14s" % "" + "".join("%14s" % (o if isinstance(o, str) else NAMES[o]) for o in others)
+        for key in self.kinds:
+            yield "%d %-12d" % key + "".join("%14d" % self.done_per_curve[key, o] for o in others)
+        yield ""
+        yield "shapes of sums: g, degree of d, degree composed, reductions, weight of the result: how many"
+        shapes = ["%d %d %d %d %d: %d" % (shape + (n,)) for shape, n in sorted(self.shapes.items())]
+        for k in range(0, len(shapes), 6):
+            yield "   ".join("%-15s" % shape for shape in shapes[k : k + 6])
+        yield ""
+        yield "outputs: " + ", ".join("%s %d" % pair for pair in sorted(self.outputs.items()))
+        yield "batches: " + ", ".join("%s %d" % pair for pair in sorted(self.batches.items()))
+        singles = sum(1 for order in self.orders if len(order) == 2)
+        yield "refusals: %d stages by themselves, %d pairs of faults where the earlier must win" % (
+            singles,
+            len(self.orders) - singles,
+        )
+        for name in ("curve", "first", "second"):
+            yield "longest %s: %d bytes" % (name, max(n for (_, k), n in self.longest.items() if k == name))
+
+
+def sums_by_ideals(frames):
+    """Every sum and double that was done, once more by the other method; answers how many."""
+    checked = 0
+    for frame in frames:
+        if frame.operation not in (ADD, DOUBLE):
+            continue
+        (number, _, length), out = answer(frame)
+        if number == 0:
+            curve = r.read_curve(frame.curve)
+            a = r.read_divisor(curve, frame.first, 1)
+            b = r.read_divisor(curve, frame.second, 2) if frame.operation == ADD else a
+            got = ideals.sum_by_ideals(curve.g, curve.p, curve.f, a, b)
+            if r.write_divisor(r.Divisor(*got)) != out[:length]:
+                raise AssertionError("the two methods differ on %r" % (frame,))
+            checked += 1
+    return checked
+
+
+def main():
+    parser = argparse.ArgumentParser(description="makes or checks the test vectors", epilog="see the head of the file")
+    parser.add_argument("seed")
+    parser.add_argument("--check", action="store_true")
+    root = os.path.join(os.path.dirname(os.path.abspath(__file__)), "..", "crates", "vectors")
+    parser.add_argument("--input", default=os.path.normpath(os.path.join(root, "data", "vectors")))
+    parser.add_argument("--expected", default=os.path.normpath(os.path.join(root, "stdout")))
+    options = parser.parse_args()
+
+    collection = made(options.seed)
+    data = b"".join(map(encoded, collection.frames))
+    if options.check:
+        with open(options.input, "rb") as file:
+            given = file.read()
+        with open(options.expected, "rb") as file:
+            expected = file.read().decode("ascii")
+    else:
+        given, expected = data, None
+    census = Census(decoded(given), collection.orders)
+    text = "".join(census.text)
+    for line in census.lines(len(given)):
+        print(line)
+    short = census.shortfalls()
+    if len(given) > MOST_BYTES:
+        short.append("%d bytes of input, over %d" % (len(given), MOST_BYTES))
+    if options.check:
+        if given != data:
+            short.append("the input isn't what seed %s makes" % options.seed)
+        if expected != text:
+            short.append("the expected text isn't what the frames answer")
+        print("%d sums and doubles agree with ideals.py" % sums_by_ideals(census.frames))
+    else:
+        for path, content in ((options.input, given), (options.expected, text.encode("ascii"))):
+            os.makedirs(os.path.dirname(os.path.abspath(path)), exist_ok=True)
+            with open(path, "wb") as file:
+                file.write(content)
+    for line in short:
+        print("SHORT " + line)
+    print("the census is complete" if not short else "the census falls short")
+    return 1 if short else 0
+
+
+if __name__ == "__main__":
+    sys.exit(main())
