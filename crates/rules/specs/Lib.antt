@@ -3,3 +3,7 @@ pub mod Pair
 pub mod Sum
 pub mod Multiple
 pub mod Tests
+pub mod Bytes
+pub mod Records
+pub mod Lists
+pub mod Calls

@@ -1,0 +1,64 @@
+-- Document 01, "The pole's list" and, of "The sum", the batch: records one after the other, 14 after 4,096 good ones and before the next is
+-- looked at; and the first repeat, least j, then least i < j.
+use Prim.Native.Nat.{ℕ, zero, suc, _+_, _*_}
+use mathlib.Core.List.{List, [], _∷_, _++_}
+use mathlib.Core.Bool.{Bool, true, false}
+use lib.Dec.{leb}
+use lib.ListN.{getD, length}
+use Rattle.algebra.proofs.zmod.Zmod.{zmod, zmod-dec}
+use Rattle.algebra.proofs.zmod.PrimeField.{modulo}
+use Rattle.rules.specs.Pair.{Pair}
+use Rattle.rules.specs.Records.{Checked, refused, taken, choose, both, CurveRecord, PairOf, divisor-at}
+
+abbrev pub most : ℕ
+most = 4096
+
+-- what a batch comes to, and how many records it has: from `from`, each record goes in by `step`
+pub record Batch (A : Type 0) : Type 0 where
+  pub result : A
+  pub count : ℕ
+
+module _ {A : Type 0} (c : CurveRecord) (step : A → PairOf c → A) (s : List ℕ) where
+  -- k records stand before place a; `left` more may follow
+  unfoldable pub batch-from : ℕ → ℕ → ℕ → A → Checked (Batch A)
+  unfolding divisor-at
+  batch-from zero a k from = choose (leb (length s) a) (taken (record { result = from; count = k })) (refused 14 0)
+  batch-from (suc left) a k from =
+      choose (leb (length s) a) (taken (record { result = from; count = k }))
+      (elim (divisor-at c (k + 1) false s a) [ refused n place ↦ refused n place | taken d ↦ batch-from left (a + 1 + 16 * getD s a 0) (k + 1) (step from d) ])
+
+  abbrev pub batch : A → Checked (Batch A)
+  batch from = batch-from most 0 0 from
+
+-- ---- the first repeat: places are counted from 1, and 0 says none
+pub record Repeat : Type 0 where
+  pub first : ℕ
+  pub second : ℕ
+
+module _ (p : ℕ) where
+  unfoldable pub same-list? : List (zmod p .El) → List (zmod p .El) → Bool
+  unfolding zmod-dec
+  same-list? [] [] = true
+  same-list? [] (y ∷ m) = false
+  same-list? (x ∷ l) [] = false
+  same-list? (x ∷ l) (y ∷ m) = elim (zmod-dec p x y) [ yes e ↦ same-list? l m | no n ↦ false ]
+
+  -- two meters are the same when their divisors are equal
+  unfoldable pub same? : Pair (modulo p) → Pair (modulo p) → Bool
+  unfolding same-list?
+  same? a b = both (same-list? (a .u) (b .u)) (same-list? (a .v) (b .v))
+
+  -- the place of the first of l that is the same as a
+  unfoldable pub place-of : Pair (modulo p) → List (Pair (modulo p)) → ℕ
+  unfolding same?
+  place-of a [] = 0
+  place-of a (b ∷ l) = choose (same? b a) 1 (elim (place-of a l) [ zero ↦ 0 | suc k ↦ suc (suc k) ])
+
+  -- those of `seen` are all different
+  unfoldable pub repeat-from : List (Pair (modulo p)) → List (Pair (modulo p)) → Repeat
+  unfolding place-of
+  repeat-from seen [] = record { first = 0; second = 0 }
+  repeat-from seen (a ∷ l) = elim (place-of a seen) [ zero ↦ repeat-from (seen ++ (a ∷ [])) l | suc i ↦ record { first = suc i; second = suc (length seen) } ]
+
+  abbrev pub first-repeat : List (Pair (modulo p)) → Repeat
+  first-repeat l = repeat-from [] l

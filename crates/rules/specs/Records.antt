@@ -1,0 +1,124 @@
+-- Document 01, "The records" and, of "Numbers the tablet shows", the numbers 1 to 11 in their order: what a curve record and a divisor
+-- record are read as, a check a line, and what bytes they are written as.
+use Prim.Native.Nat.{ℕ, suc, _+_, _*_}
+use mathlib.Core.List.{List, [], _∷_, _++_}
+use mathlib.Core.Bool.{Bool, true, false}
+use lib.Dec.{eqb, ltb, leb}
+use lib.ListN.{getD, length}
+use Rattle.algebra.proofs.zmod.Zmod.{zmod, emb, num}
+use Rattle.algebra.proofs.zmod.Prime.{is-prime}
+use Rattle.algebra.proofs.zmod.PrimeField.{modulo}
+use Rattle.rules.specs.Bytes.{word64, words, bytes64, all-bytes}
+use Rattle.rules.specs.Curve.{Curve}
+use Rattle.rules.specs.Pair.{Pair}
+use Rattle.rules.specs.Tests.{on-curve?, square-free?}
+
+-- a number other than 0 with its place, or what was read
+pub data Checked (A : Type 0) : Type 0 where
+  refused : ℕ → ℕ → Checked A
+  taken : A → Checked A
+
+abbrev pub choose : {A : Type 0} → Bool → A → A → A
+choose true a b = a
+choose false a b = b
+
+abbrev pub both : Bool → Bool → Bool
+both true b = b
+both false b = false
+
+abbrev pub either : Bool → Bool → Bool
+either true b = true
+either false b = b
+
+-- the limit of p
+abbrev pub limit : ℕ
+limit = 2147483647
+
+-- an odd prime within the limit
+unfoldable pub odd-prime? : ℕ → Bool
+unfolding is-prime
+odd-prime? p = both (leb 3 p) (both (leb p limit) (is-prime p))
+
+-- every number is below p
+unfoldable pub below? : ℕ → List ℕ → Bool
+below? p [] = true
+below? p (x ∷ l) = both (ltb x p) (below? p l)
+
+-- numbers as elements of Z/p, and back
+unfoldable pub elements : (p : ℕ) → List ℕ → List (zmod p .El)
+elements p [] = []
+elements p (x ∷ l) = emb p x ∷ elements p l
+
+unfoldable pub numbers : (p : ℕ) → List (zmod p .El) → List ℕ
+numbers p [] = []
+numbers p (x ∷ l) = num p x ∷ numbers p l
+
+-- ---- the curve record: the mark HJC, a 16-bit version, g, p, then f_0 up to f_2g
+pub record CurveRecord : Type 0 where
+  pub p : ℕ
+  pub g : ℕ
+  pub low : List (zmod p .El)
+
+abbrev pub curve : CurveRecord → Curve
+curve c = record { K = modulo (c .p); g = c .g; low = c .low }
+
+abbrev pub PairOf : CurveRecord → Type 0
+PairOf c = Pair (modulo (c .p))
+
+unfoldable pub read-curve : List ℕ → Checked CurveRecord
+unfolding word64 words odd-prime? below? elements square-free?
+read-curve s =
+    let g : ℕ = getD s 5 0 in
+    let p : ℕ = word64 s 6 in
+    let f : List ℕ = words s 14 (suc (g + g)) in
+    let c : CurveRecord = record { p = p; g = g; low = elements p f } in
+    choose (ltb (length s) 6) (refused 1 0)
+    (choose (both (eqb (getD s 0 0) 72) (both (eqb (getD s 1 0) 74) (eqb (getD s 2 0) 67)))
+    (choose (eqb (getD s 3 0 * 256 + getD s 4 0) 1)
+    (choose (either (eqb g 2) (eqb g 3))
+    (choose (eqb (length s) (22 + 16 * g))
+    (choose (odd-prime? p)
+    (choose (below? p f)
+    (choose (square-free? (curve c)) (taken c)
+    (refused 7 0))
+    (refused 6 0))
+    (refused 5 0))
+    (refused 1 0))
+    (refused 4 0))
+    (refused 3 0))
+    (refused 2 0))
+
+unfoldable pub curve-bytes : CurveRecord → List ℕ
+unfolding bytes64 all-bytes numbers
+curve-bytes c = 72 ∷ 74 ∷ 67 ∷ 0 ∷ 1 ∷ c .g ∷ (bytes64 (c .p) ++ all-bytes (numbers (c .p) (c .low)))
+
+-- ---- the divisor record: one byte of weight w, then u_0 to u_(w-1), then v_0 to v_(w-1)
+-- it stands at place a, is the k-th, and takes up all that is left where it is whole
+abbrev pub fits : Bool → ℕ → ℕ → Bool
+fits true end all = eqb all end
+fits false end all = leb end all
+
+unfoldable pub divisor-at : (c : CurveRecord) → ℕ → Bool → List ℕ → ℕ → Checked (PairOf c)
+unfolding words below? elements on-curve?
+divisor-at c k whole s a =
+    let w : ℕ = getD s a 0 in
+    let u : List ℕ = words s (a + 1) w in
+    let v : List ℕ = words s (a + 1 + 8 * w) w in
+    let d : PairOf c = record { u = elements (c .p) u; v = elements (c .p) v } in
+    choose (ltb a (length s))
+    (choose (leb w (c .g))
+    (choose (fits whole (a + 1 + 16 * w) (length s))
+    (choose (both (below? (c .p) u) (below? (c .p) v))
+    (choose (on-curve? (curve c) d) (taken d)
+    (refused 11 k))
+    (refused 10 k))
+    (refused 8 k))
+    (refused 9 k))
+    (refused 8 k)
+
+abbrev pub read-divisor : (c : CurveRecord) → ℕ → List ℕ → Checked (PairOf c)
+read-divisor c k s = divisor-at c k true s 0
+
+unfoldable pub divisor-bytes : (p : ℕ) → Pair (modulo p) → List ℕ
+unfolding all-bytes numbers
+divisor-bytes p a = length (a .u) ∷ (all-bytes (numbers p (a .u)) ++ all-bytes (numbers p (a .v)))
