@@ -1,16 +1,12 @@
 -- Document 01, "The records": all numbers in records are big-endian; a scalar is 0 to 32 bytes, unsigned, empty means 0, leading zeros are
 -- allowed. A byte is a number below 256, bytes are a list of them.
 use Prim.Native.Nat.{ℕ, zero, suc, _+_, _*_, _/_, _%_}
-use mathlib.Core.List.{List, [], _∷_, _++_}
+use mathlib.Core.List.{List, [], _∷_, _++_, foldl}
 use lib.ListN.{getD}
 
 -- the number of any bytes
-unfoldable pub number-from : ℕ → List ℕ → ℕ
-number-from n [] = n
-number-from n (b ∷ s) = number-from (n * 256 + b) s
-
-abbrev pub number : List ℕ → ℕ
-number s = number-from 0 s
+unfoldable pub number : List ℕ → ℕ
+number s = foldl (λ (n b : ℕ). 256 * n + b) 0 s
 
 -- the numbers of the four and of the eight bytes at place a
 abbrev pub word32 : List ℕ → ℕ → ℕ

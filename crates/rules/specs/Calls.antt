@@ -90,7 +90,7 @@ abbrev pub multiplied : Written → ℕ → Multiplied
 multiplied w n = choose (eqb (w .answer .number) 0) (record { written = w; doublings = doublings n; additions = additions n }) (record { written = w; doublings = 0; additions = 0 })
 
 unfoldable pub multiply-call : List ℕ → List ℕ → List ℕ → List ℕ → Multiplied
-unfolding read-curve divisor-bytes multiple doublings additions
+unfolding number read-curve divisor-bytes multiple doublings additions
 multiply-call s a scalar out =
     check (read-curve s) (not-multiplied out) (λ c.
     check (read-divisor c 1 a) (not-multiplied out) (λ x.

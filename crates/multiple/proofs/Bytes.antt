@@ -1,0 +1,56 @@
+-- A scalar by its bytes, in order. Gives: the number with one byte more, and its ones; that bit k of the whole number is bit k % 8 of the byte
+-- that is k / 8 bytes from the end.
+use Prim.Native.Nat.{ℕ, zero, suc, _+_, _-_, _*_, _/_, _%_, _^_, _≤_, _<_}
+use mathlib.Core.Path.{_≡_, sym, ap, _∙_}
+use mathlib.Core.List.{List, [], _∷_, foldl-append}
+use native.Mathlib.Numerals.{add-one}
+use native.Mathlib.Omega.{arith}
+use native.Mathlib.Nat.{mod-lt, div-one, div-add-mod}
+use lib.ListN.{length, take, getD}
+use lib.Seq.{take-suc, take-length}
+use lib.Pow.{shr-shr, high}
+use lib.Bits.{block-half, block-odd}
+use lib.Count.{ones, ones-cat}
+use Rattle.rules.specs.Bytes.{number}
+
+-- ---- the bits below a block
+bit-below : (w r a b : ℕ) → r < w → (a * 2 ^ w + b) / 2 ^ r % 2 ≡ b / 2 ^ r % 2
+bit-below zero r a b l = absurd (omega arith)
+bit-below (suc w) zero a b l = ap (λ n. n % 2) (div-one (a * 2 ^ suc w + b)) ∙ block-odd a w b ∙ ap (λ n. n % 2) (sym (div-one b))
+bit-below (suc w) (suc r) a b l = ap (λ n. n % 2) (lower (a * 2 ^ suc w + b) ∙ ap (λ n. n / 2 ^ r) (block-half a w b)) ∙ bit-below w r a (b / 2) (omega arith) ∙ ap (λ n. n % 2) (sym (lower b))
+  where
+    lower : (n : ℕ) → n / 2 ^ suc r ≡ n / 2 / 2 ^ r
+    lower n = ap (λ k. n / 2 ^ k) {x = suc r} {y = 1 + r} (omega arith) ∙ sym (shr-shr n 1 r)
+
+module _ (s : List ℕ) where
+  -- ---- one byte more
+  pub number-more : (i : ℕ) → i < length s → number (take (i + 1) s) ≡ 256 * number (take i s) + getD s i 0
+  unfolding number
+  number-more i l = ap (λ n. number (take n s)) (add-one i) ∙ ap number (take-suc s i 0 l) ∙ foldl-append (λ n b. 256 * n + b) 0 (take i s) (getD s i 0 ∷ [])
+
+  -- the same in bits
+  more-bits : (i : ℕ) → i < length s → number (take (i + 1) s) ≡ number (take i s) * 2 ^ 8 + getD s i 0
+  more-bits i l = omega (arith, number-more i l)
+
+  pub number-all : number (take (length s) s) ≡ number s
+  number-all = ap number (take-length s)
+
+  module _ (bytes : (i : ℕ) → getD s i 0 < 256) where
+    pub ones-more : (i : ℕ) → i < length s → ones (number (take (i + 1) s)) ≡ ones (number (take i s)) + ones (getD s i 0)
+    ones-more i l = ap ones (more-bits i l) ∙ ones-cat 8 (number (take i s)) (getD s i 0) (bytes i)
+
+    -- ---- the last j bytes taken off
+    front : (j : ℕ) → j ≤ length s → number s / 2 ^ (j * 8) ≡ number (take (length s - j) s)
+    front zero l = div-one (number s) ∙ sym number-all ∙ ap (λ k. number (take k s)) {x = length s} {y = length s - 0} (omega arith)
+    front (suc j) l = ap (λ k. number s / 2 ^ k) {x = suc j * 8} {y = j * 8 + 8} (omega arith) ∙ sym (shr-shr (number s) (j * 8) 8)
+        ∙ ap (λ n. n / 2 ^ 8) (front j (omega arith) ∙ ap (λ k. number (take k s)) {x = length s - j} {y = length s - suc j + 1} (omega arith) ∙ more-bits (length s - suc j) (omega arith))
+        ∙ high (number (take (length s - suc j) s)) 8 (bytes (length s - suc j))
+
+    pub bit-is : (k i : ℕ) → i + k / 8 + 1 ≡ length s → getD s i 0 / 2 ^ (k % 8) % 2 ≡ number s / 2 ^ k % 2
+    bit-is k i e = sym (ap (λ n. n % 2) (split ∙ ap (λ n. n / 2 ^ (k % 8)) here) ∙ bit-below 8 (k % 8) (number (take i s)) (getD s i 0) (mod-lt k (omega arith)))
+      where
+        split : number s / 2 ^ k ≡ number s / 2 ^ (k / 8 * 8) / 2 ^ (k % 8)
+        split = ap (λ j. number s / 2 ^ j) {x = k} {y = k / 8 * 8 + k % 8} (omega (arith, div-add-mod k 8)) ∙ sym (shr-shr (number s) (k / 8 * 8) (k % 8))
+
+        here : number s / 2 ^ (k / 8 * 8) ≡ number (take i s) * 2 ^ 8 + getD s i 0
+        here = front (k / 8) (omega arith) ∙ ap (λ j. number (take j s)) {x = length s - k / 8} {y = i + 1} (omega arith) ∙ more-bits i (omega arith)
