@@ -18,18 +18,12 @@ use Rattle.poly.specs.Contracts.{Divided as PolyDivided}
 use Rattle.poly.proofs.Division.{monic-of}
 use Rattle.poly.proofs.Lengths.{none-is, is-none}
 use Rattle.divisor.specs.declared.Divisor.{Divisor}
-use Rattle.divisor.specs.declared.Divisor.the-variants.{Neutral, One, Two, Three}
-use Rattle.divisor.specs.Divisors.{weightOf, pair}
+use Rattle.divisor.specs.Divisors.{pair}
+use Rattle.divisor.proofs.Laws.{weight-le}
 use Rattle.cantor.specs.declared.Mumford.{Mumford}
 use Rattle.curve.specs.declared.Curve.{Curve}
 use Rattle.curve.specs.Pairs.{AsPair}
 use Rattle.curve.specs.Curves.{curveOf, Sound, Divided}
-
-weight-le : (d : Divisor) → weightOf d ≤ 3
-weight-le Neutral = omega arith
-weight-le (One d) = omega arith
-weight-le (Two d) = omega arith
-weight-le (Three d) = omega arith
 
 pub square-fits : (m : Modulus) (d : Divisor) (x : Mumford) → AsPair m d x → x .v .n + x .v .n ≤ 17
 square-fits m d x h = omega (arith, h .n-v, weight-le d)

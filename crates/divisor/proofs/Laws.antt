@@ -1,6 +1,6 @@
 -- Divisors as pairs. Gives: the weight is the length of u and of v; held divisors that stand for one pair are one value; divisors of
 -- different weights are different; the neutral divisor is held.
-use Prim.Native.Nat.{ℕ, zero, suc}
+use Prim.Native.Nat.{ℕ, zero, suc, _≤_}
 use mathlib.Core.Path.{_≡_, refl, sym, ap, ap₂, _∙_}
 use mathlib.Core.List.{List, [], _∷_}
 use mathlib.Core.Bool.{Bool, true, false}
@@ -40,6 +40,12 @@ make-is (Three d) = refl
 
 pub same-coefficients : (a b : Divisor) → us a ≡ us b → vs a ≡ vs b → a ≡ b
 same-coefficients a b p q = sym (make-is a) ∙ ap₂ (λ (u v : List Residue). make (length u) u v) p q ∙ make-is b
+
+pub weight-le : (d : Divisor) → weightOf d ≤ 3
+weight-le Neutral = omega arith
+weight-le (One d) = omega arith
+weight-le (Two d) = omega arith
+weight-le (Three d) = omega arith
 
 pub length-us : (d : Divisor) → length (us d) ≡ weightOf d
 length-us Neutral = refl

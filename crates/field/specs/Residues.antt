@@ -12,6 +12,10 @@ use Rattle.field.specs.Primes.{OddPrime}
 unfoldable pub el : (m : Modulus) → Residue → zmod (m .p) .El
 el m r = emb (m .p) (r .0)
 
+-- the number that it is written as, under whatever modulus it was kept
+abbrev pub raw : Residue → ℕ
+raw r = r .0
+
 -- a modulus to calculate with
 pub record Good (m : Modulus) : Type 0 where
   pub prime : OddPrime (m .p)

@@ -161,11 +161,15 @@ pub record Scanned : Type 0 where
 abbrev pub not-scanned : Running → ℕ → ℕ → Scanned
 not-scanned t n k = record { answer = refusal n k; total = t }
 
-unfoldable pub scan-call : Running → List ℕ → List ℕ → Scanned
-unfolding read-curve numbers sum resume
-scan-call t s a =
-    check (read-curve s) (not-scanned t) (λ c.
+-- on a curve that was taken
+unfoldable pub scan-on : CurveRecord → Running → List ℕ → Scanned
+unfolding numbers sum resume
+scan-on c t a =
     check (resume c t) (not-scanned t) (λ x.
     check (read-divisor c 1 a) (not-scanned t) (λ y.
     let z : PairOf c = sum (curve c) x y in
-    record { answer = done 0; total = record { u = numbers (c .p) (z .u); v = numbers (c .p) (z .v); count = t .count + 1 } })))
+    record { answer = done 0; total = record { u = numbers (c .p) (z .u); v = numbers (c .p) (z .v); count = t .count + 1 } }))
+
+unfoldable pub scan-call : Running → List ℕ → List ℕ → Scanned
+unfolding read-curve scan-on
+scan-call t s a = check (read-curve s) (not-scanned t) (λ c. scan-on c t a)

@@ -1,0 +1,100 @@
+-- Calls that begin with a curve and one divisor: each rule goes on from `one-rule`, so what stops that stops the call, with the same number and
+-- place.
+use Prim.Native.Nat.{ℕ, _+_, _*_, _<_}
+use mathlib.Core.Path.{_≡_, refl, sym, ap, ap₂, _∙_, subst}
+use mathlib.Core.Bool.{Bool, true, false}
+use mathlib.Core.List.{List}
+use native.Mathlib.Omega.{arith}
+use lib.Dec.{ltb, leb}
+use lib.ListN.{getD, length}
+use Rattle.rules.specs.Bytes.{words}
+use Rattle.rules.specs.Tests.{on-curve?}
+use Rattle.rules.specs.Records.{Checked, refused, taken, choose, both as both?, fits, below?, elements, CurveRecord, curve, PairOf, read-curve, read-divisor, divisor-at}
+use Rattle.rules.specs.Calls.{check}
+use Rattle.divisor.specs.declared.Divisor.{Divisor}
+use Rattle.records.specs.declared.CurveRead.{CurveRead}
+use Rattle.records.specs.declared.DivisorRead.the-variants.{Taken, Refused}
+use Rattle.records.specs.Read.{recordOf, CurveIs, DivisorIs}
+use Rattle.answers.specs.declared.One.{One}
+use Rattle.answers.specs.Answers.{FirstRead, one-rule, OneIs}
+
+-- a divisor checked on a curve that was taken, then `go`
+after : {R : Type 0} (stop : ℕ → ℕ → R) (go : FirstRead → R) (c : CurveRecord) (d : Checked (PairOf c))
+    → check d stop (λ x. go (c, x)) ≡ check (check d refused (λ x. taken (c, x))) stop go
+after stop go c (refused n k) = refl
+after stop go c (taken x) = refl
+
+both : {R : Type 0} (stop : ℕ → ℕ → R) (go : FirstRead → R) (a : List ℕ) (s : Checked CurveRecord)
+    → check s stop (λ c. check (read-divisor c 1 a) stop (λ x. go (c, x))) ≡ check (check s refused (λ c. check (read-divisor c 1 a) refused (λ x. taken (c, x)))) stop go
+both stop go a (refused n k) = refl
+both stop go a (taken c) = after stop go c (read-divisor c 1 a)
+
+module _ {R : Type 0} (stop : ℕ → ℕ → R) (go : FirstRead → R) (s a : List ℕ) where
+  abbrev whole : R
+  whole = check (read-curve s) stop (λ c. check (read-divisor c 1 a) stop (λ x. go (c, x)))
+
+  pub one-stops : (n k : ℕ) → one-rule s a ≡ refused n k → whole ≡ stop n k
+  one-stops n k e = both stop go a (read-curve s) ∙ ap (λ t. check t stop go) e
+
+  pub one-goes : (x : FirstRead) → one-rule s a ≡ taken x → whole ≡ go x
+  one-goes x e = both stop go a (read-curve s) ∙ ap (λ t. check t stop go) e
+
+-- the curve alone
+module _ {R : Type 0} (stop : ℕ → ℕ → R) (go : CurveRecord → R) (s : List ℕ) where
+  pub curve-stops : (n k : ℕ) → read-curve s ≡ refused n k → check (read-curve s) stop go ≡ stop n k
+  curve-stops n k e = ap (λ t. check t stop go) e
+
+  pub curve-goes : (c : CurveRecord) → read-curve s ≡ taken c → check (read-curve s) stop go ≡ go c
+  curve-goes c e = ap (λ t. check t stop go) e
+
+-- ---- a refusal of a divisor has a number other than 0
+large : {A : Type 0} → Checked A → Type 0
+large (refused n k) = 0 < n
+large (taken a) = Unit {0}
+
+large-choose : {A : Type 0} (b : Bool) (x y : Checked A) → large x → large y → large (choose b x y)
+large-choose true x y p q = p
+large-choose false x y p q = q
+
+pub divisor-refusal : (c : CurveRecord) (k : ℕ) (whole : Bool) (s : List ℕ) (a n j : ℕ) → divisor-at c k whole s a ≡ refused n j → 0 < n
+unfolding divisor-at large
+divisor-refusal c k whole s a n j e = subst large e (large-choose (ltb a (length s)) _ _ (large-choose (leb (getD s a 0) (c .g)) _ _ (large-choose (fits whole (a + 1 + 16 * getD s a 0) (length s)) _ _ (large-choose (both? (below? (c .p) u) (below? (c .p) v)) _ _ (large-choose (on-curve? (curve c) (record { u = elements (c .p) u; v = elements (c .p) v })) _ _ tt (omega arith)) (omega arith)) (omega arith)) (omega arith)) (omega arith))
+  where
+    u : List ℕ
+    u = words s (a + 1) (getD s a 0)
+
+    v : List ℕ
+    v = words s (a + 1 + 8 * getD s a 0) (getD s a 0)
+
+-- ---- what `read_one` answers
+module _ (s a : List ℕ) (x : One) where
+  pub one-none : (r : CurveRead) → CurveIs s r → (r .number ≡ 0 → ⊥) → x .number ≡ r .number → x .place ≡ 0 → OneIs s a x
+  one-none r h n e p = record {
+    sound = λ z. absurd (n (sym e ∙ z));
+    holds = λ z. absurd (n (sym e ∙ z));
+    takes = λ z. absurd (n (sym e ∙ z));
+    refuses = λ z. ap (λ t. check t refused (λ c. check (read-divisor c 1 a) refused (λ y. taken (c, y)))) (h .refuses n) ∙ ap₂ refused (sym e) (sym p);
+  }
+
+  module _ (r : CurveRead) (h : CurveIs s r) (z : r .number ≡ 0) where
+    first : one-rule s a ≡ check (read-divisor (recordOf (r .curve)) 1 a) refused (λ y. taken (recordOf (r .curve), y))
+    first = ap (λ t. check t refused (λ c. check (read-divisor c 1 a) refused (λ y. taken (c, y)))) (h .takes z)
+
+    pub one-taken : (d : Divisor) → DivisorIs (r .curve) true a 0 (Taken d) → x ≡ record { number = 0; place = 0; curve = r .curve; divisor = d } → OneIs s a x
+    one-taken d k e = subst (OneIs s a) (sym e) (record {
+      sound = λ q. h .sound z;
+      holds = λ q. k .0;
+      takes = λ q. first ∙ ap (λ t. check t refused (λ y. taken (recordOf (r .curve), y))) (k .1 1);
+      refuses = λ q. absurd (q refl);
+    })
+
+    pub one-refused : (n : ℕ) (d : Divisor) → DivisorIs (r .curve) true a 0 (Refused n) → x ≡ record { number = n; place = 1; curve = r .curve; divisor = d } → OneIs s a x
+    one-refused n d k e = subst (OneIs s a) (sym e) (record {
+      sound = λ q. absurd (omega (arith, some));
+      holds = λ q. absurd (omega (arith, some));
+      takes = λ q. absurd (omega (arith, some));
+      refuses = λ q. first ∙ ap (λ t. check t refused (λ y. taken (recordOf (r .curve), y))) (k 1);
+    })
+      where
+        some : 0 < n
+        some = divisor-refusal (recordOf (r .curve)) 1 true a 0 n 1 (k 1)

@@ -1,0 +1,3 @@
+pub mod Firsts
+pub mod Written
+pub mod Calls

@@ -1,0 +1,74 @@
+-- Records at the front of an output: 13 where it is shorter, and what stands there where it is not.
+use Prim.Native.Nat.{ℕ, suc, _+_, _*_, _≤_, _<_}
+use mathlib.Core.Path.{_≡_, refl, sym, ap, _∙_, subst}
+use mathlib.Core.List.{List, [], _∷_}
+use native.Mathlib.Omega.{arith}
+use borrow.Author.Tests.{lt-ltb, le-ltb}
+use lib.ListN.{length, length-append}
+use lib.Seq.{sets}
+use Rattle.algebra.proofs.zmod.Zmod.{zmod}
+use Rattle.algebra.proofs.poly.Poly.{coef}
+use Rattle.algebra.proofs.list.Coefs.{length-coefs}
+use Rattle.rules.specs.Bytes.{bytes64, all-bytes}
+use Rattle.rules.specs.Records.{numbers, curve-bytes, divisor-bytes}
+use Rattle.rules.specs.Multiple.{doublings, additions}
+use Rattle.rules.specs.Calls.{Written, Multiplied, left-as-is, write, multiplied, not-multiplied, done}
+use Rattle.divisor.specs.declared.Divisor.{Divisor}
+use Rattle.divisor.specs.Divisors.{weightOf, pair}
+use Rattle.field.specs.declared.Modulus.{Modulus}
+use Rattle.poly.specs.Polys.{pol}
+use Rattle.curve.specs.declared.Curve.{Curve}
+use Rattle.records.specs.Read.{recordOf}
+use Rattle.records.proofs.Writing.{length-all}
+use Rattle.records.proofs.Written.{weight-is, weight-is-v}
+use Rattle.answers.specs.declared.Answer.{Answer}
+use Rattle.answers.specs.declared.Answer.the-variants.{Done, Refused}
+use Rattle.answers.specs.Answers.{PutIs, Wrote}
+
+-- ---- the lengths of records
+length-numbers : (p : ℕ) (l : List (zmod p .El)) → length (numbers p l) ≡ length l
+unfolding numbers
+length-numbers p [] = refl
+length-numbers p (x ∷ l) = ap suc (length-numbers p l)
+
+pub divisor-length : (m : Modulus) (d : Divisor) → length (divisor-bytes (m .p) (pair m d)) ≡ 1 + 16 * weightOf d
+unfolding divisor-bytes
+divisor-length m d = omega (arith, length-append (all-bytes (numbers (m .p) (pair m d .u))) (all-bytes (numbers (m .p) (pair m d .v))), length-all (numbers (m .p) (pair m d .u)), length-all (numbers (m .p) (pair m d .v)), length-numbers (m .p) (pair m d .u), length-numbers (m .p) (pair m d .v), weight-is m d, weight-is-v m d)
+
+pub curve-length : (c : Curve) → length (curve-bytes (recordOf c)) ≡ 22 + 16 * c .g
+unfolding curve-bytes bytes64
+curve-length c = omega (arith, length-all (numbers (c .m .p) (recordOf c .low)), length-numbers (c .m .p) (recordOf c .low), length-coefs (zmod (c .m .p)) (suc (c .g + c .g)) (coef (zmod (c .m .p)) (pol (c .m) (c .f))))
+
+-- ---- put where it fits
+module _ (out bytes : List ℕ) where
+  pub put-none : {n : ℕ} → length bytes ≡ n → length out < n → PutIs out bytes out 0
+  put-none e l = record { short = λ z. omega arith; kept = λ z. refl; fits = λ z. absurd (z refl); all = λ z. absurd (z refl); put = λ z. absurd (z refl) }
+
+  pub put-all : {n : ℕ} {o : List ℕ} → length bytes ≡ n → 0 < n → n ≤ length out → o ≡ sets out 0 bytes → PutIs out bytes o n
+  put-all e p l h = record { short = λ z. absurd (omega arith); kept = λ z. absurd (omega arith); fits = λ z. omega arith; all = λ z. sym e; put = λ z. h }
+
+  module _ {o : List ℕ} {n : ℕ} (h : PutIs out bytes o n) where
+    pub write-none : n ≡ 0 → write out bytes ≡ left-as-is out 13 0
+    write-none e = rw (lt-ltb (length out) (length bytes) (h .short e)) refl
+
+    pub write-all : (n ≡ 0 → ⊥) → write out bytes ≡ record { answer = done n; out = o }
+    write-all e = rw (le-ltb (length out) (length bytes) (h .fits e)) (λ i. record { answer = record { number = 0; place = 0; length = (sym (h .all e)) i }; out = (sym (h .put e)) i })
+
+    pub wrote-none : n ≡ 0 → Wrote (Refused 13 0) o (write out bytes)
+    wrote-none e = record { answer = sym (ap (λ (w : Written). w .answer) (write-none e)); bytes = h .kept e ∙ sym (ap (λ (w : Written). w .out) (write-none e)) }
+
+    pub wrote-all : (n ≡ 0 → ⊥) → Wrote (Done n) o (write out bytes)
+    wrote-all e = record { answer = sym (ap (λ (w : Written). w .answer) (write-all e)); bytes = sym (ap (λ (w : Written). w .out) (write-all e)) }
+
+    pub multiplied-none : (k : ℕ) → n ≡ 0 → not-multiplied o 13 0 ≡ multiplied (write out bytes) k
+    multiplied-none k e = ap (λ (l : List ℕ). not-multiplied l 13 0) (h .kept e) ∙ sym (ap (λ (w : Written). multiplied w k) (write-none e))
+
+    pub multiplied-all : (k : ℕ) → (n ≡ 0 → ⊥) → _≡_ {A = Multiplied} (record { written = record { answer = done n; out = o }; doublings = doublings k; additions = additions k }) (multiplied (write out bytes) k)
+    multiplied-all k e = sym (ap (λ (w : Written). multiplied w k) (write-all e))
+
+-- ---- a refusal before anything was written, and a call that goes on as another rule says
+pub refused-as : {n k : ℕ} {out : List ℕ} {rule : Written} → rule ≡ left-as-is out n k → Wrote (Refused n k) out rule
+refused-as {n} {k} {out} {rule} e = record { answer = sym (ap (λ (w : Written). w .answer) e); bytes = sym (ap (λ (w : Written). w .out) e) }
+
+pub goes-on : {r : Answer} {o : List ℕ} {rule rest : Written} → rule ≡ rest → Wrote r o rest → Wrote r o rule
+goes-on {r} {o} e h = subst (λ (w : Written). Wrote r o w) (sym e) h

@@ -1,0 +1,56 @@
+-- Document 01, "Language form": where an answer is an enum, the promises use a definition that gives the paper's number and values for each of
+-- its cases.
+use Prim.Native.Nat.{ℕ, _≤_, _<_}
+use mathlib.Core.Path.{_≡_}
+use mathlib.Core.List.{List}
+use lib.ListN.{length}
+use lib.Seq.{sets}
+use Rattle.rules.specs.Records.{Checked, refused, taken, CurveRecord, PairOf, read-curve, read-divisor}
+use Rattle.rules.specs.Calls.{Answer as RuleAnswer, Written, Multiplied, refusal, done, check}
+use Rattle.divisor.specs.Divisors.{pair}
+use Rattle.curve.specs.Curves.{Sound, Holds}
+use Rattle.records.specs.Read.{recordOf}
+use Rattle.answers.specs.declared.Answer.{Answer}
+use Rattle.answers.specs.declared.Answer.the-variants.{Done, Refused}
+use Rattle.answers.specs.declared.MultipleAnswer.{MultipleAnswer}
+use Rattle.answers.specs.declared.MultipleAnswer.the-variants.{Done as DoneMultiple, Refused as RefusedMultiple}
+use Rattle.answers.specs.declared.One.{One}
+
+-- number, place and length of an answer
+abbrev pub answerOf : Answer → RuleAnswer
+answerOf (Done n) = done n
+answerOf (Refused n k) = refusal n k
+
+-- bytes put at the front of an output where they fit; n is how many
+pub record PutIs (out bytes o : List ℕ) (n : ℕ) : Type 0 where
+  pub short : n ≡ 0 → length out < length bytes
+  pub kept : n ≡ 0 → o ≡ out
+  pub fits : (n ≡ 0 → ⊥) → length bytes ≤ length out
+  pub all : (n ≡ 0 → ⊥) → n ≡ length bytes
+  pub put : (n ≡ 0 → ⊥) → o ≡ sets out 0 bytes
+
+-- the answer and the output as the call returns are the rule's
+pub record Wrote (r : Answer) (out : List ℕ) (rule : Written) : Type 0 where
+  pub answer : answerOf r ≡ rule .answer
+  pub bytes : out ≡ rule .out
+
+-- with the two counts
+abbrev pub multipleOf : MultipleAnswer → List ℕ → Multiplied
+multipleOf (DoneMultiple n d a) out = record { written = record { answer = done n; out = out }; doublings = d; additions = a }
+multipleOf (RefusedMultiple n k) out = record { written = record { answer = refusal n k; out = out }; doublings = 0; additions = 0 }
+
+abbrev pub MultipleIs : MultipleAnswer → List ℕ → Multiplied → Type 0
+MultipleIs r out rule = multipleOf r out ≡ rule
+
+-- ---- a curve and the first divisor on it
+abbrev pub FirstRead : Type 0
+FirstRead = (c : CurveRecord) × PairOf c
+
+abbrev pub one-rule : List ℕ → List ℕ → Checked FirstRead
+one-rule s a = check (read-curve s) refused (λ c. check (read-divisor c 1 a) refused (λ x. taken (c, x)))
+
+pub record OneIs (s a : List ℕ) (r : One) : Type 0 where
+  pub sound : r .number ≡ 0 → Sound (r .curve)
+  pub holds : r .number ≡ 0 → Holds (r .curve) (r .divisor)
+  pub takes : r .number ≡ 0 → one-rule s a ≡ taken (recordOf (r .curve), pair (r .curve .m) (r .divisor))
+  pub refuses : (r .number ≡ 0 → ⊥) → one-rule s a ≡ refused (r .number) (r .place)

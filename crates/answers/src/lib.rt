@@ -1,0 +1,197 @@
+// The calls inside Rattle, in the shape of document 01: records in as bytes, each checked here and once; an enum out, and the result at the
+// front of the output. Every promise is an equation with the call's rule.
+ghost use mathlib.Core.Path.{_≡_};
+ghost use Rattle.rules.specs.Calls.{check-curve, check-divisor, rewrite-curve, rewrite-divisor, double-call, opposite-call, add-call, multiply-call, write};
+ghost use Rattle.rules.specs.Records.{divisor-bytes};
+ghost use Rattle.divisor.specs.Divisors.{pair, Held};
+ghost use Rattle.answers.specs.Answers.{answerOf, OneIs, PutIs, Wrote, MultipleIs};
+use curve::Curve;
+use divisor::Divisor;
+use field::Modulus;
+use multiple::Multiple;
+use records::DivisorRead;
+
+// Done, with the length written, or a number and its place.
+pub enum Answer {
+    Done(u64),
+    Refused(u64, u64),
+}
+
+// Done, with the length and the two counts.
+pub enum MultipleAnswer {
+    Done(u64, u64, u64),
+    Refused(u64, u64),
+}
+
+// A curve and the first divisor on it. The number is 0 where both were taken.
+pub struct One {
+    pub number: u64,
+    pub place: u64,
+    pub curve: Curve,
+    pub divisor: Divisor,
+}
+
+pub fn read_one(curve: &[u8], a: &[u8]) -> One
+    ensures { λ r. ⌜ OneIs (now (curve .entry)) (now (a .entry)) r ⌝ }
+{
+    let read = records::read_curve(curve);
+    let c = read.curve;
+    let number = read.number;
+    if number != 0 {
+        return One {
+            number: number,
+            place: 0,
+            curve: c,
+            divisor: Divisor::Neutral,
+        };
+    }
+    match records::divisor_at(c, true, a, 0) {
+        DivisorRead::Taken(d) => One {
+            number: 0,
+            place: 0,
+            curve: c,
+            divisor: d,
+        },
+        DivisorRead::Refused(n) => One {
+            number: n,
+            place: 1,
+            curve: c,
+            divisor: Divisor::Neutral,
+        },
+    }
+}
+
+// A divisor's record at the front of the output: its length, or 0 where the output is shorter and stays as it is.
+pub fn write_out(d: Divisor, m: Modulus, out: &mut [u8]) -> u64
+    requires { ⌜ Held m d ⌝ }
+    ensures { λ r. ⌜ PutIs (now (out .entry)) (divisor-bytes (m .p) (pair m d)) (now (out .exit)) r ⌝ }
+{
+    let n = records::record_length(d);
+    if out.len() < n {
+        return 0;
+    }
+    records::write_divisor(d, m, out);
+    n as u64
+}
+
+// The same as an answer: 13 where the output is shorter.
+pub fn write_answer(d: Divisor, m: Modulus, out: &mut [u8]) -> Answer
+    requires { ⌜ Held m d ⌝ }
+    ensures { λ r. ⌜ Wrote r (now (out .exit)) (write (now (out .entry)) (divisor-bytes (m .p) (pair m d))) ⌝ }
+{
+    let n = write_out(d, m, out);
+    if n == 0 {
+        return Answer::Refused(13, 0);
+    }
+    Answer::Done(n)
+}
+
+pub fn check_curve(curve: &[u8]) -> Answer
+    ensures { λ r. ⌜ answerOf r ≡ check-curve (now (curve .entry)) ⌝ }
+{
+    let read = records::read_curve(curve);
+    let number = read.number;
+    if number != 0 {
+        return Answer::Refused(number, 0);
+    }
+    Answer::Done(0)
+}
+
+pub fn check_divisor(curve: &[u8], a: &[u8]) -> Answer
+    ensures { λ r. ⌜ answerOf r ≡ check-divisor (now (curve .entry)) (now (a .entry)) ⌝ }
+{
+    let x = read_one(curve, a);
+    if x.number != 0 {
+        return Answer::Refused(x.number, x.place);
+    }
+    Answer::Done(0)
+}
+
+pub fn rewrite_curve(curve: &[u8], out: &mut [u8]) -> Answer
+    ensures { λ r. ⌜ Wrote r (now (out .exit)) (rewrite-curve (now (curve .entry)) (now (out .entry))) ⌝ }
+{
+    let read = records::read_curve(curve);
+    let c = read.curve;
+    let number = read.number;
+    if number != 0 {
+        return Answer::Refused(number, 0);
+    }
+    let n = 22 + 16 * c.g;
+    if out.len() < n {
+        return Answer::Refused(13, 0);
+    }
+    records::write_curve(c, out);
+    Answer::Done(n as u64)
+}
+
+pub fn rewrite_divisor(curve: &[u8], a: &[u8], out: &mut [u8]) -> Answer
+    ensures { λ r. ⌜ Wrote r (now (out .exit)) (rewrite-divisor (now (curve .entry)) (now (a .entry)) (now (out .entry))) ⌝ }
+{
+    let x = read_one(curve, a);
+    if x.number != 0 {
+        return Answer::Refused(x.number, x.place);
+    }
+    let c = x.curve;
+    let d = x.divisor;
+    write_answer(d, c.m, out)
+}
+
+pub fn double(curve: &[u8], a: &[u8], out: &mut [u8]) -> Answer
+    ensures { λ r. ⌜ Wrote r (now (out .exit)) (double-call (now (curve .entry)) (now (a .entry)) (now (out .entry))) ⌝ }
+{
+    let x = read_one(curve, a);
+    if x.number != 0 {
+        return Answer::Refused(x.number, x.place);
+    }
+    let c = x.curve;
+    let d = x.divisor;
+    write_answer(c.double(d), c.m, out)
+}
+
+pub fn opposite(curve: &[u8], a: &[u8], out: &mut [u8]) -> Answer
+    ensures { λ r. ⌜ Wrote r (now (out .exit)) (opposite-call (now (curve .entry)) (now (a .entry)) (now (out .entry))) ⌝ }
+{
+    let x = read_one(curve, a);
+    if x.number != 0 {
+        return Answer::Refused(x.number, x.place);
+    }
+    let c = x.curve;
+    let d = x.divisor;
+    write_answer(c.opposite(d), c.m, out)
+}
+
+pub fn add(curve: &[u8], a: &[u8], b: &[u8], out: &mut [u8]) -> Answer
+    ensures { λ r. ⌜ Wrote r (now (out .exit)) (add-call (now (curve .entry)) (now (a .entry)) (now (b .entry)) (now (out .entry))) ⌝ }
+{
+    let x = read_one(curve, a);
+    if x.number != 0 {
+        return Answer::Refused(x.number, x.place);
+    }
+    let c = x.curve;
+    let d = x.divisor;
+    match records::divisor_at(c, true, b, 0) {
+        DivisorRead::Taken(y) => write_answer(c.sum(d, y), c.m, out),
+        DivisorRead::Refused(n) => Answer::Refused(n, 2),
+    }
+}
+
+pub fn multiply(curve: &[u8], a: &[u8], scalar: &[u8], out: &mut [u8]) -> MultipleAnswer
+    ensures { λ r. ⌜ MultipleIs r (now (out .exit)) (multiply-call (now (curve .entry)) (now (a .entry)) (now (scalar .entry)) (now (out .entry))) ⌝ }
+{
+    let x = read_one(curve, a);
+    if x.number != 0 {
+        return MultipleAnswer::Refused(x.number, x.place);
+    }
+    if 32 < scalar.len() {
+        return MultipleAnswer::Refused(12, 0);
+    }
+    let c = x.curve;
+    let d = x.divisor;
+    let y = Multiple::of(c, d, scalar);
+    let e = y.divisor;
+    let n = write_out(e, c.m, out);
+    if n == 0 {
+        return MultipleAnswer::Refused(13, 0);
+    }
+    MultipleAnswer::Done(n, y.doublings, y.additions)
+}

@@ -1,0 +1,11 @@
+pub mod Checks
+pub mod Words
+pub mod Head
+pub mod Primes
+pub mod Low
+pub mod Whole
+pub mod Rows
+pub mod Divisors
+pub mod Writing
+pub mod Numbers
+pub mod Written

@@ -1,0 +1,103 @@
+-- What the reading functions promise: an answer of code is the rule's answer on the same bytes. Places are left open: a divisor that is
+-- refused is so at whatever place k it stands.
+use Prim.Native.Nat.{ℕ, suc, _+_, _*_, _≤_, _<_}
+use mathlib.Core.Path.{_≡_}
+use mathlib.Core.Bool.{Bool, true}
+use mathlib.Core.List.{List}
+use lib.Dec.{eqb, ltb}
+use lib.ListN.{getD, length, take, drop}
+use Rattle.algebra.proofs.zmod.Zmod.{zmod, emb}
+use Rattle.algebra.proofs.poly.Poly.{coef}
+use Rattle.algebra.proofs.list.Value.{pol as list-pol}
+use Rattle.algebra.proofs.list.Coefs.{coefs}
+use Rattle.rules.specs.Bytes.{word64, words}
+use Rattle.rules.specs.Tests.{square-free?}
+use Rattle.rules.specs.Records.{Checked, refused, taken, choose, both, either, CurveRecord, curve, below?, elements, read-curve, divisor-at}
+use Rattle.field.specs.declared.Modulus.{Modulus}
+use Rattle.field.specs.declared.Residue.{Residue}
+use Rattle.field.specs.Residues.{Good, Settles}
+use Rattle.poly.specs.Polys.{pol, Ok, Is}
+use Rattle.divisor.specs.declared.Divisor.{Divisor}
+use Rattle.divisor.specs.Divisors.{us, vs, pair}
+use Rattle.curve.specs.declared.Curve.{Curve}
+use Rattle.curve.specs.Curves.{Sound, Holds}
+use Rattle.records.specs.declared.CurveRead.{CurveRead}
+use Rattle.records.specs.declared.DivisorRead.{DivisorRead}
+use Rattle.records.specs.declared.DivisorRead.the-variants.{Taken, Refused}
+use Rattle.records.specs.declared.LowRead.{LowRead}
+use Rattle.records.specs.declared.Residues.{Residues}
+
+-- what the record of a curve in code says
+abbrev pub recordOf : Curve → CurveRecord
+recordOf c = record { p = c .m .p; g = c .g; low = coefs (zmod (c .m .p)) (suc (c .g + c .g)) (coef (zmod (c .m .p)) (pol (c .m) (c .f))) }
+
+abbrev pub Marked : List ℕ → Bool
+Marked s = both (eqb (getD s 0 0) 72) (both (eqb (getD s 1 0) 74) (eqb (getD s 2 0) 67))
+
+abbrev pub IsGenus : ℕ → Bool
+IsGenus g = either (eqb g 2) (eqb g 3)
+
+-- the rule's first five checks, and what it does after them
+abbrev pub head-rule : List ℕ → Checked CurveRecord → Checked CurveRecord
+head-rule s next =
+    choose (ltb (length s) 6) (refused 1 0)
+    (choose (Marked s)
+    (choose (eqb (getD s 3 0 * 256 + getD s 4 0) 1)
+    (choose (IsGenus (getD s 5 0))
+    (choose (eqb (length s) (22 + 16 * getD s 5 0)) next
+    (refused 1 0))
+    (refused 4 0))
+    (refused 3 0))
+    (refused 2 0))
+
+pub record HeadIs (s : List ℕ) (n : ℕ) : Type 0 where
+  pub passes : n ≡ 0 → (next : Checked CurveRecord) → head-rule s next ≡ next
+  pub long : n ≡ 0 → length s ≡ 22 + 16 * getD s 5 0
+  pub genus : n ≡ 0 → (2 ≤ getD s 5 0) × (getD s 5 0 ≤ 3)
+  pub stops : (n ≡ 0 → ⊥) → (next : Checked CurveRecord) → head-rule s next ≡ refused n 0
+
+-- a curve read, or a number other than 0
+pub record ReadAs (rule : Checked CurveRecord) (r : CurveRead) : Type 0 where
+  pub sound : r .number ≡ 0 → Sound (r .curve)
+  pub takes : r .number ≡ 0 → rule ≡ taken (recordOf (r .curve))
+  pub refuses : (r .number ≡ 0 → ⊥) → rule ≡ refused (r .number) 0
+
+abbrev pub CurveIs : List ℕ → CurveRead → Type 0
+CurveIs s r = ReadAs (read-curve s) r
+
+-- ---- what stands behind p
+pub record ToLow (s : List ℕ) (g : ℕ) (m : Modulus) : Type 0 where
+  pub good : Good m
+  pub least : 2 ≤ g
+  pub most : g ≤ 3
+  pub long : length s ≡ 22 + 16 * g
+
+pub record LowsIs (s : List ℕ) (g : ℕ) (m : Modulus) (r : LowRead) : Type 0 where
+  pub below : r .below ≡ below? (m .p) (words s 14 (suc (g + g)))
+  pub ok : Ok m (r .f)
+  pub held : r .below ≡ true → Is m (r .f) (list-pol (zmod (m .p)) (elements (m .p) (words s 14 (suc (g + g))))) (suc (g + g))
+
+-- the rule's last two checks
+abbrev pub low-rule : List ℕ → ℕ → ℕ → Checked CurveRecord
+low-rule s g p =
+    let f : List ℕ = words s 14 (suc (g + g)) in
+    let c : CurveRecord = record { p = p; g = g; low = elements p f } in
+    choose (below? p f) (choose (square-free? (curve c)) (taken c) (refused 7 0)) (refused 6 0)
+
+abbrev pub LowIs : List ℕ → ℕ → Modulus → CurveRead → Type 0
+LowIs s g m r = ReadAs (low-rule s g (m .p)) r
+
+-- ---- divisors
+abbrev pub DivisorIs : Curve → Bool → List ℕ → ℕ → DivisorRead → Type 0
+DivisorIs c whole s a (Taken d) = Holds c d × ((k : ℕ) → divisor-at (recordOf c) k whole s a ≡ taken (pair (c .m) d))
+DivisorIs c whole s a (Refused n) = (k : ℕ) → divisor-at (recordOf c) k whole s a ≡ refused n k
+
+-- the n numbers from place a on are below p, or not; where they are, r holds them
+pub record ResiduesIs (s : List ℕ) (a n : ℕ) (m : Modulus) (r : Residues) : Type 0 where
+  pub long : length (r .r) ≡ 6
+  pub below : r .below ≡ below? (m .p) (words s a n)
+  pub held : r .below ≡ true → (k : ℕ) (z : Residue) → k < n → Settles m (getD (r .r) k z) (emb (m .p) (word64 s (a + 8 * k)))
+
+-- the coefficients in order, those of u first
+abbrev pub BuiltOf : ℕ → List Residue → Divisor → Type 0
+BuiltOf w r d = (us d ≡ take w r) × (vs d ≡ take w (drop w r))

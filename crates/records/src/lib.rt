@@ -1,0 +1,393 @@
+// Records: bytes in, values out, and back. What is read and what is refused is what the rules say, a check a line, in their order.
+ghost use mathlib.Core.Path.{_≡_};
+ghost use Prim.Native.Nat.{_+_, _*_, _≤_, _<_};
+ghost use lib.ListN.{length, take};
+ghost use lib.Seq.{sets};
+ghost use Rattle.rules.specs.Bytes.{word32, word64, all-bytes, bytes64};
+ghost use Rattle.rules.specs.Records.{fits, curve-bytes, divisor-bytes};
+ghost use Rattle.field.specs.Residues.{Good};
+ghost use Rattle.divisor.specs.Divisors.{pair, Held, weightOf};
+ghost use Rattle.curve.specs.Curves.{Sound};
+ghost use Rattle.records.specs.Read.{recordOf, CurveIs, Marked, IsGenus, HeadIs, ToLow, LowIs, LowsIs, DivisorIs, ResiduesIs, BuiltOf};
+ghost use Rattle.records.specs.Write.{NumbersOf, CurveNumbersOf};
+use curve::Curve;
+use divisor::Cubic;
+use divisor::Divisor;
+use divisor::Linear;
+use divisor::Quadratic;
+use field::Modulus;
+use field::ModulusRead;
+use field::Residue;
+use field::ResidueRead;
+use poly::Poly;
+
+// The number is 0 where the curve was taken. (A curve holds an array, and an enum can't.)
+pub struct CurveRead {
+    pub number: u64,
+    pub curve: Curve,
+}
+
+pub enum DivisorRead {
+    Taken(Divisor),
+    Refused(u64),
+}
+
+// f without its leading 1, where all its coefficients are below p.
+pub struct LowRead {
+    pub below: bool,
+    pub f: Poly,
+}
+
+// Up to six numbers, all below p where `below` says so.
+pub struct Residues {
+    pub below: bool,
+    pub r: [Residue; 6],
+}
+
+fn wide(x: u8) -> u64
+    ensures { λ r. ⌜ (r ≡ x) × (r < 256) ⌝ }
+{
+    x as u64
+}
+
+fn read32(s: &[u8], a: usize) -> u64
+    requires { ⌜ a + 4 ≤ length (now s) ⌝ }
+    ensures within { λ r. ⌜ r < 4294967296 ⌝ }
+    ensures word { λ r. ⌜ r ≡ word32 (now (s .entry)) a ⌝ }
+{
+    ((wide(s[a]) * 256 + wide(s[a + 1])) * 256 + wide(s[a + 2])) * 256 + wide(s[a + 3])
+}
+
+pub fn read64(s: &[u8], a: usize) -> u64
+    requires { ⌜ a + 8 ≤ length (now s) ⌝ }
+    ensures { λ r. ⌜ r ≡ word64 (now (s .entry)) a ⌝ }
+{
+    read32(s, a) * 4294967296 + read32(s, a + 4)
+}
+
+fn marked(s: &[u8]) -> bool
+    requires { ⌜ 6 ≤ length (now s) ⌝ }
+    ensures { λ r. ⌜ r ≡ Marked (now (s .entry)) ⌝ }
+{
+    if s[0] == Curve::MARK[0] {
+        if s[1] == Curve::MARK[1] {
+            return s[2] == Curve::MARK[2];
+        }
+    }
+    false
+}
+
+fn is_genus(g: u64) -> bool
+    ensures { λ r. ⌜ r ≡ IsGenus g ⌝ }
+{
+    if g == 2 {
+        return true;
+    }
+    g == 3
+}
+
+// The coefficients f_0 up to f_2g.
+fn read_lows(s: &[u8], g: usize, m: Modulus) -> LowRead
+    requires { ⌜ ToLow (now s) g m ⌝ }
+    ensures { λ r. ⌜ LowsIs (now (s .entry)) g m r ⌝ }
+{
+    let n = g + g + 1;
+    let mut f = Poly::zero(m);
+    let mut k: usize = 0;
+    while k < n {
+        match Residue::read(read64(s, 14 + 8 * k), m) {
+            ResidueRead::Below(x) => {
+                f = f.put(k, x, m);
+            }
+            ResidueRead::TooLarge => {
+                return LowRead { below: false, f: f };
+            }
+        }
+        k += 1;
+    }
+    LowRead { below: true, f: f }
+}
+
+// What stands behind p: refusals 6 and 7.
+fn read_low(s: &[u8], g: usize, m: Modulus) -> CurveRead
+    requires { ⌜ ToLow (now s) g m ⌝ }
+    ensures { λ r. ⌜ LowIs (now (s .entry)) g m r ⌝ }
+{
+    let low = read_lows(s, g, m);
+    let l = low.f;
+    if low.below {
+        let f = l.put(g + g + 1, Residue::one(m), m);
+        let c = Curve { m: m, g: g, f: f };
+        if euclid::is_square_free(f, m) {
+            CurveRead {
+                number: 0,
+                curve: c,
+            }
+        } else {
+            CurveRead {
+                number: 7,
+                curve: c,
+            }
+        }
+    } else {
+        let c = Curve { m: m, g: g, f: l };
+        CurveRead {
+            number: 6,
+            curve: c,
+        }
+    }
+}
+
+// A refusal before a modulus was read.
+fn no_curve(number: u64) -> CurveRead
+    ensures { λ r. ⌜ r .number ≡ number ⌝ }
+{
+    let m = Modulus::least();
+    let f = Poly::zero(m);
+    let c = Curve { m: m, g: 2, f: f };
+    CurveRead {
+        number: number,
+        curve: c,
+    }
+}
+
+// Refusals 1 to 4: the number, or 0.
+fn head_number(s: &[u8]) -> u64
+    ensures { λ r. ⌜ HeadIs (now (s .entry)) r ⌝ }
+{
+    if s.len() < 6 {
+        return 1;
+    }
+    if marked(s) {
+        if wide(s[3]) * 256 + wide(s[4]) != Curve::VERSION {
+            return 3;
+        }
+        let g = wide(s[5]);
+        if is_genus(g) {
+            if s.len() != 22 + 16 * (g as usize) {
+                return 1;
+            }
+            return 0;
+        }
+        return 4;
+    }
+    2
+}
+
+pub fn read_curve(s: &[u8]) -> CurveRead
+    ensures { λ r. ⌜ CurveIs (now (s .entry)) r ⌝ }
+{
+    let number = head_number(s);
+    if number != 0 {
+        return no_curve(number);
+    }
+    match Modulus::read(read64(s, 6)) {
+        ModulusRead::Modulo(m) => read_low(s, wide(s[5]) as usize, m),
+        ModulusRead::NoPrime => no_curve(5),
+    }
+}
+
+fn residues_at(s: &[u8], a: usize, n: usize, m: Modulus) -> Residues
+    requires { ⌜ Good m × (n ≤ 6) × (a + 8 * n ≤ length (now s)) ⌝ }
+    ensures { λ r. ⌜ ResiduesIs (now (s .entry)) a n m r ⌝ }
+{
+    let z = Residue::zero();
+    let mut r = [z; 6];
+    let mut k: usize = 0;
+    while k < n {
+        match Residue::read(read64(s, a + 8 * k), m) {
+            ResidueRead::Below(x) => {
+                r[k] = x;
+            }
+            ResidueRead::TooLarge => {
+                return Residues { below: false, r: r };
+            }
+        }
+        k += 1;
+    }
+    Residues { below: true, r: r }
+}
+
+// The divisor of weight w whose coefficients are the first 2 w residues.
+fn build(w: u64, r: [Residue; 6]) -> Divisor
+    requires { ⌜ w ≤ 3 ⌝ }
+    ensures { λ d. ⌜ BuiltOf w r d ⌝ }
+{
+    let a = r[0];
+    let b = r[1];
+    let c = r[2];
+    let d = r[3];
+    if w == 0 {
+        return Divisor::Neutral;
+    }
+    if w == 1 {
+        return Divisor::One(Linear { u0: a, v0: b });
+    }
+    if w == 2 {
+        return Divisor::Two(Quadratic {
+            u0: a,
+            u1: b,
+            v0: c,
+            v1: d,
+        });
+    }
+    let e = r[4];
+    let f = r[5];
+    Divisor::Three(Cubic {
+        u0: a,
+        u1: b,
+        u2: c,
+        v0: d,
+        v1: e,
+        v2: f,
+    })
+}
+
+// Whether a record that ends at `end` fits: exactly, where it is the whole.
+fn record_fits(whole: bool, end: usize, all: usize) -> bool
+    ensures { λ r. ⌜ r ≡ fits whole end all ⌝ }
+{
+    if whole {
+        return all == end;
+    }
+    end <= all
+}
+
+// The divisor record at a. Its place in a list is the caller's to say.
+pub fn divisor_at(c: Curve, whole: bool, s: &[u8], a: usize) -> DivisorRead
+    requires { ⌜ Sound c × (a ≤ length (now s)) ⌝ }
+    ensures { λ r. ⌜ DivisorIs c whole (now (s .entry)) a r ⌝ }
+{
+    if s.len() <= a {
+        return DivisorRead::Refused(8);
+    }
+    let w = wide(s[a]);
+    let g = c.g;
+    if (g as u64) < w {
+        return DivisorRead::Refused(9);
+    }
+    let n = 2 * (w as usize);
+    if record_fits(whole, a + 1 + 8 * n, s.len()) {
+        let x = residues_at(s, a + 1, n, c.m);
+        let r = x.r;
+        if x.below {
+            let d = build(w, r);
+            if c.carries(d) {
+                DivisorRead::Taken(d)
+            } else {
+                DivisorRead::Refused(11)
+            }
+        } else {
+            DivisorRead::Refused(10)
+        }
+    } else {
+        DivisorRead::Refused(8)
+    }
+}
+
+pub fn write64(out: &mut [u8], a: usize, x: u64)
+    requires { ⌜ a + 8 ≤ length (now out) ⌝ }
+    ensures { λ _. ⌜ now (out .exit) ≡ sets (now (out .entry)) a (bytes64 x) ⌝ }
+{
+    out[a] = (x / 72057594037927936 % 256) as u8;
+    out[a + 1] = (x / 281474976710656 % 256) as u8;
+    out[a + 2] = (x / 1099511627776 % 256) as u8;
+    out[a + 3] = (x / 4294967296 % 256) as u8;
+    out[a + 4] = (x / 16777216 % 256) as u8;
+    out[a + 5] = (x / 65536 % 256) as u8;
+    out[a + 6] = (x / 256 % 256) as u8;
+    out[a + 7] = (x % 256) as u8;
+}
+
+// The first n numbers, one after the other from a on.
+fn write_words(out: &mut [u8], a: usize, x: [u64; 8], n: usize)
+    requires { ⌜ (n ≤ 8) × (a + 8 * n ≤ length (now out)) ⌝ }
+    ensures { λ _. ⌜ now (out .exit) ≡ sets (now (out .entry)) a (all-bytes (take n x)) ⌝ }
+{
+    let mut k: usize = 0;
+    while k < n {
+        write64(out, a + 8 * k, x[k]);
+        k += 1;
+    }
+}
+
+// The numbers of a divisor's coefficients, those of u first.
+fn numbers_of(d: Divisor, m: Modulus) -> [u64; 8]
+    requires { ⌜ Held m d ⌝ }
+    ensures { λ r. ⌜ NumbersOf m d r ⌝ }
+{
+    let mut x = [0u64; 8];
+    match d {
+        Divisor::Neutral => {}
+        Divisor::One(d) => {
+            x[0] = d.u0.number(m);
+            x[1] = d.v0.number(m);
+        }
+        Divisor::Two(d) => {
+            x[0] = d.u0.number(m);
+            x[1] = d.u1.number(m);
+            x[2] = d.v0.number(m);
+            x[3] = d.v1.number(m);
+        }
+        Divisor::Three(d) => {
+            x[0] = d.u0.number(m);
+            x[1] = d.u1.number(m);
+            x[2] = d.u2.number(m);
+            x[3] = d.v0.number(m);
+            x[4] = d.v1.number(m);
+            x[5] = d.v2.number(m);
+        }
+    }
+    x
+}
+
+// The length of a divisor's record.
+pub fn record_length(d: Divisor) -> usize
+    ensures { λ r. ⌜ r ≡ 1 + 16 * weightOf d ⌝ }
+{
+    1 + 16 * d.weight()
+}
+
+pub fn write_divisor(d: Divisor, m: Modulus, out: &mut [u8])
+    requires { ⌜ Held m d × (1 + 16 * weightOf d ≤ length (now out)) ⌝ }
+    ensures { λ _. ⌜ now (out .exit) ≡ sets (now (out .entry)) 0 (divisor-bytes (m .p) (pair m d)) ⌝ }
+{
+    let w = d.weight();
+    let x = numbers_of(d, m);
+    out[0] = (w % 256) as u8;
+    write_words(out, 1, x, 2 * w);
+}
+
+// p and the coefficients f_0 up to f_2g.
+fn curve_numbers(c: Curve) -> [u64; 8]
+    requires { ⌜ Sound c ⌝ }
+    ensures { λ r. ⌜ CurveNumbersOf c r ⌝ }
+{
+    let m = c.m;
+    let f = c.f;
+    let g = c.g;
+    let n = g + g + 1;
+    let mut x = [0u64; 8];
+    x[0] = m.number();
+    let mut k: usize = 0;
+    while k < n {
+        x[k + 1] = f.get(k).settle(m).number(m);
+        k += 1;
+    }
+    x
+}
+
+pub fn write_curve(c: Curve, out: &mut [u8])
+    requires { ⌜ Sound c × (22 + 16 * c .g ≤ length (now out)) ⌝ }
+    ensures { λ _. ⌜ now (out .exit) ≡ sets (now (out .entry)) 0 (curve-bytes (recordOf c)) ⌝ }
+{
+    let g = c.g;
+    let x = curve_numbers(c);
+    out[0] = Curve::MARK[0];
+    out[1] = Curve::MARK[1];
+    out[2] = Curve::MARK[2];
+    out[3] = 0;
+    out[4] = 1;
+    out[5] = (g % 256) as u8;
+    write_words(out, 6, x, g + g + 2);
+}
