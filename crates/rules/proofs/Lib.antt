@@ -1,4 +1,6 @@
 pub mod cantor
+pub mod calls
 pub mod Demand3
+pub mod CallLaws
 pub mod Quick
 pub mod Corners

@@ -1,0 +1,58 @@
+-- The call `total-call`, by what its parts answer: the curve, the batch on it, and the record put at the front of the output.
+use Prim.Native.Nat.{ℕ}
+use mathlib.Core.Path.{_≡_, sym, ap, _∙_, subst}
+use mathlib.Core.List.{List}
+use Rattle.rules.specs.Pair.{neutral}
+use Rattle.rules.specs.Sum.{sum}
+use Rattle.rules.specs.Records.{Checked, CurveRecord, PairOf, curve, divisor-bytes}
+use Rattle.rules.specs.Lists.{Batch, batch}
+use Rattle.rules.specs.Calls.{Written, Totalled, check, write, not-totalled, totalled, total-call}
+use Rattle.divisor.specs.declared.Divisor.{Divisor}
+use Rattle.divisor.specs.Divisors.{pair}
+use Rattle.curve.specs.Curves.{Holds}
+use Rattle.records.specs.declared.CurveRead.{CurveRead}
+use Rattle.records.specs.Read.{recordOf, CurveIs}
+use Rattle.answers.specs.Answers.{PutIs}
+use Rattle.answers.proofs.Written.{write-none, write-all}
+use Rattle.answers.proofs.Firsts.{curve-stops, curve-goes}
+use Rattle.batches.specs.declared.TotalRead.{TotalRead}
+use Rattle.batches.specs.declared.TotalRead.the-variants.{Done, Refused}
+use Rattle.batches.specs.declared.TotalAnswer.the-variants.{Done as DoneTotal, Refused as RefusedTotal}
+use Rattle.batches.specs.Batches.{TotalIs, TotalAnswerIs}
+
+module _ (s b out : List ℕ) (r : CurveRead) (h : CurveIs s r) where
+  -- what follows on a curve that was taken
+  abbrev after : (c : CurveRecord) → Checked (Batch (PairOf c)) → Totalled
+  after c x = check x (not-totalled out) (λ y. totalled (write out (divisor-bytes (c .p) (y .result))) (y .count))
+
+  abbrev next : CurveRecord → Totalled
+  next c = after c (batch c (sum (curve c)) b neutral)
+
+  pub no-curve : (r .number ≡ 0 → ⊥) → TotalAnswerIs (RefusedTotal (r .number) 0) out (total-call s b out)
+  unfolding total-call
+  no-curve z = sym (curve-stops (not-totalled out) next s (r .number) 0 (h .refuses z))
+
+  module _ (z : r .number ≡ 0) (t : TotalRead) (is : TotalIs (r .curve) b t) where
+    call-is : total-call s b out ≡ next (recordOf (r .curve))
+    unfolding total-call
+    call-is = curve-goes (not-totalled out) next s (recordOf (r .curve)) (h .takes z)
+
+    pub no-total : {n k : ℕ} → t ≡ Refused n k → TotalAnswerIs (RefusedTotal n k) out (total-call s b out)
+    no-total e = sym (call-is ∙ ap (after (recordOf (r .curve))) (subst (TotalIs (r .curve) b) e is))
+
+    module _ {d : Divisor} {k : ℕ} (e : t ≡ Done d k) where
+      pub total-holds : Holds (r .curve) d
+      total-holds = subst (TotalIs (r .curve) b) e is .0
+
+      abbrev bytes : List ℕ
+      bytes = divisor-bytes (r .curve .m .p) (pair (r .curve .m) d)
+
+      module _ {o : List ℕ} {n : ℕ} (put : PutIs out bytes o n) where
+        writes : total-call s b out ≡ totalled (write out bytes) k
+        writes = call-is ∙ ap (after (recordOf (r .curve))) (subst (TotalIs (r .curve) b) e is .1)
+
+        pub too-short : n ≡ 0 → TotalAnswerIs (RefusedTotal 13 0) o (total-call s b out)
+        too-short q = ap (λ (l : List ℕ). not-totalled l 13 0) (put .kept q) ∙ sym (writes ∙ ap (λ (w : Written). totalled w k) (write-none out bytes put q))
+
+        pub total-written : (n ≡ 0 → ⊥) → TotalAnswerIs (DoneTotal n k) o (total-call s b out)
+        total-written q = sym (writes ∙ ap (λ (w : Written). totalled w k) (write-all out bytes put q))

@@ -1,0 +1,237 @@
+-- The calls' rules of specs/ and what they buy, in document 01's words; nothing here speaks of code. A call is a function from the bytes lent
+-- to the whole answer and output (specs.Calls). `read-curve s ≡ taken c` says that s is a curve record, and c what it says;
+-- `AllRecords c rs` that each of rs is a divisor record on c, and `pair-of c r` is the pair of one; `answered w ≡ 0` that a call
+-- answered 0, and `front w` is then what it left at the front of its output. The proofs are in calls/.
+use Prim.Native.Nat.{ℕ, _+_, _*_, _≤_, _<_}
+use mathlib.Core.Path.{_≡_, sym, _∙_}
+use mathlib.Core.List.{List, [], _∷_, _++_, map, foldl, flatten, Perm}
+use mathlib.Core.Bool.{true}
+use mathlib.Core.Logic.{_↔_}
+use lib.ListN.{length, drop}
+use Rattle.algebra.proofs.zmod.PrimeField.{modulo}
+use Rattle.rules.specs.Bytes.{number}
+use Rattle.rules.specs.Pair.{Pair, Valid, opposite}
+use Rattle.rules.specs.Sum.{double}
+use Rattle.rules.specs.Multiple.{multiple}
+use Rattle.rules.specs.Records.{taken, CurveRecord, curve, PairOf, read-curve, read-divisor, curve-bytes, divisor-bytes}
+use Rattle.rules.specs.Lists.{Batch, batch, first-repeat}
+use Rattle.rules.specs.Calls.{Answer, done, check-curve, check-divisor, Written, write, rewrite-curve, rewrite-divisor, double-call, opposite-call, add-call, Multiplied, multiply-call, Totalled, not-totalled, totalled, total-call, Repeated, repeat-call, Running, fresh, Scanned, scan-call}
+use Rattle.rules.proofs.Demand3.{Demand3}
+use Rattle.rules.proofs.cantor.Totals.{AllValid}
+use Rattle.rules.proofs.calls.Tests.{taken-inj}
+use Rattle.rules.proofs.calls.Bytes.{AreBytes}
+use Rattle.rules.proofs.calls.CurveRecords.{accepts, curve-written, curve-reread}
+use Rattle.rules.proofs.calls.DivisorRecords.{divisor-valid, divisor-written, divisor-reread}
+use Rattle.rules.proofs.calls.Accepted.{curve-laws}
+use Rattle.rules.proofs.calls.Batches.{pair-of, AllRecords, MadeOf, records-valid, batch-records, batch-made, batch-is}
+use Rattle.rules.proofs.calls.Repeats.{Clear, FirstAt}
+use Rattle.rules.proofs.calls.Written.{front}
+use Rattle.rules.proofs.calls.Done.{answered, OneDone, AddDone, TotalDone, total-of}
+use Rattle.rules.proofs.calls.Totals.{subtotal, adds}
+use Rattle.rules.proofs.calls.Scans.{ScanDone, running-bytes, scans, AllDone}
+use Rattle.rules.proofs.calls.Kept.{Kept, KeptM, KeptT, KeptS}
+use Rattle.rules.proofs.calls.Rewrites
+use Rattle.rules.proofs.calls.Written
+use Rattle.rules.proofs.calls.Kept
+use Rattle.rules.proofs.calls.Repeats
+use Rattle.rules.proofs.calls.Taken
+use Rattle.rules.proofs.calls.Done
+use Rattle.rules.proofs.calls.Sums
+use Rattle.rules.proofs.calls.Totals
+use Rattle.rules.proofs.calls.Scans
+
+-- ---- the records
+module _ (s : List ℕ) {c : CurveRecord} (ec : read-curve s ≡ taken c) where
+  -- writing what was read gives the same bytes; reading what was written gives the same value
+  pub curve-bytes-same : AreBytes s → curve-bytes c ≡ s
+  curve-bytes-same bytes = curve-written s bytes ec
+
+  pub curve-value-same : read-curve (curve-bytes c) ≡ taken c
+  curve-value-same = curve-reread c (accepts s ec)
+
+  pub divisor-bytes-same : (k : ℕ) (a : List ℕ) {d : PairOf c} → AreBytes a → read-divisor c k a ≡ taken d → divisor-bytes (c .p) d ≡ a
+  divisor-bytes-same k a bytes e = divisor-written c (accepts s ec) k a bytes e
+
+  pub divisor-value-same : (k : ℕ) (d : PairOf c) → Valid (curve c) d → read-divisor c k (divisor-bytes (c .p) d) ≡ taken d
+  divisor-value-same k d v = divisor-reread c (accepts s ec) d v k
+
+  -- a curve that is taken is one of demand 3's, a divisor that is taken is valid on it
+  pub taken-curve : Demand3 (curve c)
+  taken-curve = curve-laws s ec
+
+  pub taken-divisor : (k : ℕ) (a : List ℕ) {d : PairOf c} → read-divisor c k a ≡ taken d → Valid (curve c) d
+  taken-divisor k a e = divisor-valid c k true a 0 e
+
+  -- a batch that is taken is at most 4,096 records one after the other, all valid, and each goes in once, from first to last
+  pub taken-batch : {A : Type 0} (step : A → PairOf c → A) (from : A) (records : List ℕ) {b : Batch A} → batch c step records from ≡ taken b
+      → (m : MadeOf c records) × AllValid (curve c) (map (pair-of c) (m .records)) × (b ≡ record { result = foldl step from (map (pair-of c) (m .records)); count = length (m .records) })
+  taken-batch step from records e = let m = batch-made c step records from e in
+      (m, records-valid c (m .records) (m .good), taken-inj (sym e ∙ batch-is c step records from m))
+
+-- rewriting gives back the bytes
+pub rewritten-curve : (s out : List ℕ) → AreBytes s → answered (rewrite-curve s out) ≡ 0 → front (rewrite-curve s out) ≡ s
+rewritten-curve = Rewrites.rewrite-curve-same
+
+pub rewritten-divisor : (s a out : List ℕ) → AreBytes a → answered (rewrite-divisor s a out) ≡ 0 → front (rewrite-divisor s a out) ≡ a
+rewritten-divisor = Rewrites.rewrite-divisor-same
+
+-- ---- a call that answered 0: its records were taken, and what it wrote is read back as the sum, the double, ..
+abbrev pub TookCurve : List ℕ → (CurveRecord → Type 0) → Type 0
+TookCurve s P = (c : CurveRecord) × (read-curve s ≡ taken c) × P c
+
+pub add-back : (s a b out : List ℕ) → answered (add-call s a b out) ≡ 0 → TookCurve s (λ c. AddDone c a b out (add-call s a b out))
+add-back s a b out e = let t = Done.add-took s a b out e in (t .0, t .1, Done.add-done s a b out (t .1) e)
+
+pub double-back : (s a out : List ℕ) → answered (double-call s a out) ≡ 0 → TookCurve s (λ c. OneDone (λ c x. double (curve c) x) c a out (double-call s a out))
+double-back s a out e = let t = Done.double-took s a out e in (t .0, t .1, Done.double-done s a out (t .1) e)
+
+pub opposite-back : (s a out : List ℕ) → answered (opposite-call s a out) ≡ 0 → TookCurve s (λ c. OneDone (λ c x. opposite x) c a out (opposite-call s a out))
+opposite-back s a out e = let t = Done.opposite-took s a out e in (t .0, t .1, Done.opposite-done s a out (t .1) e)
+
+pub multiply-back : (s a n out : List ℕ) → answered ((multiply-call s a n out) .written) ≡ 0
+    → TookCurve s (λ c. OneDone (λ c x. multiple (curve c) (number n) x) c a out ((multiply-call s a n out) .written))
+multiply-back s a n out e = let t = Done.multiply-took s a n out e in (t .0, t .1, (Done.multiply-done s a out (t .1) n e) .1)
+
+pub total-back : (s records out : List ℕ) → answered ((total-call s records out) .written) ≡ 0 → TookCurve s (λ c. TotalDone c records out (total-call s records out))
+total-back s records out e = let t = Done.total-took s records out e in (t .0, t .1, Done.total-done s records out (t .1) e)
+
+-- so the check of what they wrote (`back 1`) answers 0
+pub check-accepts : (s : List ℕ) {c : CurveRecord} → read-curve s ≡ taken c → (a : List ℕ) {d : PairOf c} → read-divisor c 1 a ≡ taken d → check-divisor s a ≡ done 0
+check-accepts s ec = Taken.check-is s ec
+
+-- ---- demand 3: sums
+module _ (s : List ℕ) where
+  -- whatever the bytes are, refused or done: twice a divisor is its sum with itself, and the record 00 adds nothing
+  pub doubles : (a out : List ℕ) → add-call s a a out ≡ double-call s a out
+  doubles = Sums.add-self s
+
+  pub adds-nothing : (a out : List ℕ) → add-call s a (0 ∷ []) out ≡ rewrite-divisor s a out
+  adds-nothing = Sums.add-neutral s
+
+  pub commutes : (a b out : List ℕ) → answered (add-call s a b out) ≡ 0 → add-call s b a out ≡ add-call s a b out
+  commutes = Sums.add-comm s
+
+  pub associates : (a b d o1 o2 out : List ℕ) → answered (add-call s a b o1) ≡ 0 → answered (add-call s b d o2) ≡ 0
+      → add-call s (front (add-call s a b o1)) d out ≡ add-call s a (front (add-call s b d o2)) out
+  associates = Sums.add-assoc s
+
+  pub cancels : (a o1 out : List ℕ) → answered (opposite-call s a o1) ≡ 0 → add-call s a (front (opposite-call s a o1)) out ≡ write out (0 ∷ [])
+  cancels = Sums.add-opposite s
+
+  -- multiples: n-fold, then m-fold, is mn-fold; m-fold plus n-fold is (m + n)-fold. The scalars have at most 32 bytes
+  pub multiplies : (a m n k o1 out : List ℕ) → answered ((multiply-call s a n o1) .written) ≡ 0 → length m ≤ 32 → length k ≤ 32 → number k ≡ number m * number n
+      → (multiply-call s (front ((multiply-call s a n o1) .written)) m out) .written ≡ (multiply-call s a k out) .written
+  multiplies = Sums.multiply-mul s
+
+  pub distributes : (a m n k o1 o2 out : List ℕ) → answered ((multiply-call s a m o1) .written) ≡ 0 → answered ((multiply-call s a n o2) .written) ≡ 0 → length k ≤ 32 → number k ≡ number m + number n
+      → add-call s (front ((multiply-call s a m o1) .written)) (front ((multiply-call s a n o2) .written)) out ≡ (multiply-call s a k out) .written
+  distributes = Sums.multiply-add s
+
+-- ---- demand 3: totals
+module _ (s : List ℕ) {c : CurveRecord} (ec : read-curve s ≡ taken c) (rs : List (List ℕ)) (good : AllRecords c rs) where
+  -- at most 4,096 good records; 14 where a batch goes on after them
+  pub batch-of-records : {A : Type 0} (step : A → PairOf c → A) (from : A) → length rs ≤ 4096 → batch c step (flatten rs) from ≡ taken (record { result = foldl step from (map (pair-of c) rs); count = length rs })
+  batch-of-records step from = batch-records c step rs from good
+
+  pub total-of-records : (out : List ℕ) → length rs ≤ 4096 → total-call s (flatten rs) out ≡ totalled (write out (divisor-bytes (c .p) (total-of c rs))) (length rs)
+  total-of-records = Totals.total-records s ec rs good
+
+  pub goes-on : (rest out : List ℕ) → length rs ≡ 4096 → 0 < length rest → total-call s (flatten rs ++ rest) out ≡ not-totalled out 14 0
+  goes-on = Totals.total-over s ec rs good
+
+  -- in any order (and of any number of them)
+  pub any-order : (rs' : List (List ℕ)) → Perm rs rs' → (out : List ℕ) → total-call s (flatten rs) out ≡ total-call s (flatten rs') out
+  any-order rs' p out = Totals.total-any-order s ec rs rs' good p out
+
+  -- by any parts, each totalled by a call that wrote to o: the totals are summed by one more batch, or one after the other by sums
+  module _ (o : List ℕ) (room : 49 ≤ length o) (parts : List (List (List ℕ))) (p : Perm rs (flatten parts)) (few : length rs ≤ 4096) where
+    pub any-split : (out : List ℕ) → length parts ≤ 4096 → (total-call s (flatten (map (subtotal s o) parts)) out) .written ≡ (total-call s (flatten rs) out) .written
+    any-split = Totals.total-any-split s ec o room rs parts good p few
+
+    pub any-split-by-sums : adds s o (0 ∷ []) (map (subtotal s o) parts) ≡ subtotal s o rs
+    any-split-by-sums = Totals.total-by-adds s ec o room rs parts good p few
+
+-- ---- the pole's list
+-- a scan that answers 0 adds the record's divisor to the total's and 1 to its count, whatever total it was lent
+pub scan-adds : (s : List ℕ) {c : CurveRecord} → read-curve s ≡ taken c → (t : Running) (a : List ℕ) → (scan-call t s a) .answer .number ≡ 0 → ScanDone c t a (scan-call t s a)
+scan-adds s ec = Scans.scan-done s ec
+
+module _ (s : List ℕ) {c : CurveRecord} (ec : read-curve s ≡ taken c) (rs : List (List ℕ)) where
+  -- from a fresh total every scan answers 0 exactly where each was of a good record and they are at most 4,096
+  pub scans-answer : AllDone fresh s rs ↔ (AllRecords c rs × (length rs ≤ 4096))
+  scans-answer = Scans.scans-done s ec rs
+
+  -- and then the running total equals the batch total of what was taken so far
+  pub scans-are-total : AllDone fresh s rs → (out : List ℕ) → total-call s (flatten rs) out ≡ totalled (write out (running-bytes (scans fresh s rs))) ((scans fresh s rs) .count)
+  scans-are-total = Scans.scans-batch s ec rs
+
+  -- the first repeat among good records
+  pub repeat-of-records : AllRecords c rs → length rs ≤ 4096 → repeat-call s (flatten rs) ≡ record { answer = done 0; repeat = first-repeat (c .p) (map (pair-of c) rs) }
+  repeat-of-records = Repeats.repeat-records s ec rs
+
+-- none, or least j, then least i < j
+module _ (p : ℕ) (l : List (Pair (modulo p))) where
+  pub repeat-none : (first-repeat p l ≡ record { first = 0; second = 0 }) ↔ Clear l (length l)
+  repeat-none = Repeats.no-repeat-at p l
+
+  pub repeat-first : (i j : ℕ) → (first-repeat p l ≡ record { first = i + 1; second = j + 1 }) ↔ FirstAt l i j
+  repeat-first = Repeats.repeat-at p l
+
+-- ---- what each call leaves: on 0 the rest of the output is unchanged; on any other number length and counts are 0 and output and total are
+-- unchanged (calls/Kept has the others, of the same form)
+pub rest-unchanged : (out bytes : List ℕ) → answered (write out bytes) ≡ 0 → drop (length bytes) ((write out bytes) .out) ≡ drop (length bytes) out
+rest-unchanged = Written.rest-is
+
+pub add-refused : (s a b out : List ℕ) → Kept out (add-call s a b out)
+add-refused s a b out = Kept.add-kept out s a b
+
+pub multiply-refused : (s a n out : List ℕ) → KeptM out (multiply-call s a n out)
+multiply-refused s a n out = Kept.multiply-kept out s a n
+
+pub total-refused : (s records out : List ℕ) → KeptT out (total-call s records out)
+total-refused s records out = Kept.total-kept out s records
+
+pub scan-refused : (s : List ℕ) (t : Running) (a : List ℕ) → KeptS t (scan-call t s a)
+scan-refused = Kept.scan-kept
+
+-- ---- one answer: two programs that keep a call's words on the same bytes agree in the answer and in every byte of the output
+-- (a Written is an answer and an output, a Scanned an answer and a running total: equal to the rule's, part by part)
+pub one-answer : {A : Type 0} {rule x y : A} → x ≡ rule → y ≡ rule → x ≡ y
+one-answer e h = e ∙ sym h
+
+module _ (s : List ℕ) where
+  pub one-check-curve : (x y : Answer) → x ≡ check-curve s → y ≡ check-curve s → x ≡ y
+  one-check-curve x y = one-answer
+
+  pub one-check-divisor : (a : List ℕ) (x y : Answer) → x ≡ check-divisor s a → y ≡ check-divisor s a → x ≡ y
+  one-check-divisor a x y = one-answer
+
+  pub one-rewrite-curve : (out : List ℕ) (x y : Written) → x ≡ rewrite-curve s out → y ≡ rewrite-curve s out → x ≡ y
+  one-rewrite-curve out x y = one-answer
+
+  pub one-rewrite-divisor : (a out : List ℕ) (x y : Written) → x ≡ rewrite-divisor s a out → y ≡ rewrite-divisor s a out → x ≡ y
+  one-rewrite-divisor a out x y = one-answer
+
+  pub one-add : (a b out : List ℕ) (x y : Written) → x ≡ add-call s a b out → y ≡ add-call s a b out → x ≡ y
+  one-add a b out x y = one-answer
+
+  pub one-double : (a out : List ℕ) (x y : Written) → x ≡ double-call s a out → y ≡ double-call s a out → x ≡ y
+  one-double a out x y = one-answer
+
+  pub one-opposite : (a out : List ℕ) (x y : Written) → x ≡ opposite-call s a out → y ≡ opposite-call s a out → x ≡ y
+  one-opposite a out x y = one-answer
+
+  pub one-multiply : (a n out : List ℕ) (x y : Multiplied) → x ≡ multiply-call s a n out → y ≡ multiply-call s a n out → x ≡ y
+  one-multiply a n out x y = one-answer
+
+  pub one-total : (records out : List ℕ) (x y : Totalled) → x ≡ total-call s records out → y ≡ total-call s records out → x ≡ y
+  one-total records out x y = one-answer
+
+  pub one-repeat : (records : List ℕ) (x y : Repeated) → x ≡ repeat-call s records → y ≡ repeat-call s records → x ≡ y
+  one-repeat records x y = one-answer
+
+  pub one-scan : (t : Running) (a : List ℕ) (x y : Scanned) → x ≡ scan-call t s a → y ≡ scan-call t s a → x ≡ y
+  one-scan t a x y = one-answer
+
+pub one-fresh : (x y : Running) → x ≡ fresh → y ≡ fresh → x ≡ y
+one-fresh x y = one-answer

@@ -1,0 +1,133 @@
+// A scan into the running total, by value: the total's own divisor is checked on the curve given, then the record.
+ghost use mathlib.Core.Path.{_≡_};
+ghost use Rattle.rules.specs.Calls.{scan-call, scan-on};
+ghost use Rattle.field.specs.Primes.{Decides};
+ghost use Rattle.field.specs.Residues.{InRange};
+ghost use Rattle.curve.specs.Curves.{Sound};
+ghost use Rattle.records.specs.Read.{recordOf};
+ghost use Rattle.scans.specs.Scans.{AllIn, ResumeIs, runningOf, scannedOf};
+use curve::Curve;
+use divisor::Cubic;
+use divisor::Divisor;
+use divisor::Linear;
+use divisor::Quadratic;
+use field::Modulus;
+use field::Residue;
+use records::DivisorRead;
+use running::Running;
+
+pub enum ScanAnswer {
+    Done(Running),
+    Refused(u64, u64),
+}
+
+// Whether both are residues of m: they may have been kept under another curve.
+fn both_in_range(a: Residue, b: Residue, m: Modulus) -> bool
+    ensures { λ r. ⌜ Decides r (InRange m a × InRange m b) ⌝ }
+{
+    if a.in_range(m) { b.in_range(m) } else { false }
+}
+
+fn linear_in_range(d: Linear, m: Modulus) -> bool
+    ensures { λ r. ⌜ Decides r (AllIn m (Divisor.One d)) ⌝ }
+{
+    let u0 = d.u0;
+    let v0 = d.v0;
+    both_in_range(u0, v0, m)
+}
+
+fn quadratic_in_range(d: Quadratic, m: Modulus) -> bool
+    ensures { λ r. ⌜ Decides r (AllIn m (Divisor.Two d)) ⌝ }
+{
+    let u0 = d.u0;
+    let u1 = d.u1;
+    let v0 = d.v0;
+    let v1 = d.v1;
+    if both_in_range(u0, u1, m) {
+        both_in_range(v0, v1, m)
+    } else {
+        false
+    }
+}
+
+fn cubic_in_range(d: Cubic, m: Modulus) -> bool
+    ensures { λ r. ⌜ Decides r (AllIn m (Divisor.Three d)) ⌝ }
+{
+    let u0 = d.u0;
+    let u1 = d.u1;
+    let u2 = d.u2;
+    let v0 = d.v0;
+    let v1 = d.v1;
+    let v2 = d.v2;
+    if both_in_range(u0, u1, m) {
+        if both_in_range(u2, v0, m) {
+            both_in_range(v1, v2, m)
+        } else {
+            false
+        }
+    } else {
+        false
+    }
+}
+
+pub fn in_range(d: Divisor, m: Modulus) -> bool
+    ensures { λ r. ⌜ Decides r (AllIn m d) ⌝ }
+{
+    match d {
+        Divisor::Neutral => true,
+        Divisor::One(x) => linear_in_range(x, m),
+        Divisor::Two(x) => quadratic_in_range(x, m),
+        Divisor::Three(x) => cubic_in_range(x, m),
+    }
+}
+
+// 15, 14, or 0 where the total can go on.
+fn resume_number(c: Curve, t: Running) -> u64
+    requires { ⌜ Sound c ⌝ }
+    ensures { λ r. ⌜ ResumeIs c t r ⌝ }
+{
+    let d = t.divisor;
+    let g = c.g;
+    if g < d.weight() {
+        return 15;
+    }
+    if in_range(d, c.m) {
+        if c.carries(d) {
+            if 4096 < t.count {
+                return 15;
+            }
+            if t.count == 4096 {
+                return 14;
+            }
+            return 0;
+        }
+    }
+    15
+}
+
+// On a curve that was taken.
+pub fn scan_on(c: Curve, t: Running, record: &[u8]) -> ScanAnswer
+    requires { ⌜ Sound c ⌝ }
+    ensures { λ r. ⌜ scannedOf t r ≡ scan-on (recordOf c) (runningOf t) (now («record» .entry)) ⌝ }
+{
+    let number = resume_number(c, t);
+    if number != 0 {
+        return ScanAnswer::Refused(number, 0);
+    }
+    match records::divisor_at(c, true, record, 0) {
+        DivisorRead::Taken(d) => ScanAnswer::Done(t.take(c, d)),
+        DivisorRead::Refused(n) => ScanAnswer::Refused(n, 1),
+    }
+}
+
+pub fn scan(t: Running, curve: &[u8], record: &[u8]) -> ScanAnswer
+    ensures { λ r. ⌜ scannedOf t r ≡ scan-call (runningOf t) (now (curve .entry)) (now («record» .entry)) ⌝ }
+{
+    let read = records::read_curve(curve);
+    let c = read.curve;
+    let number = read.number;
+    if number != 0 {
+        return ScanAnswer::Refused(number, 0);
+    }
+    scan_on(c, t, record)
+}

@@ -1,0 +1,24 @@
+use mathlib.Core.Path.{sym}
+use Rattle.tablet.proofs.Outputs.{multiple-out}
+use mathlib.Core.Path.{ap, _∙_}
+use Rattle.rules.specs.Calls.{Multiplied}
+use Rattle.tablet.specs.Flat.{flat-multiple}
+use borrow.Author.Needs.{needs}
+use Rattle.tablet.proofs.yubi_multiply.Statement.{statement}
+use Rattle.tablet.proofs.yubi_multiply.Tie as tie
+
+multiply-requires : tie.Need-multiply-requires
+multiply-requires c κs = search needs
+
+flatten-multiple-requires : tie.Need-flatten-multiple-requires
+flatten-multiple-requires c κs = search needs
+
+same-length : tie.Need-same-length
+same-length c = search needs
+
+returns : tie.Need-returns
+returns c = let m = c .before .before .before .multiply in (c .flatten-multiple .ensures (m .last .1 .1 .1 .0) ∙ ap flat-multiple (m .ensures), sym (multiple-out (m .result) (m .last .1 .1 .1 .0)) ∙ ap (λ (x : Multiplied). x .written .out) (m .ensures))
+
+pub yubi-multiply-spec : {M : Type 1} → statement M
+yubi-multiply-spec =
+    tie.close (tie.spec multiply-requires flatten-multiple-requires same-length returns)
