@@ -1,7 +1,7 @@
 // Residues modulo an odd prime. A residue stands for an element of Z/p, `el m r`; nobody above this crate sees the number inside.
 ghost use mathlib.Core.Path.{_≡_};
 ghost use Rattle.algebra.proofs.zmod.Zmod.{zmod, num};
-ghost use Rattle.field.specs.Residues.{el, Good, Kept, Settled, Unit, Stands, Settles, Inverts, Everywhere, InRange};
+ghost use Rattle.field.specs.Residues.{el, Good, Kept, Settled, Unit, Stands, Settles, Inverts, Everywhere, InRange, raw};
 ghost use Rattle.field.specs.Primes.{Decides, OddPrime};
 ghost use Rattle.field.specs.Read.{ModulusIs, ResidueIs};
 
@@ -102,6 +102,19 @@ impl Residue {
     pub fn number(self, m: Modulus) -> u64
         requires { ⌜ Settled m self ⌝ }
         ensures { λ r. ⌜ r ≡ num (m .p) (el m self) ⌝ }
+    {
+        self.0
+    }
+
+    // A number kept from an earlier call, under whatever modulus, and back.
+    pub fn kept(n: u64) -> Residue
+        ensures { λ r. ⌜ raw r ≡ n ⌝ }
+    {
+        Residue(n)
+    }
+
+    pub fn written(self) -> u64
+        ensures { λ r. ⌜ r ≡ raw self ⌝ }
     {
         self.0
     }

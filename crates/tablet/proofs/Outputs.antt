@@ -1,6 +1,6 @@
--- The output is in the rule's answer as the call left it, whichever the case.
+-- The output is in the rule's answer as the call left it, whichever the case; and a fresh total is the rule's.
 use Prim.Native.Nat.{ℕ}
-use mathlib.Core.Path.{_≡_, refl}
+use mathlib.Core.Path.{_≡_, refl, ap₂}
 use mathlib.Core.List.{List}
 use Rattle.answers.specs.declared.MultipleAnswer.{MultipleAnswer}
 use Rattle.answers.specs.declared.MultipleAnswer.the-variants.{Done, Refused}
@@ -8,6 +8,12 @@ use Rattle.answers.specs.Answers.{multipleOf}
 use Rattle.batches.specs.declared.TotalAnswer.{TotalAnswer}
 use Rattle.batches.specs.declared.TotalAnswer.the-variants.{Done as DoneTotal, Refused as RefusedTotal}
 use Rattle.batches.specs.Batches.{totalOf}
+use Rattle.rules.specs.Calls.{fresh}
+use Rattle.divisor.specs.declared.Divisor.{Divisor}
+use Rattle.running.specs.declared.Running.{Running}
+use Rattle.running.specs.Totals.{Fresh}
+use Rattle.scans.specs.Scans.{runningOf}
+use Rattle.flats.specs.Flats.{flat-running}
 
 pub multiple-out : (a : MultipleAnswer) (out : List ℕ) → multipleOf a out .written .out ≡ out
 multiple-out (Done n d s) out = refl
@@ -16,3 +22,6 @@ multiple-out (Refused n k) out = refl
 pub total-out : (a : TotalAnswer) (out : List ℕ) → totalOf a out .written .out ≡ out
 total-out (DoneTotal n k) out = refl
 total-out (RefusedTotal n k) out = refl
+
+pub fresh-is : (t : Running) → Fresh t → flat-running (runningOf t) ≡ flat-running fresh
+fresh-is t h = ap₂ (λ (d : Divisor) (n : ℕ). flat-running (runningOf (record { divisor = d; count = n }))) (h .neutral) (h .none)

@@ -4,11 +4,16 @@ ghost use mathlib.Core.Path.{_≡_};
 ghost use Rattle.rules.specs.Calls.{check-curve, check-divisor, rewrite-curve, rewrite-divisor, add-call, double-call, opposite-call, multiply-call, total-call, repeat-call};
 ghost use Rattle.answers.specs.Answers.{answerOf};
 ghost use Rattle.batches.specs.Batches.{repeatOf};
+ghost use Rattle.rules.specs.Calls.{fresh};
+ghost use Rattle.flats.specs.Flats.{flat-running, FlatScanIs};
 ghost use Rattle.tablet.specs.Flat.{flat, flat-multiple, FlatMultiple, flat-total, FlatTotal, flat-repeat};
 use answers::Answer;
 use answers::MultipleAnswer;
 use batches::RepeatAnswer;
 use batches::TotalAnswer;
+use flats::YubiRunning;
+use flats::YubiScanned;
+use running::Running;
 
 #[repr(C)]
 pub struct YubiAnswer {
@@ -208,4 +213,18 @@ pub extern "C" fn yubi_first_repeat(curve: &[u8], batch: &[u8]) -> YubiRepeat
     ensures { λ r. ⌜ r ≡ flat-repeat (repeat-call (now (curve .entry)) (now (batch .entry))) ⌝ }
 {
     flatten_repeat(batches::first_repeat(curve, batch))
+}
+
+#[no_mangle]
+pub extern "C" fn yubi_fresh_total() -> YubiRunning
+    ensures { λ r. ⌜ r ≡ flat-running fresh ⌝ }
+{
+    flats::flatten_running(Running::fresh())
+}
+
+#[no_mangle]
+pub extern "C" fn yubi_scan(total: YubiRunning, curve: &[u8], record: &[u8]) -> YubiScanned
+    ensures { λ r. ⌜ FlatScanIs total (now (curve .entry)) (now («record» .entry)) r ⌝ }
+{
+    flats::scan(total, curve, record)
 }
