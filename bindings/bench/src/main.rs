@@ -1,0 +1,197 @@
+//! Times the proved library and the plain implementation in one program, on the same bytes.
+//!
+//!     bench [RUNS]                        medians of RUNS runs (15) of each work and engine, and their ratio
+//!     bench count ENGINE WORK GENUS N     does a work N times and prints nothing, for a counter of instructions
+//!
+//! ENGINE is `proved` or `plain`, WORK is `total` (a batch of 4,096 records) or `multiple` (a 256-bit scalar), GENUS 2 or 3;
+//! p is 2,147,483,647. Every call checks its curve and its records, in both engines. A program that was built without
+//! the library times plain against plain. Exit 1 where the engines' results differ, 2 on wrong arguments.
+
+use std::process::exit;
+use std::time::Instant;
+
+const P: u64 = 2_147_483_647;
+const RECORDS: usize = 4096;
+
+/// Curve, batch and output to number and length.
+type Total = fn(&[u8], &[u8], &mut [u8]) -> (u64, u64);
+
+/// Curve, divisor, scalar and output to number and length.
+type Multiple = fn(&[u8], &[u8], &[u8], &mut [u8]) -> (u64, u64);
+
+/// The calls that are timed.
+struct Engine {
+    name: &'static str,
+    total: Total,
+    multiple: Multiple,
+}
+
+const PLAIN: Engine = Engine {
+    name: "plain",
+    total: |curve, batch, out| {
+        let answer = plain::total_batch(curve, batch, out);
+        (answer.number, answer.length)
+    },
+    multiple: |curve, a, scalar, out| {
+        let answer = plain::multiply(curve, a, scalar, out);
+        (answer.number, answer.length)
+    },
+};
+
+#[cfg(feature = "proved")]
+const PROVED: Engine = Engine {
+    name: "proved",
+    total: |curve, batch, out| {
+        let answer = yubisorade::raw::total_batch(curve, batch, out);
+        (answer.number, answer.length)
+    },
+    multiple: |curve, a, scalar, out| {
+        let answer = yubisorade::raw::multiply(curve, a, scalar, out);
+        (answer.number, answer.length)
+    },
+};
+#[cfg(not(feature = "proved"))]
+const PROVED: Engine = Engine { name: "plain (no library)", ..PLAIN };
+
+#[derive(Clone, Copy)]
+enum Work {
+    Total,
+    Multiple,
+}
+
+impl Work {
+    const ALL: [Work; 2] = [Work::Total, Work::Multiple];
+
+    fn name(self) -> &'static str {
+        match self {
+            Work::Total => "total",
+            Work::Multiple => "multiple",
+        }
+    }
+}
+
+/// What both engines work on.
+struct Input {
+    genus: u8,
+    curve: Vec<u8>,
+    batch: Vec<u8>,
+    scalar: [u8; 32],
+}
+
+impl Input {
+    /// A curve with every coefficient in use, and 4,096 different divisors, all but the first few of full weight.
+    fn new(genus: u8) -> Input {
+        let mut curve = vec![b'H', b'J', b'C', 0, 1, genus];
+        curve.extend_from_slice(&P.to_be_bytes());
+        // f_0 = 4, so that (x, 2) is on the curve; the others are far from 0.
+        for i in 0..=2 * u64::from(genus) {
+            let f = if i == 0 { 4 } else { i * 1_234_567_891 % P };
+            curve.extend_from_slice(&f.to_be_bytes());
+        }
+        let mut point = vec![1];
+        point.extend_from_slice(&0u64.to_be_bytes());
+        point.extend_from_slice(&2u64.to_be_bytes());
+
+        let mut batch = Vec::new();
+        let mut last = vec![0];
+        for _ in 0..RECORDS {
+            let mut out = [0; 49];
+            let answer = plain::add(&curve, &last, &point, &mut out);
+            assert_eq!(answer.number, 0, "the benchmark's curve was refused");
+            last = out[..answer.length as usize].to_vec();
+            batch.extend_from_slice(&last);
+        }
+        let mut scalar = [0; 32];
+        for (i, byte) in scalar.iter_mut().enumerate() {
+            *byte = 0x80 | (i as u8).wrapping_mul(37);
+        }
+        Input { genus, curve, batch, scalar }
+    }
+
+    /// The last record of the batch.
+    fn divisor(&self) -> &[u8] {
+        &self.batch[self.batch.len() - 1 - 16 * usize::from(self.genus)..]
+    }
+
+    /// Does a work once and gives the record that it wrote.
+    fn run(&self, engine: &Engine, work: Work) -> Vec<u8> {
+        let mut out = [0; 49];
+        let (number, length) = match work {
+            Work::Total => (engine.total)(&self.curve, &self.batch, &mut out),
+            Work::Multiple => (engine.multiple)(&self.curve, self.divisor(), &self.scalar, &mut out),
+        };
+        if number != 0 {
+            eprintln!("{} {} was refused: {}", engine.name, work.name(), number);
+            exit(1);
+        }
+        out[..length as usize].to_vec()
+    }
+}
+
+fn usage() -> ! {
+    eprintln!("usage: bench [RUNS]\n       bench count proved|plain total|multiple 2|3 N");
+    exit(2)
+}
+
+fn main() {
+    let arguments: Vec<String> = std::env::args().skip(1).collect();
+    let words: Vec<&str> = arguments.iter().map(|word| &word[..]).collect();
+    match words[..] {
+        [] => compare(15),
+        [runs] => compare(runs.parse().ok().filter(|&runs| runs > 0).unwrap_or_else(|| usage())),
+        ["count", engine, work, genus, n] => {
+            let engine = match engine {
+                "proved" => &PROVED,
+                "plain" => &PLAIN,
+                _ => usage(),
+            };
+            let work = Work::ALL.iter().find(|known| known.name() == work).unwrap_or_else(|| usage());
+            let genus = if genus == "2" || genus == "3" { genus.as_bytes()[0] - b'0' } else { usage() };
+            let n: u64 = n.parse().unwrap_or_else(|_| usage());
+            let input = Input::new(genus);
+            for _ in 0..n {
+                input.run(engine, *work);
+            }
+        }
+        _ => usage(),
+    }
+}
+
+/// Runs the engines in turn, so that a slow moment of the machine hits both.
+fn compare(runs: usize) {
+    println!("p = {}, medians of {} runs, the curve check included", P, runs);
+    for genus in [2, 3] {
+        let input = Input::new(genus);
+        for work in Work::ALL {
+            let mut times = [Vec::new(), Vec::new()];
+            for _ in 0..runs {
+                let mut results = Vec::new();
+                for (engine, times) in [&PROVED, &PLAIN].iter().zip(&mut times) {
+                    let start = Instant::now();
+                    results.push(input.run(engine, work));
+                    times.push(start.elapsed().as_secs_f64() * 1e6);
+                }
+                if results[0] != results[1] {
+                    eprintln!("genus {} {}: the engines' results differ", genus, work.name());
+                    exit(1);
+                }
+            }
+            let [proved, plain] = times.map(median);
+            println!(
+                "genus {} {:8}  {} {:10.1} us   {} {:10.1} us   ratio {:.2}",
+                genus,
+                work.name(),
+                PROVED.name,
+                proved,
+                PLAIN.name,
+                plain,
+                proved / plain
+            );
+        }
+    }
+}
+
+fn median(mut times: Vec<f64>) -> f64 {
+    times.sort_by(|a, b| a.partial_cmp(b).expect("times are numbers"));
+    times[times.len() / 2]
+}

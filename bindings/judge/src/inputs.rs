@@ -1,0 +1,274 @@
+//! Seeded curves and divisors, the special ones well represented.
+
+/// A small seeded generator (splitmix64).
+pub struct Rng(u64);
+
+impl Rng {
+    pub fn new(seed: u64) -> Rng {
+        Rng(seed)
+    }
+
+    pub fn next(&mut self) -> u64 {
+        self.0 = self.0.wrapping_add(0x9e37_79b9_7f4a_7c15);
+        let mut z = self.0;
+        z = (z ^ (z >> 30)).wrapping_mul(0xbf58_476d_1ce4_e5b9);
+        z = (z ^ (z >> 27)).wrapping_mul(0x94d0_49bb_1331_11eb);
+        z ^ (z >> 31)
+    }
+
+    /// A number below n.
+    pub fn below(&mut self, n: u64) -> u64 {
+        ((self.next() as u128 * n as u128) >> 64) as u64
+    }
+
+    pub fn one_in(&mut self, n: u64) -> bool {
+        self.below(n) == 0
+    }
+
+    pub fn pick<'a, T>(&mut self, from: &'a [T]) -> &'a T {
+        &from[self.below(from.len() as u64) as usize]
+    }
+
+    pub fn bytes(&mut self, n: usize) -> Vec<u8> {
+        (0..n).map(|_| self.next() as u8).collect()
+    }
+}
+
+/// Numbers modulo p, and polynomials as lists from the constant term up: as simple as can be, for making inputs only.
+mod simple {
+    pub fn mul(a: u64, b: u64, p: u64) -> u64 {
+        (a as u128 * b as u128 % p as u128) as u64
+    }
+
+    pub fn pow(mut a: u64, mut n: u64, p: u64) -> u64 {
+        let mut r = 1 % p;
+        while n > 0 {
+            if n & 1 == 1 {
+                r = mul(r, a, p);
+            }
+            a = mul(a, a, p);
+            n >>= 1;
+        }
+        r
+    }
+
+    /// A square root of a modulo an odd prime, by Tonelli and Shanks, if there is one.
+    pub fn root(a: u64, p: u64) -> Option<u64> {
+        if a == 0 {
+            return Some(0);
+        }
+        if pow(a, (p - 1) / 2, p) != 1 {
+            return None;
+        }
+        let twos = (p - 1).trailing_zeros();
+        let odd = (p - 1) >> twos;
+        let other = (2..p).find(|&z| pow(z, (p - 1) / 2, p) == p - 1)?;
+        let (mut m, mut c) = (twos, pow(other, odd, p));
+        let (mut t, mut r) = (pow(a, odd, p), pow(a, (odd + 1) / 2, p));
+        while t != 1 {
+            let mut square = t;
+            let mut i = 0;
+            while square != 1 {
+                square = mul(square, square, p);
+                i += 1;
+            }
+            let b = pow(c, 1 << (m - i - 1), p);
+            m = i;
+            c = mul(b, b, p);
+            t = mul(t, c, p);
+            r = mul(r, b, p);
+        }
+        Some(r)
+    }
+
+    pub fn value(f: &[u64], x: u64, p: u64) -> u64 {
+        f.iter().rev().fold(0, |sum, &c| (mul(sum, x, p) + c) % p)
+    }
+
+    /// Whether two polynomials, not both zero, share a factor of degree 1 or more.
+    pub fn share_factor(a: &[u64], b: &[u64], p: u64) -> bool {
+        let trim = |v: &mut Vec<u64>| {
+            while v.last() == Some(&0) {
+                v.pop();
+            }
+        };
+        let (mut a, mut b) = (a.to_vec(), b.to_vec());
+        trim(&mut a);
+        trim(&mut b);
+        while !b.is_empty() {
+            let inverse = pow(b[b.len() - 1], p - 2, p);
+            while a.len() >= b.len() {
+                let by = mul(a[a.len() - 1], inverse, p);
+                let shift = a.len() - b.len();
+                for (i, &c) in b.iter().enumerate() {
+                    a[i + shift] = (a[i + shift] + p - mul(by, c, p)) % p;
+                }
+                trim(&mut a);
+            }
+            std::mem::swap(&mut a, &mut b);
+        }
+        a.len() > 1
+    }
+}
+
+pub fn curve_record(genus: u8, p: u64, f: &[u64]) -> Vec<u8> {
+    let mut bytes = vec![b'H', b'J', b'C', 0, 1, genus];
+    for number in std::iter::once(&p).chain(f) {
+        bytes.extend_from_slice(&number.to_be_bytes());
+    }
+    bytes
+}
+
+pub fn divisor_record(u: &[u64], v: &[u64]) -> Vec<u8> {
+    let mut bytes = vec![u.len() as u8];
+    for number in u.iter().chain(v) {
+        bytes.extend_from_slice(&number.to_be_bytes());
+    }
+    bytes
+}
+
+/// The numbers of a good divisor record: u without its leading 1, and v.
+pub fn numbers_of(record: &[u8]) -> (Vec<u64>, Vec<u64>) {
+    let numbers: Vec<u64> =
+        record[1..].chunks_exact(8).map(|chunk| chunk.iter().fold(0, |n, &byte| n << 8 | u64::from(byte))).collect();
+    let (u, v) = numbers.split_at(numbers.len() / 2);
+    (u.to_vec(), v.to_vec())
+}
+
+/// What is special about two divisors that are added.
+#[derive(Clone, Copy, Debug, PartialEq, Eq)]
+pub struct Pair {
+    pub shared_root: bool,
+    pub opposite: bool,
+    pub zero_y: bool,
+    pub below_genus: bool,
+}
+
+/// A curve, and divisors on it.
+pub struct Sample {
+    pub genus: usize,
+    pub p: u64,
+    pub f: Vec<u64>,
+    pub curve: Vec<u8>,
+    /// Good divisor records: the neutral one first, then points, points with y = 0, opposites, sums and multiples.
+    pub pool: Vec<Vec<u8>>,
+}
+
+/// Where a prime is this small, all divisors of weight 2 are looked at.
+const SMALL: u64 = 11;
+
+impl Sample {
+    /// A curve of this genus and prime with its pool.
+    pub fn new(rng: &mut Rng, genus: usize, p: u64) -> Sample {
+        loop {
+            let mut f: Vec<u64> = (0..=2 * genus).map(|_| rng.below(p)).collect();
+            if rng.one_in(3) {
+                f[2 * genus] = 0;
+            }
+            // On most curves f_0 moves so that some x is a root: a point with y = 0.
+            let zero = rng.below(p);
+            if !rng.one_in(4) {
+                f[0] = (f[0] + p - monic_value(&f, zero, p)) % p;
+            }
+            let curve = curve_record(genus as u8, p, &f);
+            if plain::check_curve(&curve).number == 0 {
+                let mut sample = Sample { genus, p, f, curve, pool: vec![vec![0]] };
+                sample.fill(rng, zero);
+                return sample;
+            }
+        }
+    }
+
+    fn fill(&mut self, rng: &mut Rng, zero: u64) {
+        let p = self.p;
+        let mut candidates = vec![zero];
+        if p <= SMALL {
+            candidates.extend((0..p).filter(|&x| x != zero));
+        } else {
+            candidates.extend((0..24).map(|_| rng.below(p)));
+        }
+        for x in candidates {
+            if let Some(y) = simple::root(monic_value(&self.f, x, p), p) {
+                let y = if rng.one_in(2) { y } else { (p - y) % p };
+                self.pool.push(divisor_record(&[(p - x) % p], &[y]));
+            }
+        }
+        self.pool.truncate(8);
+        if p <= SMALL {
+            for _ in 0..200 {
+                let n: Vec<u64> = (0..4).map(|_| rng.below(p)).collect();
+                let record = divisor_record(&n[..2], &n[2..]);
+                if self.pool.len() < 16 && plain::check_divisor(&self.curve, &record).number == 0 {
+                    self.pool.push(record);
+                }
+            }
+        }
+        for _ in 0..8 {
+            let a = self.any(rng).to_vec();
+            self.pool.push(written(|out| plain::opposite(&self.curve, &a, out).length));
+        }
+        for _ in 0..24 {
+            let (a, b) = (self.any(rng).to_vec(), self.any(rng).to_vec());
+            self.pool.push(self.sum(&a, &b));
+        }
+        for _ in 0..8 {
+            let (a, scalar) = (self.any(rng).to_vec(), rng.next().to_be_bytes());
+            self.pool.push(written(|out| plain::multiply(&self.curve, &a, &scalar, out).length));
+        }
+    }
+
+    /// One of the pool.
+    pub fn any<'a>(&'a self, rng: &mut Rng) -> &'a [u8] {
+        rng.pick::<Vec<u8>>(&self.pool)
+    }
+
+    /// The plain sum of two good records.
+    pub fn sum(&self, a: &[u8], b: &[u8]) -> Vec<u8> {
+        written(|out| plain::add(&self.curve, a, b, out).length)
+    }
+
+    /// The record of a curve whose f has a double root.
+    pub fn with_double_root(&self, rng: &mut Rng) -> Vec<u8> {
+        let (p, r) = (self.p, rng.below(self.p));
+        // (x - r)² times something monic of degree 2g - 1, one factor after the other.
+        let mut f: Vec<u64> = (0..2 * self.genus - 1).map(|_| rng.below(p)).collect();
+        f.push(1);
+        for _ in 0..2 {
+            f.insert(0, 0);
+            for i in 0..f.len() - 1 {
+                f[i] = (f[i] + p - simple::mul(r, f[i + 1], p)) % p;
+            }
+        }
+        curve_record(self.genus as u8, p, &f[..=2 * self.genus])
+    }
+
+    pub fn f_2g_is_set(&self) -> bool {
+        self.f[2 * self.genus] != 0
+    }
+
+    /// What is special about a pair of good records.
+    pub fn pair(&self, a: &[u8], b: &[u8]) -> Pair {
+        let ((mut u1, v1), (mut u2, v2)) = (numbers_of(a), numbers_of(b));
+        let opposite = u1 == u2 && !u1.is_empty() && v1.iter().zip(&v2).all(|(x, y)| (x + y) % self.p == 0);
+        u1.push(1);
+        u2.push(1);
+        Pair {
+            shared_root: simple::share_factor(&u1, &u2, self.p),
+            opposite,
+            zero_y: simple::share_factor(&u1, &v1, self.p) || simple::share_factor(&u2, &v2, self.p),
+            below_genus: u1.len() <= self.genus || u2.len() <= self.genus,
+        }
+    }
+}
+
+/// f(x) with f's leading 1.
+fn monic_value(f: &[u64], x: u64, p: u64) -> u64 {
+    (simple::value(f, x, p) + simple::pow(x, f.len() as u64, p)) % p
+}
+
+/// What a call writes to an output that always suffices.
+fn written(call: impl FnOnce(&mut [u8]) -> u64) -> Vec<u8> {
+    let mut out = [0; 49];
+    let length = call(&mut out) as usize;
+    out[..length].to_vec()
+}

@@ -1,0 +1,176 @@
+//! Puts calls to two engines and compares what they do.
+
+use crate::engine::{Call, Engine, Reply};
+use crate::inputs::{Pair, Rng};
+use std::collections::BTreeMap;
+
+/// Differences that are printed in full; the rest are only counted.
+const SHOWN: u64 = 10;
+
+/// How often calls are reported while they run.
+const STEP: u64 = 20_000;
+
+/// Which pairs of divisors were added on the curves of one genus and prime.
+#[derive(Clone, Copy, Debug, Default, PartialEq, Eq)]
+pub struct Census {
+    pub sums: u64,
+    pub shared_root: u64,
+    pub opposite: u64,
+    pub zero_y: u64,
+    pub below_genus: u64,
+    pub f_2g: u64,
+}
+
+/// What was counted.
+#[derive(Debug, Default)]
+pub struct Tally {
+    pub calls: u64,
+    /// Calls that wrote a divisor of weight 1 or more, or moved a running total to one.
+    pub not_neutral: u64,
+    pub differences: u64,
+    /// Calls by the number answered.
+    pub numbers: BTreeMap<u64, u64>,
+    pub census: BTreeMap<(usize, u64), Census>,
+}
+
+pub struct Judge<'e> {
+    engines: [&'e dyn Engine; 2],
+    pub rng: Rng,
+    pub tally: Tally,
+    quiet: bool,
+}
+
+/// An engine's reply, with its output and the guard bytes on both sides of it.
+struct Outcome {
+    reply: Reply,
+    buffer: Vec<u8>,
+}
+
+impl<'e> Judge<'e> {
+    pub fn new(first: &'e dyn Engine, second: &'e dyn Engine, seed: u64, quiet: bool) -> Judge<'e> {
+        Judge { engines: [first, second], rng: Rng::new(seed), tally: Tally::default(), quiet }
+    }
+
+    /// Puts a call to both engines, with an output of `room` bytes, and gives the second engine's number.
+    pub fn put(&mut self, call: Call, room: usize) -> u64 {
+        let room = if call.has_output() { room } else { 0 };
+        // The output starts anywhere and is filled with bytes that no engine can guess.
+        let guard = 16 + self.rng.below(16) as usize;
+        let before: Vec<u8> = (0..guard + room + 32).map(|_| self.rng.next() as u8).collect();
+        let outcomes = self.engines.map(|engine| {
+            let mut buffer = before.clone();
+            let reply = engine.answer(&call, &mut buffer[guard..guard + room]);
+            Outcome { reply, buffer }
+        });
+
+        self.tally.calls += 1;
+        let [first, second] = &outcomes;
+        let mut faults = Vec::new();
+        for (outcome, engine) in outcomes.iter().zip(self.engines) {
+            if let Some(fault) = broken_rule(&call, outcome, &before, guard, room) {
+                faults.push(format!("{}: {}", engine.name(), fault));
+            }
+        }
+        if first.reply != second.reply {
+            faults.push("the answers differ".to_string());
+        }
+        if first.buffer != second.buffer {
+            faults.push("the outputs differ".to_string());
+        }
+        if !faults.is_empty() {
+            self.tally.differences += 1;
+            if self.tally.differences <= SHOWN && !self.quiet {
+                println!("DIFFERENCE at call {}: {}", self.tally.calls, faults.join("; "));
+                println!("  call, output of {} bytes: {}", room, shown(&call));
+                for (outcome, engine) in outcomes.iter().zip(self.engines) {
+                    println!("  {}: {:?}", engine.name(), outcome.reply);
+                    println!("    output {}", hex(&outcome.buffer[guard..guard + room]));
+                }
+            }
+        }
+
+        let reply = second.reply;
+        *self.tally.numbers.entry(reply.number).or_default() += 1;
+        let moved = matches!(call, Call::Scan { .. } | Call::ScanLent { .. }) && reply.total.weight > 0;
+        let wrote = !matches!(call, Call::RewriteCurve { .. }) && reply.length > 1;
+        if reply.number == 0 && (moved || wrote) {
+            self.tally.not_neutral += 1;
+        }
+        if self.tally.calls % STEP == 0 && !self.quiet {
+            println!("{} calls, {} differences", self.tally.calls, self.tally.differences);
+        }
+        reply.number
+    }
+
+    /// Counts a pair of divisors that is about to be added.
+    pub fn count_pair(&mut self, genus: usize, p: u64, f_2g: bool, pair: Pair) {
+        let census = self.tally.census.entry((genus, p)).or_default();
+        census.sums += 1;
+        census.shared_root += u64::from(pair.shared_root);
+        census.opposite += u64::from(pair.opposite);
+        census.zero_y += u64::from(pair.zero_y);
+        census.below_genus += u64::from(pair.below_genus);
+        census.f_2g += u64::from(f_2g);
+    }
+}
+
+/// What the contract says of every answer, whatever the sum: the first rule that an outcome breaks.
+fn broken_rule(call: &Call, outcome: &Outcome, before: &[u8], guard: usize, room: usize) -> Option<&'static str> {
+    let Outcome { reply, buffer } = outcome;
+    let end = guard + room;
+    let written = reply.length as usize;
+    if buffer[..guard] != before[..guard] || buffer[end..] != before[end..] {
+        return Some("bytes outside the output changed");
+    }
+    if written > room {
+        return Some("more bytes written than there is room");
+    }
+    if buffer[guard + written..end] != before[guard + written..end] {
+        return Some("bytes behind the result changed");
+    }
+    if reply.number > 15 {
+        return Some("a number that isn't in the table");
+    }
+    if reply.number == 0 {
+        if reply.place != 0 {
+            return Some("a place without a fault");
+        }
+        if call.has_output() == (written == 0) {
+            return Some("a length that the call can't have");
+        }
+        return None;
+    }
+    if reply.length != 0 || reply.counts != [0; 2] {
+        return Some("a length or a count with a refusal");
+    }
+    if (8..=11).contains(&reply.number) == (reply.place == 0) {
+        return Some("a place that the number can't have");
+    }
+    if reply.total != call.total_before() {
+        return Some("a running total changed by a refusal");
+    }
+    None
+}
+
+fn hex(bytes: &[u8]) -> String {
+    bytes.iter().map(|byte| format!("{:02x}", byte)).collect()
+}
+
+/// A call with its bytes in hexadecimal, so that it can be repeated.
+fn shown(call: &Call) -> String {
+    match *call {
+        Call::CheckCurve { curve } => format!("check_curve {}", hex(curve)),
+        Call::CheckDivisor { curve, divisor } => format!("check_divisor {} {}", hex(curve), hex(divisor)),
+        Call::RewriteCurve { curve } => format!("rewrite_curve {}", hex(curve)),
+        Call::RewriteDivisor { curve, divisor } => format!("rewrite_divisor {} {}", hex(curve), hex(divisor)),
+        Call::Add { curve, a, b } => format!("add {} {} {}", hex(curve), hex(a), hex(b)),
+        Call::Double { curve, a } => format!("double {} {}", hex(curve), hex(a)),
+        Call::Opposite { curve, a } => format!("opposite {} {}", hex(curve), hex(a)),
+        Call::Multiply { curve, a, scalar } => format!("multiply {} {} {}", hex(curve), hex(a), hex(scalar)),
+        Call::TotalBatch { curve, batch } => format!("total_batch {} {}", hex(curve), hex(batch)),
+        Call::FirstRepeat { curve, batch } => format!("first_repeat {} {}", hex(curve), hex(batch)),
+        Call::FreshTotal => "fresh_total".to_string(),
+        Call::Scan { total, curve, record } => format!("scan {:?} {} {}", total, hex(curve), hex(record)),
+        Call::ScanLent { total, curve, record } => format!("scan_lent {:?} {} {}", total, hex(curve), hex(record)),
+    }
+}

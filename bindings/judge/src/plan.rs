@@ -1,0 +1,671 @@
+//! What is put to the engines.
+
+use crate::engine::Call;
+use crate::inputs::{numbers_of, Rng, Sample};
+use crate::judge::Judge;
+use plain::Running;
+
+pub const PRIMES: [u64; 6] = [3, 5, 7, 11, 65_537, 2_147_483_647];
+
+const MOST: usize = 4096;
+const ROOM: usize = 49;
+
+/// Numbers that a curve can't have for p: out of range, even, or with factors.
+const NO_PRIMES: [u64; 14] =
+    [0, 1, 2, 4, 9, 15, 25, 561, 46_337 * 46_337, 2_147_483_645, 2_147_483_648, 2_147_483_659, 1 << 32, u64::MAX];
+
+/// Runs rounds over both genera and all primes until `count` calls are made.
+pub fn run(judge: &mut Judge, count: u64) {
+    for round in 0.. {
+        if judge.tally.calls >= count {
+            break;
+        }
+        let genus = 2 + round % 2;
+        let p = PRIMES[round / 2 % PRIMES.len()];
+        for _ in 0..4 {
+            let sample = Sample::new(&mut judge.rng, genus, p);
+            sums(judge, &sample);
+        }
+        let sample = Sample::new(&mut judge.rng, genus, p);
+        judge.put(Call::FreshTotal, 0);
+        multiples(judge, &sample);
+        small_batches(judge, &sample);
+        large_batches(judge, &sample);
+        output_lengths(judge, &sample);
+        record_lengths(judge, &sample);
+        flipped_bits(judge, &sample);
+        curve_faults(judge, &sample);
+        neighbouring_faults(judge, &sample);
+        mixed_faults(judge, &sample);
+        running_totals(judge, &sample);
+    }
+}
+
+/// Pairs from the pool: sums, doubles, opposites, rewrites.
+fn sums(judge: &mut Judge, sample: &Sample) {
+    let curve = &sample.curve;
+    for _ in 0..175 {
+        let a = sample.any(&mut judge.rng);
+        let b = match judge.rng.below(10) {
+            0 => a.to_vec(),
+            1 => {
+                let mut out = [0; ROOM];
+                let length = plain::opposite(curve, a, &mut out).length;
+                out[..length as usize].to_vec()
+            }
+            _ => sample.any(&mut judge.rng).to_vec(),
+        };
+        judge.count_pair(sample.genus, sample.p, sample.f_2g_is_set(), sample.pair(a, &b));
+        judge.put(Call::Add { curve, a, b: &b }, ROOM);
+        judge.put(Call::Double { curve, a }, ROOM);
+        judge.put(Call::Opposite { curve, a: &b }, ROOM);
+        judge.put(Call::Add { curve, a: &sample.sum(a, &b), b: &b }, ROOM);
+    }
+    for divisor in &sample.pool {
+        judge.put(Call::CheckDivisor { curve, divisor }, 0);
+        judge.put(Call::RewriteDivisor { curve, divisor }, ROOM);
+    }
+    judge.put(Call::CheckCurve { curve }, 0);
+    judge.put(Call::RewriteCurve { curve }, 70);
+}
+
+/// A scalar: random of any length, or one with few bits, many bits or leading zeros.
+fn scalar(rng: &mut Rng) -> Vec<u8> {
+    let length = rng.below(33) as usize;
+    let mut bytes = rng.bytes(length);
+    match rng.below(8) {
+        0 => bytes.fill(0),
+        1 => bytes.fill(0xff),
+        2 | 3 => {
+            let zeros = rng.below(length as u64 + 1) as usize;
+            bytes[..zeros].fill(0);
+        }
+        4 if length > 0 => {
+            bytes.fill(0);
+            bytes[rng.below(length as u64) as usize] = 1 << rng.below(8);
+        }
+        _ => {}
+    }
+    bytes
+}
+
+fn multiples(judge: &mut Judge, sample: &Sample) {
+    let curve = &sample.curve;
+    for n in 0..=16 {
+        let a = sample.any(&mut judge.rng);
+        judge.put(Call::Multiply { curve, a, scalar: &[n] }, ROOM);
+    }
+    for length in 0..=36 {
+        let a = sample.any(&mut judge.rng);
+        let scalar = judge.rng.bytes(length);
+        judge.put(Call::Multiply { curve, a, scalar: &scalar }, ROOM);
+    }
+    for _ in 0..60 {
+        let (a, scalar) = (sample.any(&mut judge.rng), scalar(&mut judge.rng));
+        judge.put(Call::Multiply { curve, a, scalar: &scalar }, ROOM);
+    }
+}
+
+/// Batches of up to 40 records: whole, cut, faulty; their totals, their repeats, and the same records scanned one by one.
+fn small_batches(judge: &mut Judge, sample: &Sample) {
+    let curve = &sample.curve;
+    for _ in 0..20 {
+        let size = judge.rng.below(41) as usize;
+        let mut records: Vec<Vec<u8>> = (0..size).map(|_| sample.any(&mut judge.rng).to_vec()).collect();
+        let (mut by_value, mut lent) = (Running::default(), Running::default());
+        for record in &records {
+            judge.put(Call::Scan { total: by_value, curve, record }, 0);
+            by_value = plain::scan(by_value, curve, record).total;
+            judge.put(Call::ScanLent { total: lent, curve, record }, 0);
+            plain::scan_lent(&mut lent, curve, record);
+        }
+        put_batch(judge, curve, &records.concat(), ROOM);
+        if size > 0 {
+            let whole = records.concat();
+            let cut = judge.rng.below(whole.len() as u64) as usize;
+            put_batch(judge, curve, &whole[..cut], ROOM);
+            let at = judge.rng.below(size as u64) as usize;
+            let faults = some_faults(&mut judge.rng, DIVISOR_FAULTS);
+            records[at] = faulty_divisor(&mut judge.rng, sample, faults);
+            let room = judge.rng.below(ROOM as u64 + 1) as usize;
+            put_batch(judge, curve, &records.concat(), room);
+        }
+    }
+}
+
+fn put_batch(judge: &mut Judge, curve: &[u8], batch: &[u8], room: usize) {
+    judge.put(Call::TotalBatch { curve, batch }, room);
+    judge.put(Call::FirstRepeat { curve, batch }, 0);
+}
+
+/// Batches at the limit: 0, 1, 4,095, 4,096 and 4,097 records, a byte too many, a fault at the end, repeats far apart.
+fn large_batches(judge: &mut Judge, sample: &Sample) {
+    let curve = &sample.curve;
+    // A walk on a large field doesn't come back; on a small one it repeats soon.
+    let (step, mut at) = (sample.any(&mut judge.rng).to_vec(), sample.any(&mut judge.rng).to_vec());
+    let mut walk = Vec::with_capacity(MOST + 1);
+    for _ in 0..=MOST {
+        at = sample.sum(&at, &step);
+        walk.push(at.clone());
+    }
+    for size in [0, 1, MOST - 1, MOST, MOST + 1] {
+        put_batch(judge, curve, &walk[..size].concat(), ROOM);
+    }
+    let mut full = walk[..MOST].concat();
+    judge.put(Call::TotalBatch { curve, batch: &full }, 0);
+    for last in [0, 1, 9, 255] {
+        full.push(last);
+        let room = judge.rng.below(2) as usize * ROOM;
+        judge.put(Call::TotalBatch { curve, batch: &full }, room);
+        full.pop();
+    }
+    judge.put(Call::FirstRepeat { curve, batch: &[&full[..], &[0]].concat() }, 0);
+    // Neutral records only, and records of every weight.
+    for size in [MOST - 1, MOST, MOST + 1] {
+        put_batch(judge, curve, &vec![0; size], ROOM);
+    }
+    let mixed: Vec<Vec<u8>> = (0..MOST).map(|_| sample.any(&mut judge.rng).to_vec()).collect();
+    judge.put(Call::TotalBatch { curve, batch: &mixed.concat() }, ROOM);
+    // A fault at the last place, with and without a record too many.
+    for size in [MOST, MOST + 1] {
+        let faults = 1 << judge.rng.below(DIVISOR_FAULTS as u64);
+        let mut records = walk[..size].to_vec();
+        records[MOST - 1] = faulty_divisor(&mut judge.rng, sample, faults);
+        judge.put(Call::TotalBatch { curve, batch: &records.concat() }, ROOM);
+    }
+    // One repeat, anywhere.
+    for _ in 0..2 {
+        let second = 1 + judge.rng.below(MOST as u64 - 1) as usize;
+        let first = judge.rng.below(second as u64) as usize;
+        let mut records = walk[..MOST].to_vec();
+        records[second] = records[first].clone();
+        judge.put(Call::FirstRepeat { curve, batch: &records.concat() }, 0);
+    }
+}
+
+/// Every call that writes, with outputs from 0 to 80 bytes.
+fn output_lengths(judge: &mut Judge, sample: &Sample) {
+    let curve = &sample.curve;
+    for room in 0..=80 {
+        let (a, b) = (sample.any(&mut judge.rng), sample.any(&mut judge.rng));
+        let scalar = scalar(&mut judge.rng);
+        judge.put(Call::RewriteCurve { curve }, room);
+        judge.put(Call::RewriteDivisor { curve, divisor: a }, room);
+        judge.put(Call::Add { curve, a, b }, room);
+        judge.put(Call::Double { curve, a }, room);
+        judge.put(Call::Opposite { curve, a }, room);
+        judge.put(Call::Multiply { curve, a, scalar: &scalar }, room);
+        judge.put(Call::TotalBatch { curve, batch: &[a, b].concat() }, room);
+    }
+}
+
+/// Records of every length from 0 to 80 bytes: good ones cut or extended, and noise behind a good head.
+fn record_lengths(judge: &mut Judge, sample: &Sample) {
+    for length in 0..=80 {
+        let noise = judge.rng.bytes(80);
+        let fitted = |good: &[u8]| -> Vec<u8> { good.iter().chain(&noise).take(length).cloned().collect() };
+        let curve = fitted(&sample.curve);
+        judge.put(Call::CheckCurve { curve: &curve }, 0);
+        judge.put(Call::RewriteCurve { curve: &curve }, 70);
+        judge.put(Call::CheckCurve { curve: &noise[..length] }, 0);
+        let head = fitted(&sample.curve[..6]);
+        judge.put(Call::CheckCurve { curve: &head }, 0);
+
+        let curve = &sample.curve;
+        let good = sample.any(&mut judge.rng);
+        let divisor = fitted(good);
+        judge.put(Call::CheckDivisor { curve, divisor: &divisor }, 0);
+        judge.put(Call::Add { curve, a: good, b: &divisor }, ROOM);
+        judge.put(Call::TotalBatch { curve, batch: &divisor }, ROOM);
+        judge.put(Call::Scan { total: Running::default(), curve, record: &divisor }, 0);
+        judge.put(Call::CheckDivisor { curve, divisor: &noise[..length] }, 0);
+        let weight = [judge.rng.below(4) as u8];
+        judge.put(Call::CheckDivisor { curve, divisor: &fitted(&weight) }, 0);
+    }
+}
+
+fn flip(rng: &mut Rng, record: &[u8]) -> Vec<u8> {
+    let mut changed = record.to_vec();
+    let at = rng.below(8 * record.len() as u64);
+    changed[at as usize / 8] ^= 1 << (at % 8);
+    changed
+}
+
+/// One bit of a record flipped.
+fn flipped_bits(judge: &mut Judge, sample: &Sample) {
+    let good = &sample.curve;
+    for _ in 0..60 {
+        let (a, b) = (sample.any(&mut judge.rng), sample.any(&mut judge.rng));
+        let curve = flip(&mut judge.rng, good);
+        judge.put(Call::CheckCurve { curve: &curve }, 0);
+        // Under a changed curve the divisors are mostly off it.
+        judge.put(Call::Add { curve: &curve, a, b }, ROOM);
+        let a = flip(&mut judge.rng, a);
+        judge.put(Call::CheckDivisor { curve: good, divisor: &a }, 0);
+        judge.put(Call::Add { curve: good, a: b, b: &a }, ROOM);
+        judge.put(Call::Double { curve: good, a: &a }, ROOM);
+    }
+}
+
+/// Faults of a curve record in the order they are looked for.
+const CURVE_FAULTS: u32 = 8;
+
+/// The curve with the faults of a mask, bit 0 the first that a call looks for: short, mark, version, genus, length, p,
+/// coefficient, repeated factor.
+fn faulty_curve(rng: &mut Rng, sample: &Sample, faults: u32) -> Vec<u8> {
+    let has = |fault: u32| faults >> fault & 1 == 1;
+    let mut curve = sample.curve.clone();
+    if has(7) {
+        if rng.one_in(3) {
+            curve[14..].fill(0);
+        } else {
+            curve = sample.with_double_root(rng);
+        }
+    }
+    if has(6) {
+        let at = 14 + 8 * rng.below(2 * sample.genus as u64 + 1) as usize;
+        let large = *rng.pick(&[sample.p, sample.p + 1, 1 << 31, 1 << 32, u64::MAX]);
+        curve[at..at + 8].copy_from_slice(&large.to_be_bytes());
+    }
+    if has(5) {
+        let p = *rng.pick(&NO_PRIMES);
+        curve[6..14].copy_from_slice(&p.to_be_bytes());
+    }
+    if has(4) {
+        match rng.below(4) {
+            0 => curve.push(0),
+            1 => curve.extend_from_slice(&[0; 16]),
+            2 => curve.truncate(53),
+            _ => curve.truncate(6 + rng.below(40) as usize),
+        }
+    }
+    if has(3) {
+        curve[5] = *rng.pick(&[0, 1, 4, 5, 130, 255]);
+    }
+    if has(2) {
+        let version = *rng.pick(&[[0, 0], [0, 2], [1, 0], [1, 1], [255, 255]]);
+        curve[3..5].copy_from_slice(&version);
+    }
+    if has(1) {
+        curve[rng.below(3) as usize] ^= 1 << rng.below(8);
+    }
+    if has(0) {
+        curve.truncate(rng.below(6) as usize);
+    }
+    curve
+}
+
+/// Faults of a divisor record in the order they are looked for.
+const DIVISOR_FAULTS: u32 = 5;
+
+/// A divisor with the faults of a mask, bit 0 the first that a call looks for: empty, weight, length, coefficient, not on
+/// the curve.
+fn faulty_divisor(rng: &mut Rng, sample: &Sample, faults: u32) -> Vec<u8> {
+    let has = |fault: u32| faults >> fault & 1 == 1;
+    let mut divisor = sample.any(rng).to_vec();
+    if has(4) || has(3) {
+        // These need a coefficient.
+        divisor = sample.pool.iter().rev().find(|record| record.len() > 1).unwrap_or(&divisor).clone();
+    }
+    if has(4) && divisor.len() > 1 {
+        let (u, mut v) = numbers_of(&divisor);
+        v[0] = (v[0] + 1) % sample.p;
+        divisor = crate::inputs::divisor_record(&u, &v);
+    }
+    if has(3) && divisor.len() > 1 {
+        let at = 1 + 8 * rng.below((divisor.len() as u64 - 1) / 8) as usize;
+        let large = *rng.pick(&[sample.p, sample.p + 1, 1 << 31, 1 << 32, u64::MAX]);
+        divisor[at..at + 8].copy_from_slice(&large.to_be_bytes());
+    }
+    if has(2) {
+        if rng.one_in(2) || divisor.len() == 1 {
+            divisor.push(0);
+        } else {
+            divisor.truncate(1 + rng.below(divisor.len() as u64 - 1) as usize);
+        }
+    }
+    if has(1) {
+        divisor[0] = *rng.pick(&[sample.genus as u8 + 1, 4, 16, 255]);
+    }
+    if has(0) {
+        divisor.clear();
+    }
+    divisor
+}
+
+/// No fault, one, two neighbours, or any.
+fn some_faults(rng: &mut Rng, kinds: u32) -> u32 {
+    match rng.below(10) {
+        0..=2 => 0,
+        3..=6 => 1 << rng.below(kinds as u64),
+        7 | 8 => 3 << rng.below(kinds as u64 - 1),
+        _ => rng.below(1 << kinds) as u32,
+    }
+}
+
+/// All sets of faults of a curve record.
+fn curve_faults(judge: &mut Judge, sample: &Sample) {
+    for faults in 0..1 << CURVE_FAULTS {
+        let curve = faulty_curve(&mut judge.rng, sample, faults);
+        judge.put(Call::CheckCurve { curve: &curve }, 0);
+        if faults % 8 == 0 {
+            judge.put(Call::RewriteCurve { curve: &curve }, 70);
+        }
+    }
+}
+
+/// What a call can be refused for, as masks of faults.
+#[derive(Clone, Copy, Default)]
+struct Faults {
+    curve: u32,
+    total: u32,
+    full: bool,
+    a: u32,
+    b: u32,
+    scalar: bool,
+    room: bool,
+}
+
+impl Faults {
+    /// The faults of two sets.
+    fn and(self, other: Faults) -> Faults {
+        Faults {
+            curve: self.curve | other.curve,
+            total: self.total | other.total,
+            full: self.full | other.full,
+            a: self.a | other.a,
+            b: self.b | other.b,
+            scalar: self.scalar | other.scalar,
+            room: self.room | other.room,
+        }
+    }
+}
+
+/// Puts a call with these faults.
+type Put = fn(&mut Judge, &Sample, Faults);
+
+/// The refusals of add, multiply, total and scan, in their order: each alone, with its neighbour, and with all that follow.
+fn neighbouring_faults(judge: &mut Judge, sample: &Sample) {
+    let none = Faults::default();
+    let curve: Vec<Faults> = (0..CURVE_FAULTS).map(|k| Faults { curve: 1 << k, ..none }).collect();
+    let a: Vec<Faults> = (0..DIVISOR_FAULTS).map(|k| Faults { a: 1 << k, ..none }).collect();
+    let b: Vec<Faults> = (0..DIVISOR_FAULTS).map(|k| Faults { b: 1 << k, ..none }).collect();
+    let scalar = vec![Faults { scalar: true, ..none }];
+    let room = vec![Faults { room: true, ..none }];
+    let totals: Vec<Faults> = (0..TOTAL_FAULTS).map(|k| Faults { total: 1 << k, ..none }).collect();
+    let full = vec![Faults { full: true, ..none }];
+
+    let orders: [(Put, Vec<Faults>); 4] = [
+        (put_add, [&curve[..], &a, &b, &room].concat()),
+        (put_multiply, [&curve[..], &a, &scalar, &room].concat()),
+        (put_total, [&curve[..], &a, &b, &room].concat()),
+        (put_scan, [&curve[..], &totals, &full, &a].concat()),
+    ];
+    for (put, order) in orders {
+        for (k, &fault) in order.iter().enumerate() {
+            put(judge, sample, fault);
+            let rest = &order[k + 1..];
+            if let Some(&next) = rest.first() {
+                put(judge, sample, fault.and(next));
+            }
+            put(judge, sample, rest.iter().fold(fault, |all, &next| all.and(next)));
+        }
+    }
+}
+
+fn put_add(judge: &mut Judge, sample: &Sample, faults: Faults) {
+    let curve = faulty_curve(&mut judge.rng, sample, faults.curve);
+    let a = faulty_divisor(&mut judge.rng, sample, faults.a);
+    let b = faulty_divisor(&mut judge.rng, sample, faults.b);
+    judge.put(Call::Add { curve: &curve, a: &a, b: &b }, if faults.room { 0 } else { ROOM });
+}
+
+fn put_multiply(judge: &mut Judge, sample: &Sample, faults: Faults) {
+    let curve = faulty_curve(&mut judge.rng, sample, faults.curve);
+    let a = faulty_divisor(&mut judge.rng, sample, faults.a);
+    let length = if faults.scalar { 33 + judge.rng.below(4) } else { judge.rng.below(33) };
+    let scalar = judge.rng.bytes(length as usize);
+    judge.put(Call::Multiply { curve: &curve, a: &a, scalar: &scalar }, if faults.room { 0 } else { ROOM });
+}
+
+fn put_total(judge: &mut Judge, sample: &Sample, faults: Faults) {
+    let curve = faulty_curve(&mut judge.rng, sample, faults.curve);
+    let good = sample.any(&mut judge.rng).to_vec();
+    let a = faulty_divisor(&mut judge.rng, sample, faults.a);
+    let b = faulty_divisor(&mut judge.rng, sample, faults.b);
+    put_batch(judge, &curve, &[good, a, b].concat(), if faults.room { 0 } else { ROOM });
+}
+
+fn put_scan(judge: &mut Judge, sample: &Sample, faults: Faults) {
+    let curve = faulty_curve(&mut judge.rng, sample, faults.curve);
+    let record = faulty_divisor(&mut judge.rng, sample, faults.a);
+    let mut total = faulty_total(&mut judge.rng, sample, faults.total);
+    if faults.full && total.count <= MOST as u64 {
+        total.count = MOST as u64;
+    }
+    judge.put(Call::Scan { total, curve: &curve, record: &record }, 0);
+    judge.put(Call::ScanLent { total, curve: &curve, record: &record }, 0);
+}
+
+/// Any faults at all, in any call.
+fn mixed_faults(judge: &mut Judge, sample: &Sample) {
+    for _ in 0..100 {
+        let rng = &mut judge.rng;
+        let faults = Faults {
+            curve: if rng.one_in(4) { some_faults(rng, CURVE_FAULTS) } else { 0 },
+            total: if rng.one_in(3) { some_faults(rng, TOTAL_FAULTS) } else { 0 },
+            full: rng.one_in(5),
+            a: some_faults(rng, DIVISOR_FAULTS),
+            b: some_faults(rng, DIVISOR_FAULTS),
+            scalar: rng.one_in(4),
+            room: rng.one_in(4),
+        };
+        let put: Put = *rng.pick(&[put_add as Put, put_multiply, put_total, put_scan]);
+        put(judge, sample, faults);
+    }
+}
+
+/// A flat running total that holds a divisor of the pool.
+fn total_of(record: &[u8], count: u64) -> Running {
+    let (u, v) = numbers_of(record);
+    let at = |numbers: &[u64], i: usize| numbers.get(i).copied().unwrap_or(0);
+    Running {
+        weight: u.len() as u64,
+        u0: at(&u, 0),
+        u1: at(&u, 1),
+        u2: at(&u, 2),
+        v0: at(&v, 0),
+        v1: at(&v, 1),
+        v2: at(&v, 2),
+        count,
+    }
+}
+
+/// Kinds of fault of a running total.
+const TOTAL_FAULTS: u32 = 9;
+
+/// The coefficients of a total, u first.
+fn coefficients(total: &mut Running) -> [&mut u64; 6] {
+    [&mut total.u0, &mut total.u1, &mut total.u2, &mut total.v0, &mut total.v1, &mut total.v2]
+}
+
+/// A total with the faults of a mask: not on the curve; a used number of p or more, small or large; an unused number;
+/// weight one more, one less, above 3, or huge; a count over 4,096.
+fn faulty_total(rng: &mut Rng, sample: &Sample, faults: u32) -> Running {
+    let has = |fault: u32| faults >> fault & 1 == 1;
+    let record = sample.any(rng).to_vec();
+    let mut total = total_of(&record, rng.below(MOST as u64));
+    let weight = total.weight as usize;
+    if has(0) {
+        total.v0 = (total.v0 + 1) % sample.p;
+    }
+    for (fault, large) in [(1, sample.p), (2, u64::MAX)] {
+        if has(fault) && weight > 0 {
+            let at = rng.below(weight as u64) as usize + 3 * rng.below(2) as usize;
+            *coefficients(&mut total)[at] = large;
+        }
+    }
+    if has(3) && weight < 3 {
+        let at = weight + rng.below(3 - weight as u64) as usize + 3 * rng.below(2) as usize;
+        *coefficients(&mut total)[at] = 1 + rng.below(sample.p + 1);
+    }
+    if has(4) {
+        total.weight += 1;
+    }
+    if has(5) {
+        total.weight = total.weight.saturating_sub(1);
+    }
+    if has(6) {
+        total.weight = 4 + rng.below(3);
+    }
+    if has(7) {
+        total.weight = *rng.pick(&[256, 1 << 32, (1 << 32) + 1, u64::MAX]);
+    }
+    if has(8) {
+        total.count = *rng.pick(&[4097, 4098, 1 << 32, (1 << 32) + 1, u64::MAX]);
+    }
+    total
+}
+
+/// Running totals: good ones at every count that matters, every fault with every count, totals of another curve.
+fn running_totals(judge: &mut Judge, sample: &Sample) {
+    let curve = &sample.curve;
+    for count in [0, 1, 4094, 4095, 4096, 4097, u64::MAX] {
+        for _ in 0..4 {
+            let record = sample.any(&mut judge.rng);
+            let total = total_of(sample.any(&mut judge.rng), count);
+            judge.put(Call::Scan { total, curve, record }, 0);
+            judge.put(Call::ScanLent { total, curve, record }, 0);
+        }
+        for fault in 0..TOTAL_FAULTS {
+            let record = sample.any(&mut judge.rng);
+            let total = Running { count, ..faulty_total(&mut judge.rng, sample, 1 << fault) };
+            judge.put(Call::Scan { total, curve, record }, 0);
+            judge.put(Call::ScanLent { total, curve, record: &[] }, 0);
+        }
+    }
+    // A total that was kept under a curve of the other genus, or of the same one with another f.
+    for genus in [2, 3] {
+        let other = Sample::new(&mut judge.rng, genus, sample.p);
+        for _ in 0..5 {
+            let total = total_of(other.any(&mut judge.rng), 3);
+            let record = sample.any(&mut judge.rng);
+            judge.put(Call::Scan { total, curve, record }, 0);
+            judge.put(Call::ScanLent { total, curve, record }, 0);
+        }
+    }
+}
+
+#[cfg(test)]
+mod tests {
+    use super::*;
+    use crate::engine::{Engine, Plain, Reply};
+
+    /// The plain engine with one thing wrong.
+    struct Wrong<F: Fn(&Call, &mut [u8], &mut Reply)>(F);
+
+    impl<F: Fn(&Call, &mut [u8], &mut Reply)> Engine for Wrong<F> {
+        fn name(&self) -> &'static str {
+            "wrong"
+        }
+
+        fn answer(&self, call: &Call, out: &mut [u8]) -> Reply {
+            let mut reply = Plain.answer(call, out);
+            (self.0)(call, out, &mut reply);
+            reply
+        }
+    }
+
+    fn differences(wrong: impl Fn(&Call, &mut [u8], &mut Reply)) -> u64 {
+        let wrong = Wrong(wrong);
+        let mut judge = Judge::new(&wrong, &Plain, 1, true);
+        run(&mut judge, 10_000);
+        judge.tally.differences
+    }
+
+    #[test]
+    fn plain_agrees_with_itself() {
+        let mut judge = Judge::new(&Plain, &Plain, 1, true);
+        run(&mut judge, 80_000);
+        assert_eq!(judge.tally.differences, 0);
+        for number in 0..=15 {
+            assert!(judge.tally.numbers[&number] >= 20, "{} {:?}", number, judge.tally.numbers);
+        }
+        assert_eq!(judge.tally.census.len(), 12);
+        for (key, census) in &judge.tally.census {
+            let rare = [census.shared_root, census.opposite, census.below_genus, census.zero_y, census.f_2g];
+            assert!(rare.iter().all(|&n| n >= 20), "{:?} {:?}", key, census);
+        }
+    }
+
+    #[test]
+    fn an_engine_that_does_nothing_else_wrong_shows_no_difference() {
+        assert_eq!(differences(|_, _, _| ()), 0);
+    }
+
+    #[test]
+    fn wrong_answers_show() {
+        assert!(differences(|_, _, r| r.place += u64::from(r.number == 11)) > 0);
+        assert!(differences(|_, _, r| r.counts[1] += u64::from(r.counts[1] > 200)) > 0);
+        assert!(differences(|_, _, r| r.number = if r.number == 6 { 5 } else { r.number }) > 0);
+        assert!(differences(|_, _, r| r.total.count += u64::from(r.total.count == 4096)) > 0);
+        assert!(
+            differences(|c, _, r| {
+                if matches!(c, Call::FirstRepeat { .. }) && r.counts[1] > 2 {
+                    r.counts.swap(0, 1);
+                }
+            }) > 0
+        );
+    }
+
+    #[test]
+    fn wrong_bytes_show() {
+        // A byte behind the result.
+        assert!(
+            differences(|_, out, r| {
+                if r.length == 33 && out.len() > 33 {
+                    out[33] ^= 1;
+                }
+            }) > 0
+        );
+        // An output changed before a refusal.
+        assert!(
+            differences(|_, out, r| {
+                if r.number == 13 && !out.is_empty() {
+                    out[0] ^= 1;
+                }
+            }) > 0
+        );
+        // The last byte of the result.
+        assert!(
+            differences(|c, out, r| {
+                if matches!(c, Call::Double { .. }) && r.length > 1 {
+                    out[r.length as usize - 1] ^= 1;
+                }
+            }) > 0
+        );
+    }
+
+    /// Both engines wrong in the same way: the rules for every answer still see it.
+    #[test]
+    fn shared_faults_show() {
+        let wrong = Wrong(|_: &Call, _: &mut [u8], r: &mut Reply| r.length += u64::from(r.number == 13));
+        let mut judge = Judge::new(&wrong, &wrong, 1, true);
+        run(&mut judge, 10_000);
+        assert!(judge.tally.differences > 0);
+    }
+
+    /// A sum that is wrong only where the two divisors share a root: the slip of a coprime formula.
+    #[test]
+    fn slips_on_special_pairs_show() {
+        assert!(
+            differences(|c, out, r| {
+                if let Call::Add { a, b, .. } = c {
+                    if r.length > 1 && a.len() > 1 && a.len() == b.len() && a[..9] == b[..9] && a != b {
+                        out[1] ^= 0x80;
+                    }
+                }
+            }) > 0
+        );
+    }
+}

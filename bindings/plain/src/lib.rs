@@ -1,0 +1,303 @@
+//! The tablet's calls in plain Rust: arithmetic of divisors on hyperelliptic curves y² = f(x) of genus 2 or 3 over a
+//! prime field, on records of bytes.
+//!
+//! This crate shares nothing with the proved library but the words of the contract. It judges that library
+//! (`bindings/judge`) and is the yardstick of its speed (`bindings/bench`). Each call takes records as bytes, checks
+//! them itself and answers a number (0 for done), the place of the divisor at fault, and the length it wrote. On a
+//! refusal no byte of an output changes, and length and counts are 0.
+//!
+//! ```
+//! // Genus 2, p = 7, f = x^5 + 1, and the divisor (x, 1).
+//! let mut curve = b"HJC\x00\x01\x02".to_vec();
+//! for number in [7u64, 1, 0, 0, 0, 0] {
+//!     curve.extend_from_slice(&number.to_be_bytes());
+//! }
+//! let mut point = vec![1];
+//! for number in [0u64, 1] {
+//!     point.extend_from_slice(&number.to_be_bytes());
+//! }
+//! let mut out = [0; 33];
+//! let answer = plain::multiply(&curve, &point, &[5], &mut out);
+//! assert_eq!((answer.number, answer.length, out[0]), (0, 1, 0)); // five times (x, 1) is neutral
+//! assert_eq!((answer.doublings, answer.additions), (2, 1));
+//! ```
+
+#![forbid(unsafe_code)]
+
+mod curve;
+mod field;
+mod full;
+mod poly;
+mod record;
+
+use curve::{Curve, Divisor};
+use record::{read_curve, read_divisor, read_first, write_divisor, Refused};
+use std::collections::hash_map::{Entry, HashMap};
+
+/// The most records of a batch, and the largest count of a running total.
+pub const MOST_RECORDS: u64 = 4096;
+
+/// The longest scalar in bytes.
+pub const SCALAR_ROOM: usize = 32;
+
+/// What most calls answer.
+#[derive(Clone, Copy, Debug, Default, PartialEq, Eq)]
+pub struct Answer {
+    /// 0 for done, otherwise the number of the refusal.
+    pub number: u64,
+    /// Which divisor is at fault, from 1, for 8 to 11; otherwise 0.
+    pub place: u64,
+    /// Bytes written to the front of the output.
+    pub length: u64,
+}
+
+/// What [`multiply`] answers.
+#[derive(Clone, Copy, Debug, Default, PartialEq, Eq)]
+pub struct Multiple {
+    pub number: u64,
+    pub place: u64,
+    pub length: u64,
+    /// Doublings of left-to-right double-and-add: the scalar's bit length less 1.
+    pub doublings: u64,
+    /// Its additions: the scalar's ones less 1.
+    pub additions: u64,
+}
+
+/// What [`total_batch`] answers.
+#[derive(Clone, Copy, Debug, Default, PartialEq, Eq)]
+pub struct Total {
+    pub number: u64,
+    pub place: u64,
+    pub length: u64,
+    /// How many records were summed.
+    pub count: u64,
+}
+
+/// What [`first_repeat`] answers.
+#[derive(Clone, Copy, Debug, Default, PartialEq, Eq)]
+pub struct Repeat {
+    pub number: u64,
+    pub place: u64,
+    pub length: u64,
+    /// Place of the earlier of the two equal divisors, or 0 for none.
+    pub first: u64,
+    /// Place of the later one, or 0 for none.
+    pub second: u64,
+}
+
+/// A running total: a divisor and a count. Coefficients that the weight doesn't use are 0.
+#[derive(Clone, Copy, Debug, Default, PartialEq, Eq)]
+pub struct Running {
+    pub weight: u64,
+    pub u0: u64,
+    pub u1: u64,
+    pub u2: u64,
+    pub v0: u64,
+    pub v1: u64,
+    pub v2: u64,
+    pub count: u64,
+}
+
+/// What [`scan`] answers.
+#[derive(Clone, Copy, Debug, Default, PartialEq, Eq)]
+pub struct Scanned {
+    pub number: u64,
+    pub place: u64,
+    pub length: u64,
+    /// The total after the scan; as it was lent on a refusal.
+    pub total: Running,
+}
+
+impl From<Result<usize, Refused>> for Answer {
+    fn from(result: Result<usize, Refused>) -> Answer {
+        match result {
+            Ok(length) => Answer { length: length as u64, ..Answer::default() },
+            Err(Refused { number, place }) => Answer { number, place, length: 0 },
+        }
+    }
+}
+
+/// Checks a curve record.
+pub fn check_curve(curve: &[u8]) -> Answer {
+    read_curve(curve).map(|_| 0).into()
+}
+
+/// Checks a divisor record on a curve.
+pub fn check_divisor(curve: &[u8], divisor: &[u8]) -> Answer {
+    read_pair(curve, divisor).map(|_| 0).into()
+}
+
+/// Writes a checked curve record anew. An accepted record has one form, so these are the bytes given.
+pub fn rewrite_curve(curve: &[u8], out: &mut [u8]) -> Answer {
+    read_curve(curve)
+        .and_then(|_| {
+            out.get_mut(..curve.len()).ok_or(Refused::new(13))?.copy_from_slice(curve);
+            Ok(curve.len())
+        })
+        .into()
+}
+
+/// Writes a checked divisor record anew.
+pub fn rewrite_divisor(curve: &[u8], divisor: &[u8], out: &mut [u8]) -> Answer {
+    read_pair(curve, divisor).and_then(|(_, a)| write_divisor(&a, out)).into()
+}
+
+/// The sum of two divisors.
+pub fn add(curve: &[u8], a: &[u8], b: &[u8], out: &mut [u8]) -> Answer {
+    read_pair(curve, a)
+        .and_then(|(curve, a)| {
+            let b = read_divisor(&curve, b, 2)?;
+            write_divisor(&curve.add(&a, &b), out)
+        })
+        .into()
+}
+
+/// Twice a divisor.
+pub fn double(curve: &[u8], a: &[u8], out: &mut [u8]) -> Answer {
+    read_pair(curve, a).and_then(|(curve, a)| write_divisor(&curve.double(&a), out)).into()
+}
+
+/// The opposite of a divisor.
+pub fn opposite(curve: &[u8], a: &[u8], out: &mut [u8]) -> Answer {
+    read_pair(curve, a).and_then(|(curve, a)| write_divisor(&curve.opposite(&a), out)).into()
+}
+
+/// The n-fold sum of a divisor. The scalar n has 0 to 32 bytes, big-endian.
+pub fn multiply(curve: &[u8], a: &[u8], scalar: &[u8], out: &mut [u8]) -> Multiple {
+    let result = read_pair(curve, a).and_then(|(curve, a)| {
+        if scalar.len() > SCALAR_ROOM {
+            return Err(Refused::new(12));
+        }
+        write_divisor(&curve.multiple(&a, scalar), out)
+    });
+    let Answer { number, place, length } = Answer::from(result);
+    let (doublings, additions) = if number == 0 { steps(scalar) } else { (0, 0) };
+    Multiple { number, place, length, doublings, additions }
+}
+
+/// The total of a batch: no or more divisor records one after the other, at most 4,096.
+pub fn total_batch(curve: &[u8], batch: &[u8], out: &mut [u8]) -> Total {
+    let (mut sum, mut count) = (Divisor::NEUTRAL, 0);
+    let result = read_curve(curve).and_then(|curve| {
+        each_record(&curve, batch, |divisor, _| {
+            sum = curve.add(&sum, divisor);
+            count += 1;
+        })?;
+        write_divisor(&sum, out)
+    });
+    let Answer { number, place, length } = Answer::from(result);
+    Total { number, place, length, count: if number == 0 { count } else { 0 } }
+}
+
+/// The first repeat in a batch: the least j whose divisor stood before, and where it first stood.
+pub fn first_repeat(curve: &[u8], batch: &[u8]) -> Repeat {
+    let mut first_places = HashMap::new();
+    let (mut found, mut place) = (None, 0);
+    let result = read_curve(curve).and_then(|curve| {
+        // A divisor has one record, so equal records are equal divisors.
+        each_record(&curve, batch, |_, record| {
+            place += 1;
+            match first_places.entry(record) {
+                Entry::Occupied(earlier) => found = found.or(Some((*earlier.get(), place))),
+                Entry::Vacant(fresh) => {
+                    fresh.insert(place);
+                }
+            }
+        })
+    });
+    match result {
+        Ok(()) => {
+            let (first, second) = found.unwrap_or((0, 0));
+            Repeat { first, second, ..Repeat::default() }
+        }
+        Err(Refused { number, place }) => Repeat { number, place, ..Repeat::default() },
+    }
+}
+
+/// A running total that has seen no scan: neutral, with count 0.
+pub fn fresh_total() -> Running {
+    Running::default()
+}
+
+/// Adds one record to a running total.
+pub fn scan(total: Running, curve: &[u8], record: &[u8]) -> Scanned {
+    match scanned(&total, curve, record) {
+        Ok(total) => Scanned { total, ..Scanned::default() },
+        Err(Refused { number, place }) => Scanned { number, place, length: 0, total },
+    }
+}
+
+/// Adds one record to a running total in place.
+pub fn scan_lent(total: &mut Running, curve: &[u8], record: &[u8]) -> Answer {
+    scanned(total, curve, record)
+        .map(|next| {
+            *total = next;
+            0
+        })
+        .into()
+}
+
+/// The curve, and the one divisor of a call.
+fn read_pair(curve: &[u8], divisor: &[u8]) -> Result<(Curve, Divisor), Refused> {
+    let curve = read_curve(curve)?;
+    let divisor = read_divisor(&curve, divisor, 1)?;
+    Ok((curve, divisor))
+}
+
+/// Hands every divisor of a batch with its record to `visit`, first to last, up to the first fault.
+fn each_record<'a>(
+    curve: &Curve,
+    mut batch: &'a [u8],
+    mut visit: impl FnMut(&Divisor, &'a [u8]),
+) -> Result<(), Refused> {
+    let mut place = 0;
+    while !batch.is_empty() {
+        if place == MOST_RECORDS {
+            return Err(Refused::new(14));
+        }
+        place += 1;
+        let (divisor, rest) = read_first(curve, batch, place)?;
+        visit(&divisor, &batch[..batch.len() - rest.len()]);
+        batch = rest;
+    }
+    Ok(())
+}
+
+/// Doublings and additions of left-to-right double-and-add.
+fn steps(scalar: &[u8]) -> (u64, u64) {
+    let bits = match scalar.iter().position(|&byte| byte != 0) {
+        Some(lead) => 8 * (scalar.len() - lead) as u64 - u64::from(scalar[lead].leading_zeros()),
+        None => return (0, 0),
+    };
+    let ones: u64 = scalar.iter().map(|byte| u64::from(byte.count_ones())).sum();
+    (bits - 1, ones - 1)
+}
+
+/// The running total after a scan.
+fn scanned(total: &Running, curve: &[u8], record: &[u8]) -> Result<Running, Refused> {
+    let curve = read_curve(curve)?;
+    let divisor = held(&curve, total).ok_or(Refused::new(15))?;
+    if total.count == MOST_RECORDS {
+        return Err(Refused::new(14));
+    }
+    let record = read_divisor(&curve, record, 1)?;
+    let Divisor { weight, u: [u0, u1, u2], v: [v0, v1, v2] } = curve.add(&divisor, &record);
+    Ok(Running { weight: weight as u64, u0, u1, u2, v0, v1, v2, count: total.count + 1 })
+}
+
+/// The divisor that a running total holds, or `None` where the total isn't one of this curve.
+fn held(curve: &Curve, total: &Running) -> Option<Divisor> {
+    if total.weight > curve.genus() as u64 || total.count > MOST_RECORDS {
+        return None;
+    }
+    let weight = total.weight as usize;
+    let (u, v) = ([total.u0, total.u1, total.u2], [total.v0, total.v1, total.v2]);
+    let used = |c: &[u64; 3]| c[..weight].iter().all(|&x| x < curve.p()) && c[weight..].iter().all(|&x| x == 0);
+    if !used(&u) || !used(&v) {
+        return None;
+    }
+    Some(Divisor { weight, u, v }).filter(|divisor| curve.has(divisor))
+}
+
+#[cfg(test)]
+mod tests;

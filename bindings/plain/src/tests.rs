@@ -1,0 +1,382 @@
+//! Every example of the contract, and the laws of the group on curves small enough to list.
+
+use super::*;
+
+/// A curve record; `f` holds f_0 to f_2g.
+fn curve(genus: u8, p: u64, f: &[u64]) -> Vec<u8> {
+    let mut bytes = vec![b'H', b'J', b'C', 0, 1, genus];
+    for number in std::iter::once(&p).chain(f) {
+        bytes.extend_from_slice(&number.to_be_bytes());
+    }
+    bytes
+}
+
+/// A divisor record.
+fn divisor(u: &[u64], v: &[u64]) -> Vec<u8> {
+    let mut bytes = vec![u.len() as u8];
+    for number in u.iter().chain(v) {
+        bytes.extend_from_slice(&number.to_be_bytes());
+    }
+    bytes
+}
+
+fn curve_a() -> Vec<u8> {
+    curve(2, 7, &[1, 0, 0, 0, 0])
+}
+
+fn curve_b() -> Vec<u8> {
+    curve(3, 11, &[1, 0, 0, 0, 0, 0, 0])
+}
+
+fn neutral() -> Vec<u8> {
+    vec![0]
+}
+
+fn sum(curve: &[u8], a: &[u8], b: &[u8]) -> Vec<u8> {
+    let mut out = [0xaa; 60];
+    let answer = add(curve, a, b, &mut out);
+    assert_eq!((answer.number, answer.place), (0, 0));
+    let length = answer.length as usize;
+    assert!(out[length..].iter().all(|&x| x == 0xaa));
+    out[..length].to_vec()
+}
+
+fn twice(curve: &[u8], a: &[u8]) -> Vec<u8> {
+    let mut out = [0; 49];
+    let answer = double(curve, a, &mut out);
+    assert_eq!(answer.number, 0);
+    out[..answer.length as usize].to_vec()
+}
+
+fn times(curve: &[u8], a: &[u8], n: u64) -> Vec<u8> {
+    let mut out = [0; 49];
+    let answer = multiply(curve, a, &n.to_be_bytes(), &mut out);
+    assert_eq!(answer.number, 0);
+    assert_eq!(answer.doublings, if n == 0 { 0 } else { u64::from(63 - n.leading_zeros()) });
+    assert_eq!(answer.additions, u64::from(n.count_ones()).saturating_sub(1));
+    out[..answer.length as usize].to_vec()
+}
+
+#[test]
+fn corners_of_curve_a() {
+    let (c, d) = (curve_a(), divisor);
+    let x1 = d(&[0], &[1]);
+    assert_eq!(sum(&c, &x1, &d(&[6], &[3])), d(&[0, 6], &[1, 2])); // A1
+    assert_eq!(twice(&c, &x1), d(&[0, 0], &[1, 0])); // A2
+    assert_eq!(times(&c, &x1, 3), d(&[0, 0], &[6, 0])); // A3
+    assert_eq!(times(&c, &x1, 4), d(&[0], &[6])); // A4
+    assert_eq!(times(&c, &x1, 5), neutral()); // A5
+    assert_eq!(sum(&c, &x1, &d(&[0], &[6])), neutral()); // A6
+    assert_eq!(twice(&c, &d(&[1], &[0])), neutral()); // A7
+    let pair = d(&[0, 6], &[1, 2]);
+    assert_eq!(sum(&c, &pair, &d(&[0], &[6])), d(&[6], &[3])); // A8
+    assert_eq!(sum(&c, &pair, &x1), d(&[4, 4], &[0, 1])); // A9
+}
+
+#[test]
+fn corners_of_curve_b() {
+    let (c, d) = (curve_b(), divisor);
+    let x1 = d(&[0], &[1]);
+    assert_eq!(twice(&c, &d(&[0, 0, 0], &[1, 0, 0])), d(&[0], &[10])); // B1
+    assert_eq!(times(&c, &x1, 4), d(&[0, 0, 0], &[10, 0, 0])); // B2
+    assert_eq!(times(&c, &x1, 7), neutral()); // B3
+}
+
+#[test]
+fn curves_refused_in_order() {
+    let number = |c: &[u8]| {
+        let answer = check_curve(c);
+        assert_eq!((answer.place, answer.length), (0, 0));
+        answer.number
+    };
+    let ones = [1, 0, 0, 0, 0];
+    let seventh = [1, 0, 0, 0, 0, 0, 0];
+    for p in [1, 2, 9, 2_147_483_648, 0, u64::MAX] {
+        assert_eq!(number(&curve(2, p, &ones)), 5);
+    }
+    for p in [3, 2_147_483_647] {
+        assert_eq!(number(&curve(2, p, &ones)), 0);
+    }
+    assert_eq!(number(&curve(2, 5, &ones)), 7);
+    assert_eq!(number(&curve(3, 7, &seventh)), 7);
+    assert_eq!(number(&curve(3, 7, &[1, 6, 0, 0, 0, 0, 0])), 0);
+    // f_2g other than 0 and p = 7 in genus 3 are no reason to refuse.
+    assert_eq!(number(&curve(3, 7, &[1, 6, 0, 0, 0, 0, 1])), 0);
+
+    let good = curve_a();
+    for n in 0..6 {
+        assert_eq!(number(&[0xff; 6][..n]), 1);
+        assert_eq!(number(&good[..n]), 1);
+    }
+    for n in 6..54 {
+        assert_eq!(number(&good[..n]), 1);
+    }
+    assert_eq!(number(&curve(2, 7, &[1, 0, 0, 0, 0, 0, 0])), 1);
+    assert_eq!(number(&curve(3, 7, &ones)), 1);
+
+    // Each fault added to the next one wins over it: 2, 3, 4, 1, 5, 6, 7.
+    let with = |at: usize, value: u8, mut bytes: Vec<u8>| {
+        bytes[at] = value;
+        bytes
+    };
+    let square = curve(2, 7, &[0, 0, 0, 0, 0]);
+    assert_eq!(number(&square), 7);
+    let large = curve(2, 7, &[0, 0, 0, 0, 7]);
+    assert_eq!(number(&large), 6);
+    let composite = curve(2, 9, &[0, 0, 0, 0, 9]);
+    assert_eq!(number(&composite), 5);
+    let mut long = composite;
+    long.push(0);
+    assert_eq!(number(&long), 1);
+    let genus = with(5, 4, long);
+    assert_eq!(number(&genus), 4);
+    let version = with(3, 1, genus);
+    assert_eq!(number(&version), 3);
+    let mark = with(2, b'c', version);
+    assert_eq!(number(&mark), 2);
+    assert_eq!(number(&mark[..5]), 1);
+}
+
+#[test]
+fn divisors_refused_in_order() {
+    let c = curve_a();
+    let answer = |bytes: &[u8]| {
+        let answer = check_divisor(&c, bytes);
+        assert_eq!(answer.length, 0);
+        (answer.number, answer.place)
+    };
+    assert_eq!(answer(&divisor(&[0], &[2])), (11, 1));
+    assert_eq!(answer(&divisor(&[6], &[3])), (0, 0));
+    assert_eq!(answer(&divisor(&[7], &[3])), (10, 1));
+    assert_eq!(answer(&divisor(&[0], &[7])), (10, 1));
+    assert_eq!(answer(&[]), (8, 1));
+    assert_eq!(answer(&[0]), (0, 0));
+    assert_eq!(answer(&[0, 0]), (8, 1));
+    assert_eq!(answer(&[1]), (8, 1));
+    assert_eq!(answer(&[3]), (9, 1));
+    assert_eq!(answer(&divisor(&[0, 0, 0], &[1, 0, 0])), (9, 1));
+    // A wrong length wins over a number of p or more, and a bad curve over everything.
+    let mut long = divisor(&[9], &[9]);
+    long.push(0);
+    assert_eq!(answer(&long), (8, 1));
+    assert_eq!(check_divisor(&c[..10], &[]), Answer { number: 1, place: 0, length: 0 });
+}
+
+#[test]
+fn add_looks_at_the_first_divisor_first() {
+    let (c, good, off) = (curve_a(), divisor(&[0], &[1]), divisor(&[0], &[2]));
+    let mut out = [0x55; 33];
+    let mut answer = |a: &[u8], b: &[u8]| {
+        let answer = add(&c, a, b, &mut out);
+        assert_eq!(answer.length, 0);
+        assert_eq!(out, [0x55; 33]);
+        (answer.number, answer.place)
+    };
+    assert_eq!(answer(&off, &[]), (11, 1));
+    assert_eq!(answer(&good, &[]), (8, 2));
+    assert_eq!(answer(&good, &[9]), (9, 2));
+    assert_eq!(answer(&good, &divisor(&[7], &[1])), (10, 2));
+    assert_eq!(answer(&good, &off), (11, 2));
+}
+
+#[test]
+fn scalars_and_outputs() {
+    let (c, a) = (curve_a(), divisor(&[0], &[1]));
+    let mut out = [0x55; 33];
+    let refused = |number| Multiple { number, ..Multiple::default() };
+    assert_eq!(multiply(&c, &a, &[0; 33], &mut out), refused(12));
+    assert_eq!(multiply(&c, &a, &[0; 33], &mut []), refused(12));
+    assert_eq!(multiply(&c, &a, &[2], &mut out[..32]), refused(13));
+    assert_eq!(out, [0x55; 33]);
+    assert_eq!(multiply(&c, &a, &[], &mut []), refused(13));
+    assert_eq!(multiply(&c, &a, &[], &mut out[..1]), Multiple { length: 1, ..refused(0) });
+    let all = multiply(&c, &a, &[0xff; 32], &mut out);
+    // 2^256 - 1 is a multiple of 5.
+    assert_eq!(all, Multiple { length: 1, doublings: 255, additions: 255, ..refused(0) });
+    assert_eq!(multiply(&c, &a, &[0, 0, 2], &mut out), Multiple { length: 33, doublings: 1, ..refused(0) });
+    assert_eq!(out[..], divisor(&[0, 0], &[1, 0])[..]);
+
+    let mut room = [0x55; 70];
+    assert_eq!(rewrite_curve(&c, &mut room[..53]).number, 13);
+    assert_eq!(room, [0x55; 70]);
+    assert_eq!(rewrite_curve(&c, &mut room), Answer { length: 54, ..Answer::default() });
+    assert_eq!((&room[..54], &room[54..]), (&c[..], &[0x55; 16][..]));
+    assert_eq!(rewrite_divisor(&c, &a, &mut room[..16]).number, 13);
+    assert_eq!(rewrite_divisor(&c, &a, &mut room), Answer { length: 17, ..Answer::default() });
+    assert_eq!(room[..17], a[..]);
+}
+
+/// Case P.
+#[test]
+fn the_pole_of_the_contract() {
+    let (c, a) = (curve_a(), divisor(&[0], &[1]));
+    let batch = [a.clone(), divisor(&[6], &[3]), a.clone()].concat();
+    let mut out = [0; 33];
+    assert_eq!(total_batch(&c, &batch, &mut out), Total { length: 33, count: 3, ..Total::default() });
+    assert_eq!(out[..], divisor(&[4, 4], &[0, 1])[..]);
+    assert_eq!(first_repeat(&c, &batch), Repeat { first: 1, second: 3, ..Repeat::default() });
+    assert_eq!(first_repeat(&c, &batch[..34]), Repeat::default());
+
+    let mut total = fresh_total();
+    for (n, record) in batch.chunks(17).enumerate() {
+        let by_value = scan(total, &c, record);
+        assert_eq!(scan_lent(&mut total, &c, record), Answer::default());
+        assert_eq!(by_value, Scanned { total, ..Scanned::default() });
+        assert_eq!(total.count, n as u64 + 1);
+    }
+    assert_eq!(total, Running { weight: 2, u0: 4, u1: 4, u2: 0, v0: 0, v1: 1, v2: 0, count: 3 });
+}
+
+#[test]
+fn batches_to_the_limit() {
+    let (c, a) = (curve_a(), divisor(&[0], &[1]));
+    let mut out = [0x55; 33];
+    assert_eq!(total_batch(&c, &[], &mut out), Total { length: 1, ..Total::default() });
+    assert_eq!(out[..2], [0, 0x55]);
+    assert_eq!(first_repeat(&c, &[]), Repeat::default());
+    assert_eq!(total_batch(&c, &[], &mut []).number, 13);
+
+    let full = a.repeat(4096);
+    // 4096 = 1 modulo 5.
+    assert_eq!(total_batch(&c, &full, &mut out), Total { length: 17, count: 4096, ..Total::default() });
+    assert_eq!(out[..17], a[..]);
+    for tail in [&[9][..], &a, &[0]] {
+        let over = [&full[..], tail].concat();
+        assert_eq!(total_batch(&c, &over, &mut []), Total { number: 14, ..Total::default() });
+        assert_eq!(first_repeat(&c, &over), Repeat { number: 14, ..Repeat::default() });
+        let mut early = over.clone();
+        early[17 * 4095] = 3;
+        assert_eq!(total_batch(&c, &early, &mut out), Total { number: 9, place: 4096, ..Total::default() });
+    }
+    // A cut record is 8 at its own place, and the whole batch is checked before a repeat is looked for.
+    assert_eq!(first_repeat(&c, &full[..17 * 3 + 16]), Repeat { number: 8, place: 4, ..Repeat::default() });
+    // Neutral records repeat too; the least j wins, then the least i.
+    assert_eq!(first_repeat(&c, &[0, 0, 0]), Repeat { first: 1, second: 2, ..Repeat::default() });
+    let b = divisor(&[6], &[3]);
+    let mixed = [&b[..], &a, &a, &b].concat();
+    assert_eq!(first_repeat(&c, &mixed), Repeat { first: 2, second: 3, ..Repeat::default() });
+}
+
+#[test]
+fn running_totals_refused() {
+    let (c, a) = (curve_a(), divisor(&[0], &[1]));
+    let good = Running { weight: 1, u0: 6, v0: 3, count: 7, ..Running::default() };
+    let number = |total: Running, curve: &[u8], record: &[u8]| {
+        let answer = scan(total, curve, record);
+        if answer.number != 0 {
+            assert_eq!(answer.total, total);
+        }
+        let mut lent = total;
+        let same = scan_lent(&mut lent, curve, record);
+        assert_eq!(
+            (answer.number, answer.place, answer.length, answer.total),
+            (same.number, same.place, same.length, lent)
+        );
+        (answer.number, answer.place)
+    };
+    assert_eq!(number(good, &c, &a), (0, 0));
+    let full = Running { count: 4096, ..good };
+    let faults = [
+        Running { weight: 3, ..good },
+        Running { weight: 4, ..good },
+        Running { weight: u64::MAX, ..good },
+        Running { u0: 13, ..good },
+        Running { v0: 10, ..good },
+        Running { v0: 2, ..good },
+        Running { u1: 1, ..good },
+        Running { u2: 1, ..good },
+        Running { v1: 7, ..good },
+        Running { v2: 1, ..good },
+        Running { weight: 0, ..good },
+        Running { count: 4097, ..good },
+        Running { count: u64::MAX, ..good },
+    ];
+    for fault in faults {
+        assert_eq!(number(fault, &c, &[]), (15, 0), "{:?}", fault);
+        assert_eq!(number(Running { count: fault.count.max(4096), ..fault }, &c, &[]), (15, 0), "{:?}", fault);
+        assert_eq!(number(fault, &c[..53], &[]), (1, 0), "{:?}", fault);
+    }
+    assert_eq!(number(full, &c, &[]), (14, 0));
+    assert_eq!(number(Running { count: 4095, ..good }, &c, &a), (0, 0));
+    assert_eq!(number(good, &c, &[]), (8, 1));
+    assert_eq!(number(good, &c, &[0, 0]), (8, 1));
+    assert_eq!(number(good, &c, &[3]), (9, 1));
+    assert_eq!(number(good, &c, &divisor(&[7], &[0])), (10, 1));
+    assert_eq!(number(good, &c, &divisor(&[0], &[2])), (11, 1));
+}
+
+/// All divisors of a curve, as records.
+fn every_divisor(c: &[u8], genus: u32, p: u64) -> Vec<Vec<u8>> {
+    let mut found = Vec::new();
+    for weight in 0..=genus {
+        for mut index in 0..p.pow(2 * weight) {
+            let mut numbers = Vec::new();
+            for _ in 0..2 * weight {
+                numbers.push(index % p);
+                index /= p;
+            }
+            let (u, v) = numbers.split_at(weight as usize);
+            let record = divisor(u, v);
+            if check_divisor(c, &record).number == 0 {
+                found.push(record);
+            }
+        }
+    }
+    found
+}
+
+#[test]
+fn small_curves_are_groups() {
+    let curves: [(u8, u64, &[u64]); 6] = [
+        (2, 3, &[1, 0, 0, 0, 0]),
+        (2, 3, &[1, 2, 0, 1, 2]),
+        (2, 5, &[2, 1, 0, 0, 3]),
+        (3, 3, &[1, 1, 0, 0, 0, 0, 0]),
+        (3, 3, &[0, 2, 1, 0, 0, 1, 2]),
+        (2, 7, &[1, 0, 0, 0, 0]),
+    ];
+    for (genus, p, f) in curves {
+        let c = curve(genus, p, f);
+        assert_eq!(check_curve(&c).number, 0, "{} {} {:?}", genus, p, f);
+        let all = every_divisor(&c, u32::from(genus), p);
+        let order = all.len() as u64;
+        let index: HashMap<&[u8], usize> = all.iter().enumerate().map(|(i, a)| (&a[..], i)).collect();
+        let table: Vec<Vec<usize>> =
+            all.iter().map(|a| all.iter().map(|b| index[&sum(&c, a, b)[..]]).collect()).collect();
+        for (i, a) in all.iter().enumerate() {
+            assert_eq!(table[0][i], i);
+            assert_eq!(all[table[i][i]], twice(&c, a));
+            let mut out = [0; 49];
+            let length = opposite(&c, a, &mut out).length as usize;
+            assert_eq!(table[i][index[&out[..length]]], 0);
+            assert_eq!(times(&c, a, order), neutral());
+            assert_eq!(times(&c, a, order + 3), all[table[table[i][i]][i]]);
+            for j in 0..all.len() {
+                assert_eq!(table[i][j], table[j][i]);
+                for k in 0..all.len() {
+                    assert_eq!(table[table[i][j]][k], table[i][table[j][k]]);
+                }
+            }
+        }
+    }
+}
+
+/// In genus 3, composed degree 6 that takes two reductions, on the largest field: (m + n)-fold is m-fold plus n-fold.
+#[test]
+fn multiples_add_up_on_the_largest_field() {
+    for genus in [2u8, 3] {
+        let mut f = vec![0; 2 * usize::from(genus) + 1];
+        f[0] = 4;
+        f[1] = 2_147_483_646;
+        f[2 * usize::from(genus)] = 17;
+        let c = curve(genus, 2_147_483_647, &f);
+        let point = divisor(&[0], &[2]);
+        let mut last = neutral();
+        for n in 0..200 {
+            assert_eq!(times(&c, &point, n), last);
+            assert_eq!(sum(&c, &times(&c, &point, 1000 * n), &last), times(&c, &point, 1001 * n));
+            last = sum(&c, &last, &point);
+        }
+        assert_eq!(usize::from(last[0]), usize::from(genus));
+    }
+}

@@ -1,0 +1,225 @@
+//! Proved arithmetic of divisors on hyperelliptic curves, for the keys of electricity meters.
+//!
+//! This crate is the Rust side of the static library `libtablet.a`, which `rt staticlib tablet` proves and writes, for
+//! x86-64 Linux. The build looks for it in the folder that the variable `YUBI_LIB_DIR` names, or else in the repository's
+//! `target/staticlib`.
+//!
+//! Every call takes records as bytes and checks them itself. What a record is, and which refusal comes first where several
+//! would fit, stands in `include/yubisorade.h`. A call that is refused changes no byte of its output.
+//!
+//! ```
+//! # fn main() -> Result<(), yubisorade::Refusal> {
+//! // Genus 2, p = 7, f = x^5 + 1; f's leading 1 isn't stored.
+//! let mut curve = b"HJC\x00\x01\x02".to_vec();
+//! for number in [7u64, 1, 0, 0, 0, 0] {
+//!     curve.extend_from_slice(&number.to_be_bytes());
+//! }
+//! yubisorade::check_curve(&curve)?;
+//!
+//! // The divisor (x, 1): weight 1, u_0 = 0, v_0 = 1. Twice it is (x², 1), weight 2.
+//! let mut meter = vec![1];
+//! for number in [0u64, 1] {
+//!     meter.extend_from_slice(&number.to_be_bytes());
+//! }
+//! let mut out = [0; yubisorade::DIVISOR_ROOM];
+//! let length = yubisorade::double(&curve, &meter, &mut out)?;
+//! assert_eq!((length, out[0]), (33, 2));
+//! # Ok(())
+//! # }
+//! ```
+
+pub mod raw;
+mod refusal;
+
+pub use refusal::Refusal;
+
+/// Bytes that hold any divisor record.
+pub const DIVISOR_ROOM: usize = 49;
+
+/// Bytes that hold any curve record.
+pub const CURVE_ROOM: usize = 70;
+
+/// Bytes of the longest scalar.
+pub const SCALAR_ROOM: usize = 32;
+
+/// The most records of a batch, and the largest count of a running total.
+pub const MOST_RECORDS: u64 = 4096;
+
+/// What [`multiply`] did.
+#[derive(Clone, Copy, Debug, PartialEq, Eq)]
+pub struct Multiple {
+    /// Bytes written.
+    pub length: usize,
+    /// Doublings of left-to-right double-and-add: the scalar's bit length less 1; 0 for scalar 0.
+    pub doublings: u64,
+    /// Its additions: ones in the scalar less 1; 0 for scalar 0.
+    pub additions: u64,
+}
+
+/// What [`total_batch`] did.
+#[derive(Clone, Copy, Debug, PartialEq, Eq)]
+pub struct Total {
+    /// Bytes written.
+    pub length: usize,
+    /// Records summed.
+    pub count: u64,
+}
+
+/// Two equal divisors of a batch, by their places from 1.
+#[derive(Clone, Copy, Debug, PartialEq, Eq)]
+pub struct Repeat {
+    pub first: u64,
+    pub second: u64,
+}
+
+fn length_of(answer: raw::YubiAnswer) -> Result<usize, Refusal> {
+    Refusal::check(answer.number, answer.place)?;
+    Ok(answer.length as usize)
+}
+
+/// Checks a curve record.
+///
+/// ```
+/// use yubisorade::{check_curve, Refusal};
+/// assert_eq!(check_curve(b"HJC"), Err(Refusal::CurveLength));
+/// assert_eq!(check_curve(b"JPEG\x00\x10"), Err(Refusal::Mark));
+/// ```
+pub fn check_curve(curve: &[u8]) -> Result<(), Refusal> {
+    length_of(raw::check_curve(curve)).map(|_| ())
+}
+
+/// Checks a divisor record on a curve.
+pub fn check_divisor(curve: &[u8], divisor: &[u8]) -> Result<(), Refusal> {
+    length_of(raw::check_divisor(curve, divisor)).map(|_| ())
+}
+
+/// Writes a checked curve record to the front of `out` and gives its length.
+pub fn rewrite_curve(curve: &[u8], out: &mut [u8]) -> Result<usize, Refusal> {
+    length_of(raw::rewrite_curve(curve, out))
+}
+
+/// Writes a checked divisor record to the front of `out` and gives its length.
+pub fn rewrite_divisor(curve: &[u8], divisor: &[u8], out: &mut [u8]) -> Result<usize, Refusal> {
+    length_of(raw::rewrite_divisor(curve, divisor, out))
+}
+
+/// Writes the sum of two divisors to the front of `out` and gives its length. A refusal's place is 1 for `a`, 2 for `b`.
+pub fn add(curve: &[u8], a: &[u8], b: &[u8], out: &mut [u8]) -> Result<usize, Refusal> {
+    length_of(raw::add(curve, a, b, out))
+}
+
+/// Writes the sum of a divisor with itself to the front of `out` and gives its length.
+pub fn double(curve: &[u8], a: &[u8], out: &mut [u8]) -> Result<usize, Refusal> {
+    length_of(raw::double(curve, a, out))
+}
+
+/// Writes the opposite of a divisor to the front of `out` and gives its length.
+pub fn opposite(curve: &[u8], a: &[u8], out: &mut [u8]) -> Result<usize, Refusal> {
+    length_of(raw::opposite(curve, a, out))
+}
+
+/// Writes the sum of n copies of a divisor to the front of `out`; the scalar n has 0 to 32 bytes, big-endian.
+pub fn multiply(curve: &[u8], a: &[u8], scalar: &[u8], out: &mut [u8]) -> Result<Multiple, Refusal> {
+    let answer = raw::multiply(curve, a, scalar, out);
+    Refusal::check(answer.number, answer.place)?;
+    Ok(Multiple { length: answer.length as usize, doublings: answer.doublings, additions: answer.additions })
+}
+
+/// Writes the sum of a batch, 0 to 4,096 divisor records one behind the other, to the front of `out`.
+pub fn total_batch(curve: &[u8], batch: &[u8], out: &mut [u8]) -> Result<Total, Refusal> {
+    let answer = raw::total_batch(curve, batch, out);
+    Refusal::check(answer.number, answer.place)?;
+    Ok(Total { length: answer.length as usize, count: answer.count })
+}
+
+/// Checks a whole batch, then finds its first two equal divisors: the least `second`, then the least `first` before it.
+///
+/// The search needs about 600 KB of stack.
+pub fn first_repeat(curve: &[u8], batch: &[u8]) -> Result<Option<Repeat>, Refusal> {
+    let answer = raw::first_repeat(curve, batch);
+    Refusal::check(answer.number, answer.place)?;
+    if answer.second == 0 {
+        Ok(None)
+    } else {
+        Ok(Some(Repeat { first: answer.first, second: answer.second }))
+    }
+}
+
+/// The total of a list of meters that are scanned one by one: a divisor and a count.
+///
+/// After each scan it is the batch total of the records taken so far, as long as the curve stays the same.
+///
+/// ```
+/// # fn main() -> Result<(), yubisorade::Refusal> {
+/// # let mut curve = b"HJC\x00\x01\x02".to_vec();
+/// # for number in [7u64, 1, 0, 0, 0, 0] {
+/// #     curve.extend_from_slice(&number.to_be_bytes());
+/// # }
+/// # let mut meter = vec![1];
+/// # for number in [0u64, 1] {
+/// #     meter.extend_from_slice(&number.to_be_bytes());
+/// # }
+/// use yubisorade::{Refusal, RunningTotal};
+/// let mut total = RunningTotal::fresh();
+/// total.scan(&curve, &meter)?;
+/// assert_eq!(total.record(), meter);
+///
+/// // A refused scan changes nothing.
+/// assert_eq!(total.scan(&curve, b"\x03"), Err(Refusal::Weight { place: 1 }));
+/// assert_eq!((total.count(), total.record()), (1, meter));
+/// # Ok(())
+/// # }
+/// ```
+#[derive(Clone, Copy, Debug, PartialEq, Eq)]
+pub struct RunningTotal(raw::YubiRunning);
+
+impl RunningTotal {
+    /// The total of no scan: neutral, with count 0.
+    pub fn fresh() -> RunningTotal {
+        RunningTotal(raw::fresh_total())
+    }
+
+    /// Adds a record's divisor to the total, and 1 to its count.
+    pub fn scan(&mut self, curve: &[u8], record: &[u8]) -> Result<(), Refusal> {
+        length_of(raw::scan_lent(&mut self.0, curve, record)).map(|_| ())
+    }
+
+    /// Scans taken so far.
+    pub fn count(&self) -> u64 {
+        self.0.count
+    }
+
+    /// The record of the total's divisor.
+    pub fn record(&self) -> Vec<u8> {
+        let raw::YubiRunning { weight, u0, u1, u2, v0, v1, v2, .. } = self.0;
+        let weight = weight as usize;
+        let mut bytes = vec![weight as u8];
+        for number in [u0, u1, u2][..weight].iter().chain(&[v0, v1, v2][..weight]) {
+            bytes.extend_from_slice(&number.to_be_bytes());
+        }
+        bytes
+    }
+
+    /// The flat form, for keeping.
+    pub fn into_raw(self) -> raw::YubiRunning {
+        self.0
+    }
+
+    /// A total from its flat form, or [`Refusal::RunningTotal`] where no curve has such a total: weight above 3, or an
+    /// unused coefficient that isn't 0. What depends on the curve is checked by each scan.
+    pub fn from_raw(total: raw::YubiRunning) -> Result<RunningTotal, Refusal> {
+        let raw::YubiRunning { weight, u0, u1, u2, v0, v1, v2, .. } = total;
+        let unused = [u0 | v0, u1 | v1, u2 | v2].iter().skip(weight.min(3) as usize).any(|&x| x != 0);
+        if weight > 3 || unused {
+            Err(Refusal::RunningTotal)
+        } else {
+            Ok(RunningTotal(total))
+        }
+    }
+}
+
+impl Default for RunningTotal {
+    fn default() -> RunningTotal {
+        RunningTotal::fresh()
+    }
+}

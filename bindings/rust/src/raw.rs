@@ -1,0 +1,238 @@
+//! The calls as the library answers them: numbers, places, lengths.
+//!
+//! The structs and names are those of `include/yubisorade.h`, and a test holds them to it. No call asks anything of the
+//! bytes lent to it, so the functions here, which pass slices on, are safe. Most programs want the [`Result`]s of the
+//! crate's root.
+
+/// What most calls answer.
+#[repr(C)]
+#[derive(Clone, Copy, Debug, Default, PartialEq, Eq)]
+pub struct YubiAnswer {
+    /// 0 for done, otherwise the number of the refusal.
+    pub number: u64,
+    /// Which divisor is at fault, from 1, for 8 to 11; otherwise 0.
+    pub place: u64,
+    /// Bytes written to the front of the output.
+    pub length: u64,
+}
+
+/// What [`multiply`] answers.
+#[repr(C)]
+#[derive(Clone, Copy, Debug, Default, PartialEq, Eq)]
+pub struct YubiMultiple {
+    pub number: u64,
+    pub place: u64,
+    pub length: u64,
+    /// The scalar's bit length less 1; 0 for scalar 0.
+    pub doublings: u64,
+    /// Ones in the scalar less 1; 0 for scalar 0.
+    pub additions: u64,
+}
+
+/// What [`total_batch`] answers.
+#[repr(C)]
+#[derive(Clone, Copy, Debug, Default, PartialEq, Eq)]
+pub struct YubiTotal {
+    pub number: u64,
+    pub place: u64,
+    pub length: u64,
+    /// Records summed.
+    pub count: u64,
+}
+
+/// What [`first_repeat`] answers.
+#[repr(C)]
+#[derive(Clone, Copy, Debug, Default, PartialEq, Eq)]
+pub struct YubiRepeat {
+    pub number: u64,
+    pub place: u64,
+    pub length: u64,
+    /// Place of the earlier of the two equal divisors, from 1; 0 for none.
+    pub first: u64,
+    /// Place of the later one; 0 for none.
+    pub second: u64,
+}
+
+/// A running total: a divisor and a count. Coefficients that the weight doesn't use are 0.
+#[repr(C)]
+#[derive(Clone, Copy, Debug, Default, PartialEq, Eq)]
+pub struct YubiRunning {
+    pub weight: u64,
+    pub u0: u64,
+    pub u1: u64,
+    pub u2: u64,
+    pub v0: u64,
+    pub v1: u64,
+    pub v2: u64,
+    pub count: u64,
+}
+
+/// What [`scan`] answers.
+#[repr(C)]
+#[derive(Clone, Copy, Debug, Default, PartialEq, Eq)]
+pub struct YubiScanned {
+    pub number: u64,
+    pub place: u64,
+    pub length: u64,
+    /// The total after the scan; as it was given on a refusal.
+    pub total: YubiRunning,
+}
+
+#[link(name = "tablet", kind = "static")]
+extern "C" {
+    fn yubi_check_curve(curve: *const u8, curve_length: usize) -> YubiAnswer;
+    fn yubi_check_divisor(
+        curve: *const u8,
+        curve_length: usize,
+        divisor: *const u8,
+        divisor_length: usize,
+    ) -> YubiAnswer;
+    fn yubi_rewrite_curve(curve: *const u8, curve_length: usize, out: *mut u8, out_length: usize) -> YubiAnswer;
+    fn yubi_rewrite_divisor(
+        curve: *const u8,
+        curve_length: usize,
+        divisor: *const u8,
+        divisor_length: usize,
+        out: *mut u8,
+        out_length: usize,
+    ) -> YubiAnswer;
+    fn yubi_add(
+        curve: *const u8,
+        curve_length: usize,
+        a: *const u8,
+        a_length: usize,
+        b: *const u8,
+        b_length: usize,
+        out: *mut u8,
+        out_length: usize,
+    ) -> YubiAnswer;
+    fn yubi_double(
+        curve: *const u8,
+        curve_length: usize,
+        a: *const u8,
+        a_length: usize,
+        out: *mut u8,
+        out_length: usize,
+    ) -> YubiAnswer;
+    fn yubi_opposite(
+        curve: *const u8,
+        curve_length: usize,
+        a: *const u8,
+        a_length: usize,
+        out: *mut u8,
+        out_length: usize,
+    ) -> YubiAnswer;
+    fn yubi_multiply(
+        curve: *const u8,
+        curve_length: usize,
+        a: *const u8,
+        a_length: usize,
+        scalar: *const u8,
+        scalar_length: usize,
+        out: *mut u8,
+        out_length: usize,
+    ) -> YubiMultiple;
+    fn yubi_total_batch(
+        curve: *const u8,
+        curve_length: usize,
+        batch: *const u8,
+        batch_length: usize,
+        out: *mut u8,
+        out_length: usize,
+    ) -> YubiTotal;
+    fn yubi_first_repeat(curve: *const u8, curve_length: usize, batch: *const u8, batch_length: usize) -> YubiRepeat;
+    fn yubi_fresh_total() -> YubiRunning;
+    fn yubi_scan(
+        total: YubiRunning,
+        curve: *const u8,
+        curve_length: usize,
+        record: *const u8,
+        record_length: usize,
+    ) -> YubiScanned;
+}
+
+// SAFETY, of every call below: the library reads its inputs and writes its output within the lengths given, keeps no
+// pointer, and has no condition on what the bytes hold. A slice's pointer is never null, an output is borrowed mutably and
+// so overlaps no input, and the structs are laid out as the header's.
+
+/// Checks a curve record.
+pub fn check_curve(curve: &[u8]) -> YubiAnswer {
+    unsafe { yubi_check_curve(curve.as_ptr(), curve.len()) }
+}
+
+/// Checks a divisor record on a curve.
+pub fn check_divisor(curve: &[u8], divisor: &[u8]) -> YubiAnswer {
+    unsafe { yubi_check_divisor(curve.as_ptr(), curve.len(), divisor.as_ptr(), divisor.len()) }
+}
+
+/// Writes a checked curve record to `out`.
+pub fn rewrite_curve(curve: &[u8], out: &mut [u8]) -> YubiAnswer {
+    unsafe { yubi_rewrite_curve(curve.as_ptr(), curve.len(), out.as_mut_ptr(), out.len()) }
+}
+
+/// Writes a checked divisor record to `out`.
+pub fn rewrite_divisor(curve: &[u8], divisor: &[u8], out: &mut [u8]) -> YubiAnswer {
+    unsafe {
+        yubi_rewrite_divisor(curve.as_ptr(), curve.len(), divisor.as_ptr(), divisor.len(), out.as_mut_ptr(), out.len())
+    }
+}
+
+/// Writes a + b to `out`.
+pub fn add(curve: &[u8], a: &[u8], b: &[u8], out: &mut [u8]) -> YubiAnswer {
+    unsafe {
+        yubi_add(curve.as_ptr(), curve.len(), a.as_ptr(), a.len(), b.as_ptr(), b.len(), out.as_mut_ptr(), out.len())
+    }
+}
+
+/// Writes a + a to `out`.
+pub fn double(curve: &[u8], a: &[u8], out: &mut [u8]) -> YubiAnswer {
+    unsafe { yubi_double(curve.as_ptr(), curve.len(), a.as_ptr(), a.len(), out.as_mut_ptr(), out.len()) }
+}
+
+/// Writes -a to `out`.
+pub fn opposite(curve: &[u8], a: &[u8], out: &mut [u8]) -> YubiAnswer {
+    unsafe { yubi_opposite(curve.as_ptr(), curve.len(), a.as_ptr(), a.len(), out.as_mut_ptr(), out.len()) }
+}
+
+/// Writes the scalar-fold sum of a to `out`.
+pub fn multiply(curve: &[u8], a: &[u8], scalar: &[u8], out: &mut [u8]) -> YubiMultiple {
+    unsafe {
+        yubi_multiply(
+            curve.as_ptr(),
+            curve.len(),
+            a.as_ptr(),
+            a.len(),
+            scalar.as_ptr(),
+            scalar.len(),
+            out.as_mut_ptr(),
+            out.len(),
+        )
+    }
+}
+
+/// Writes the sum of a batch to `out`.
+pub fn total_batch(curve: &[u8], batch: &[u8], out: &mut [u8]) -> YubiTotal {
+    unsafe { yubi_total_batch(curve.as_ptr(), curve.len(), batch.as_ptr(), batch.len(), out.as_mut_ptr(), out.len()) }
+}
+
+/// Finds the first two equal divisors of a batch.
+pub fn first_repeat(curve: &[u8], batch: &[u8]) -> YubiRepeat {
+    unsafe { yubi_first_repeat(curve.as_ptr(), curve.len(), batch.as_ptr(), batch.len()) }
+}
+
+/// A running total that has taken no scan.
+pub fn fresh_total() -> YubiRunning {
+    unsafe { yubi_fresh_total() }
+}
+
+/// Adds a record to a running total, by value.
+pub fn scan(total: YubiRunning, curve: &[u8], record: &[u8]) -> YubiScanned {
+    unsafe { yubi_scan(total, curve.as_ptr(), curve.len(), record.as_ptr(), record.len()) }
+}
+
+/// Adds a record to a running total, in place, over the call by value: a refused scan hands back the total it was given.
+pub fn scan_lent(total: &mut YubiRunning, curve: &[u8], record: &[u8]) -> YubiAnswer {
+    let scanned = scan(*total, curve, record);
+    *total = scanned.total;
+    YubiAnswer { number: scanned.number, place: scanned.place, length: scanned.length }
+}

@@ -1,0 +1,118 @@
+//! The contract's examples, through the safe calls.
+
+use yubisorade::*;
+
+fn curve(genus: u8, p: u64, f: &[u64]) -> Vec<u8> {
+    let mut bytes = vec![b'H', b'J', b'C', 0, 1, genus];
+    for number in std::iter::once(&p).chain(f) {
+        bytes.extend_from_slice(&number.to_be_bytes());
+    }
+    bytes
+}
+
+fn divisor(u: &[u64], v: &[u64]) -> Vec<u8> {
+    let mut bytes = vec![u.len() as u8];
+    for number in u.iter().chain(v) {
+        bytes.extend_from_slice(&number.to_be_bytes());
+    }
+    bytes
+}
+
+fn curve_a() -> Vec<u8> {
+    curve(2, 7, &[1, 0, 0, 0, 0])
+}
+
+/// Runs a call on a full-sized output and gives what it wrote.
+fn written(call: impl Fn(&mut [u8]) -> Result<usize, Refusal>) -> Vec<u8> {
+    let mut out = [0xee; CURVE_ROOM];
+    let length = call(&mut out).unwrap();
+    assert!(out[length..].iter().all(|&byte| byte == 0xee));
+    out[..length].to_vec()
+}
+
+#[test]
+fn sums() {
+    let (c, a, b) = (curve_a(), divisor(&[0], &[1]), divisor(&[6], &[3]));
+    assert_eq!(written(|out| add(&c, &a, &b, out)), divisor(&[0, 6], &[1, 2]));
+    assert_eq!(written(|out| double(&c, &a, out)), divisor(&[0, 0], &[1, 0]));
+    assert_eq!(written(|out| opposite(&c, &b, out)), divisor(&[6], &[4]));
+    assert_eq!(written(|out| rewrite_divisor(&c, &b, out)), b);
+    assert_eq!(written(|out| rewrite_curve(&c, out)), c);
+    let c = curve(3, 11, &[1, 0, 0, 0, 0, 0, 0]);
+    assert_eq!(written(|out| double(&c, &divisor(&[0, 0, 0], &[1, 0, 0]), out)), divisor(&[0], &[10]));
+}
+
+#[test]
+fn multiples() {
+    let (c, a) = (curve_a(), divisor(&[0], &[1]));
+    let mut out = [0; DIVISOR_ROOM];
+    let four = multiply(&c, &a, &[4], &mut out);
+    assert_eq!(four, Ok(Multiple { length: 17, doublings: 2, additions: 0 }));
+    assert_eq!(out[..17], divisor(&[0], &[6])[..]);
+    assert_eq!(multiply(&c, &a, &[], &mut out), Ok(Multiple { length: 1, doublings: 0, additions: 0 }));
+    assert_eq!(multiply(&c, &a, &[0; SCALAR_ROOM + 1], &mut out), Err(Refusal::ScalarLength));
+    assert_eq!(multiply(&c, &a, &[2], &mut out[..32]), Err(Refusal::OutputLength));
+}
+
+#[test]
+fn the_pole_of_the_contract() {
+    let (c, a, b) = (curve_a(), divisor(&[0], &[1]), divisor(&[6], &[3]));
+    let batch = [&a[..], &b, &a].concat();
+    let mut out = [0; DIVISOR_ROOM];
+    assert_eq!(total_batch(&c, &batch, &mut out), Ok(Total { length: 33, count: 3 }));
+    assert_eq!(out[..33], divisor(&[4, 4], &[0, 1])[..]);
+    assert_eq!(first_repeat(&c, &batch), Ok(Some(Repeat { first: 1, second: 3 })));
+    assert_eq!(first_repeat(&c, &batch[..34]), Ok(None));
+
+    let mut total = RunningTotal::fresh();
+    for record in batch.chunks(17) {
+        let by_value = raw::scan(total.into_raw(), &c, record);
+        total.scan(&c, record).unwrap();
+        assert_eq!((by_value.number, by_value.total), (0, total.into_raw()));
+    }
+    assert_eq!((total.count(), &total.record()[..]), (3, &out[..33]));
+}
+
+#[test]
+fn refusals() {
+    let (c, a, off) = (curve_a(), divisor(&[0], &[1]), divisor(&[0], &[2]));
+    let mut out = [0xee; DIVISOR_ROOM];
+    assert_eq!(check_curve(&c), Ok(()));
+    assert_eq!(check_curve(&c[..53]), Err(Refusal::CurveLength));
+    assert_eq!(check_curve(&curve(2, 9, &[1, 0, 0, 0, 0])), Err(Refusal::Prime));
+    assert_eq!(check_curve(&curve(2, 7, &[1, 0, 0, 0, 7])), Err(Refusal::CurveCoefficient));
+    assert_eq!(check_curve(&curve(2, 5, &[1, 0, 0, 0, 0])), Err(Refusal::RepeatedFactor));
+    assert_eq!(check_divisor(&c, &a), Ok(()));
+    assert_eq!(check_divisor(&c, &[]), Err(Refusal::DivisorLength { place: 1 }));
+    assert_eq!(add(&c, &a, &off, &mut out), Err(Refusal::NotOnCurve { place: 2 }));
+    assert_eq!(add(&c, &off, &[], &mut out), Err(Refusal::NotOnCurve { place: 1 }));
+    let batch = [&a[..], &divisor(&[7], &[0])].concat();
+    assert_eq!(total_batch(&c, &batch, &mut out), Err(Refusal::DivisorCoefficient { place: 2 }));
+    assert_eq!(first_repeat(&c, &[0; 4097]), Err(Refusal::Full));
+    assert_eq!(out, [0xee; DIVISOR_ROOM]);
+}
+
+#[test]
+fn running_totals_from_their_flat_form() {
+    let (c, a) = (curve_a(), divisor(&[0], &[1]));
+    let flat = raw::YubiRunning { weight: 1, u0: 6, v0: 3, count: 4095, ..Default::default() };
+    let mut total = RunningTotal::from_raw(flat).unwrap();
+    assert_eq!(total.scan(&c, &a), Ok(()));
+    assert_eq!(total.record(), divisor(&[0, 6], &[1, 2]));
+    assert_eq!(total.scan(&c, &a), Err(Refusal::Full));
+    assert_eq!(total.count(), MOST_RECORDS);
+
+    let mut off = RunningTotal::from_raw(raw::YubiRunning { v0: 2, ..flat }).unwrap();
+    assert_eq!(off.scan(&c, &a), Err(Refusal::RunningTotal));
+    assert_eq!(off.into_raw(), raw::YubiRunning { v0: 2, ..flat });
+    for bad in [
+        raw::YubiRunning { weight: 4, ..flat },
+        raw::YubiRunning { weight: u64::MAX, ..flat },
+        raw::YubiRunning { weight: 0, ..flat },
+        raw::YubiRunning { u1: 1, ..flat },
+        raw::YubiRunning { v2: 1, ..flat },
+    ] {
+        assert_eq!(RunningTotal::from_raw(bad), Err(Refusal::RunningTotal));
+        assert_eq!(raw::scan(bad, &c, &a), raw::YubiScanned { number: 15, place: 0, length: 0, total: bad });
+    }
+}

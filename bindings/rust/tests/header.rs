@@ -1,0 +1,197 @@
+//! Holds every declaration of `src/raw.rs` to `include/yubisorade.h`: names, parameters and results of the calls, fields of
+//! the structs, the constants. Both files are read as text.
+
+use std::collections::BTreeMap;
+use std::mem::size_of;
+use yubisorade::raw::*;
+
+const HEADER: &str = include_str!("../../../include/yubisorade.h");
+const RAW: &str = include_str!("../src/raw.rs");
+
+/// Pairs of a name and a Rust type, in order.
+type Named = Vec<(String, String)>;
+
+/// What a file declares: structs by name with their fields; calls by name with their parameters and result.
+#[derive(Debug, Default, PartialEq, Eq)]
+struct Declared {
+    structs: BTreeMap<String, Named>,
+    calls: BTreeMap<String, (Named, String)>,
+}
+
+/// What stands between `open` and the next `close`, and what follows.
+fn between<'a>(text: &'a str, open: &str, close: &str) -> Option<(&'a str, &'a str)> {
+    let (_, rest) = text.split_once(open)?;
+    rest.split_once(close)
+}
+
+/// The header without comments and preprocessor lines.
+fn c_code(header: &str) -> String {
+    let mut code = String::new();
+    let mut rest = header;
+    while let Some((before, comment)) = rest.split_once("/*") {
+        code.push_str(before);
+        rest = comment.split_once("*/").expect("a comment that ends").1;
+    }
+    code.push_str(rest);
+    code.lines().filter(|line| !line.starts_with('#')).collect::<Vec<_>>().join("\n")
+}
+
+/// `const uint8_t *curve` as the name `curve` and the Rust type `*const u8`.
+fn c_variable(text: &str) -> (String, String) {
+    let text = text.trim();
+    let start = text.rfind(|c: char| !c.is_ascii_alphanumeric() && c != '_').expect("a type and a name") + 1;
+    let (kind, name) = text.split_at(start);
+    (name.to_string(), c_type(kind))
+}
+
+fn c_type(text: &str) -> String {
+    let words = text.replace('*', " * ");
+    let words: Vec<&str> = words.split_whitespace().collect();
+    let plain = |word: &str| match word {
+        "uint64_t" => "u64".to_string(),
+        "uint8_t" => "u8".to_string(),
+        "size_t" => "usize".to_string(),
+        other => other.to_string(),
+    };
+    match words[..] {
+        ["const", kind, "*"] => format!("*const {}", plain(kind)),
+        [kind, "*"] => format!("*mut {}", plain(kind)),
+        [kind] => plain(kind),
+        _ => panic!("an unexpected type in the header: {}", text),
+    }
+}
+
+fn declared_in_c(header: &str) -> Declared {
+    let code = c_code(header);
+    let mut declared = Declared::default();
+    let mut rest = &code[..];
+    let mut outside = String::new();
+    while let Some((before, found)) = rest.split_once("typedef struct ") {
+        outside.push_str(before);
+        let (name, found) = found.split_once('{').expect("a struct's fields");
+        let (fields, found) = found.split_once('}').expect("a struct that ends");
+        let (again, found) = found.split_once(';').expect("a struct's name");
+        assert_eq!(name.trim(), again.trim());
+        let fields = fields.split(';').filter(|field| !field.trim().is_empty()).map(c_variable).collect();
+        declared.structs.insert(name.trim().to_string(), fields);
+        rest = found;
+    }
+    outside.push_str(rest);
+    for statement in outside.split(';') {
+        if let Some((head, parameters)) = statement.split_once('(') {
+            let head = head.rsplit('}').next().unwrap_or(head).rsplit('{').next().unwrap_or(head);
+            let (name, result) = c_variable(head);
+            let parameters = parameters.trim_end().strip_suffix(')').expect("parameters that end");
+            let parameters =
+                if parameters == "void" { Vec::new() } else { parameters.split(',').map(c_variable).collect() };
+            declared.calls.insert(name, (parameters, result));
+        }
+    }
+    declared
+}
+
+fn rust_variable(text: &str) -> Option<(String, String)> {
+    let (name, kind) = text.trim().split_once(':')?;
+    Some((name.trim_start_matches("pub ").trim().to_string(), kind.trim().to_string()))
+}
+
+fn declared_in_rust(source: &str) -> Declared {
+    let code: Vec<&str> = source.lines().filter(|line| !line.trim_start().starts_with("//")).collect();
+    let code = code.join("\n");
+    let mut declared = Declared::default();
+    let mut rest = &code[..];
+    while let Some((attributes, after)) = between(rest, "#[repr(C)]", "pub struct ") {
+        assert!(!attributes.contains('}'), "repr(C) on something else than a struct");
+        let (name, after) = after.split_once('{').expect("a struct's fields");
+        let (fields, after) = after.split_once('}').expect("a struct that ends");
+        declared.structs.insert(name.trim().to_string(), fields.split(',').filter_map(rust_variable).collect());
+        rest = after;
+    }
+    assert_eq!(declared.structs.len(), code.matches("pub struct ").count(), "a struct without repr(C)");
+    let (block, _) = between(&code, "extern \"C\" {", "\n}").expect("the calls");
+    for statement in block.split(';') {
+        if let Some((name, rest)) = between(statement, "fn ", "(") {
+            let (parameters, result) = rest.split_once(')').expect("parameters that end");
+            let result = result.trim().strip_prefix("->").expect("a result").trim();
+            let parameters = parameters.split(',').filter_map(rust_variable).collect();
+            declared.calls.insert(name.to_string(), (parameters, result.to_string()));
+        }
+    }
+    declared
+}
+
+#[test]
+fn declarations_are_the_headers() {
+    let (c, rust) = (declared_in_c(HEADER), declared_in_rust(RAW));
+    for (name, fields) in &c.structs {
+        assert_eq!(rust.structs.get(name), Some(fields), "struct {}", name);
+    }
+    for (name, call) in &c.calls {
+        assert_eq!(rust.calls.get(name), Some(call), "{}", name);
+    }
+    assert_eq!(c, rust);
+    let calls: Vec<&str> = c.calls.keys().map(|name| &name[..]).collect();
+    let wanted = [
+        "yubi_add",
+        "yubi_check_curve",
+        "yubi_check_divisor",
+        "yubi_double",
+        "yubi_first_repeat",
+        "yubi_fresh_total",
+        "yubi_multiply",
+        "yubi_opposite",
+        "yubi_rewrite_curve",
+        "yubi_rewrite_divisor",
+        "yubi_scan",
+        "yubi_total_batch",
+    ];
+    assert_eq!(calls, wanted);
+    assert_eq!(c.structs.len(), 6);
+    assert_eq!(c.calls["yubi_add"].0.len(), 8);
+}
+
+/// The comparison sees one changed word of either file.
+#[test]
+fn a_changed_declaration_shows() {
+    let changes = [
+        ("uint64_t doublings;", "uint32_t doublings;"),
+        ("uint64_t u1;", "uint64_t w1;"),
+        ("const uint8_t *b,", "uint8_t *b,"),
+        ("YubiTotal yubi_total_batch", "YubiAnswer yubi_total_batch"),
+        ("YubiRunning *total,", "YubiRunning total,"),
+        ("YubiRunning yubi_fresh_total(void);", ""),
+        ("size_t scalar_length, ", ""),
+        ("yubi_opposite", "yubi_negate"),
+    ];
+    let rust = declared_in_rust(RAW);
+    for (old, new) in changes {
+        let changed = HEADER.replace(old, new);
+        assert_ne!(changed, HEADER, "{}", old);
+        assert_ne!(declared_in_c(&changed), rust, "{}", old);
+    }
+    let unmarked = RAW.replacen("out: *mut u8", "out: *const u8", 1);
+    assert_ne!(declared_in_rust(&unmarked), declared_in_c(HEADER));
+}
+
+#[test]
+fn constants_are_the_headers() {
+    let defined = |name: &str| -> u64 {
+        let line = HEADER.lines().find(|line| line.starts_with(&format!("#define {} ", name))).expect(name);
+        line.split_whitespace().nth(2).expect(name).parse().expect(name)
+    };
+    assert_eq!(defined("YUBI_DIVISOR_ROOM"), yubisorade::DIVISOR_ROOM as u64);
+    assert_eq!(defined("YUBI_CURVE_ROOM"), yubisorade::CURVE_ROOM as u64);
+    assert_eq!(defined("YUBI_SCALAR_ROOM"), yubisorade::SCALAR_ROOM as u64);
+    assert_eq!(defined("YUBI_MOST_RECORDS"), yubisorade::MOST_RECORDS);
+}
+
+/// Every field is 8 bytes, without gaps.
+#[test]
+fn sizes() {
+    assert_eq!(size_of::<YubiAnswer>(), 3 * 8);
+    assert_eq!(size_of::<YubiMultiple>(), 5 * 8);
+    assert_eq!(size_of::<YubiTotal>(), 4 * 8);
+    assert_eq!(size_of::<YubiRepeat>(), 5 * 8);
+    assert_eq!(size_of::<YubiRunning>(), 8 * 8);
+    assert_eq!(size_of::<YubiScanned>(), 11 * 8);
+}

@@ -1,0 +1,189 @@
+/*
+ * yubisorade.h: arithmetic of divisors on hyperelliptic curves, for electricity meters.
+ *
+ * Curves are y^2 = f(x), of genus g = 2 or 3, f monic of degree 2g + 1 without a repeated factor, over the whole numbers
+ * modulo an odd prime p, 3 <= p <= 2147483647. A meter's key is a divisor on such a curve.
+ *
+ * LINKING
+ *   `rt staticlib tablet` proves the library and writes target/staticlib/libtablet.a, for x86-64 Linux. It needs
+ *   nothing else: no allocation, no files, no threads, no state. Every call may run on any number of threads at once.
+ *
+ * RECORDS (all numbers big-endian)
+ *   curve     'H' 'J' 'C', version 1 in 2 bytes, g in 1 byte, p in 8 bytes, f_0 to f_2g in 8 bytes each; f's leading 1
+ *             isn't stored. 54 bytes for g = 2, 70 for g = 3.
+ *   divisor   weight w in 1 byte, u_0 to u_(w-1), v_0 to v_(w-1) in 8 bytes each: 1 + 16w bytes, w <= g. u is monic of
+ *             degree w, v has a smaller degree, and u divides f - v^2. The single byte 00 is the neutral divisor.
+ *   scalar    0 to 32 bytes, unsigned. No bytes mean 0; leading zeros are allowed.
+ *   batch     0 to 4096 divisor records, one behind the other, nothing between them.
+ *
+ * ARGUMENTS
+ *   Bytes pass as a pointer and then a length. With length 0 any pointer but NULL will do; it isn't read. Each call checks
+ *   its records itself, each time; no bytes are asked to be well formed.
+ *   An output must not overlap any input of the same call. Inputs may overlap each other, or be the same.
+ *
+ * ROOM THAT ALWAYS SUFFICES for an output
+ *   a divisor  33 bytes for g = 2, 49 for g = 3 (YUBI_DIVISOR_ROOM)
+ *   a curve    54 bytes for g = 2, 70 for g = 3 (YUBI_CURVE_ROOM)
+ *   A smaller output does where the result is shorter: 1 + 16w bytes for weight w.
+ *
+ * STACK
+ *   yubi_first_repeat keeps up to 4096 divisors on the stack, about 600 KB: leave it 1 MB, and don't call it on a thread
+ *   with a small stack. The other calls keep no batch in memory.
+ *
+ * ANSWERS
+ *   Each call answers a number, a place and a length. On number 0 the result stands in the first `length` bytes of the
+ *   output and the rest of the output keeps its bytes. On any other number no byte of an output changes, a running total
+ *   comes back as it was given, and length, counts, first and second are 0. The place says which divisor record is at
+ *   fault, counted from 1, for the numbers 8 to 11 (1 where a call has one divisor); otherwise it is 0.
+ *
+ *   no.  given exactly when                                     what a crew should do
+ *    0   done                                                   go on
+ *    1   the curve record is shorter than 6 bytes, or isn't 54  load the curve file again: it is cut, or something was
+ *        or 70 bytes as its g says                              added to it
+ *    2   the mark isn't HJC                                     load the right file: this one isn't a curve
+ *    3   the version isn't 1                                    ask for a curve in version 1, or a newer tablet
+ *    4   g isn't 2 or 3                                         report the curve to the office: wrong genus
+ *    5   p isn't an odd prime from 3 to 2147483647              report the curve to the office: wrong prime
+ *    6   some f_i is p or more                                  report the curve to the office: damaged or wrongly made
+ *    7   f has a repeated factor                                report the curve to the office: unfit for meters
+ *    8   a divisor record is empty, or not 1 + 16w bytes (in a  scan that meter again: the record is cut, or too long
+ *        batch: fewer bytes remain)
+ *    9   the weight w is above g                                check that meter and curve belong together; scan again
+ *   10   some u_i or v_i is p or more                           check that meter and curve belong together; scan again
+ *   11   u doesn't divide f - v^2                               scan again; if it stays, the meter isn't on this curve:
+ *                                                               leave it out and report it
+ *   12   the scalar has more than 32 bytes                      mend the caller: a scalar has at most 256 bits
+ *   13   the output is shorter than the result                  mend the caller: lend YUBI_DIVISOR_ROOM or
+ *                                                               YUBI_CURVE_ROOM bytes
+ *   14   a batch goes on after 4096 good records, or a running  close this list and begin a new one
+ *        total already holds 4096
+ *   15   a running total's divisor has a number of p or more,   begin the list again with yubi_fresh_total: the total is
+ *        or isn't valid on this curve, or its count is over     damaged, or the curve was changed under it
+ *        4096 (here also: weight above g, or an unused
+ *        coefficient that isn't 0)
+ *
+ *   Where several would fit, the first in this order is given: the curve's 1 (under 6 bytes), 2, 3, 4, 1, 5, 6, 7; for a
+ *   scan 15, 14; then the divisors from first to last, each 8 (empty), 9, 8 (length), 10, 11; then 12; then 13.
+ */
+#ifndef YUBISORADE_H
+#define YUBISORADE_H
+
+#include <stddef.h>
+#include <stdint.h>
+
+#ifdef __cplusplus
+extern "C" {
+#endif
+
+/* Bytes that hold any divisor record, any curve record, the longest scalar. */
+#define YUBI_DIVISOR_ROOM 49
+#define YUBI_CURVE_ROOM 70
+#define YUBI_SCALAR_ROOM 32
+
+/* The most records of a batch, and the largest count of a running total. */
+#define YUBI_MOST_RECORDS 4096
+
+/* What most calls answer. */
+typedef struct YubiAnswer {
+    uint64_t number; /* 0 for done, otherwise a number of the table above */
+    uint64_t place;  /* which divisor is at fault, from 1; 0 for none */
+    uint64_t length; /* bytes written to the front of the output */
+} YubiAnswer;
+
+/* What yubi_multiply answers. */
+typedef struct YubiMultiple {
+    uint64_t number;
+    uint64_t place;
+    uint64_t length;
+    uint64_t doublings; /* of left-to-right double-and-add: the scalar's bit length less 1; 0 for scalar 0 */
+    uint64_t additions; /* of the same: ones in the scalar less 1; 0 for scalar 0 */
+} YubiMultiple;
+
+/* What yubi_total_batch answers. */
+typedef struct YubiTotal {
+    uint64_t number;
+    uint64_t place;
+    uint64_t length;
+    uint64_t count; /* records summed */
+} YubiTotal;
+
+/* What yubi_first_repeat answers. */
+typedef struct YubiRepeat {
+    uint64_t number;
+    uint64_t place;
+    uint64_t length; /* always 0: the search writes no output */
+    uint64_t first;  /* place of the earlier of the two equal divisors, from 1; 0 for none */
+    uint64_t second; /* place of the later one; 0 for none */
+} YubiRepeat;
+
+/* A running total: a divisor and a count. Begin with yubi_fresh_total. Coefficients from u_w and v_w on are 0. */
+typedef struct YubiRunning {
+    uint64_t weight;
+    uint64_t u0;
+    uint64_t u1;
+    uint64_t u2;
+    uint64_t v0;
+    uint64_t v1;
+    uint64_t v2;
+    uint64_t count; /* scans taken */
+} YubiRunning;
+
+/* What yubi_scan answers. */
+typedef struct YubiScanned {
+    uint64_t number;
+    uint64_t place;
+    uint64_t length;   /* always 0: a scan writes no output */
+    YubiRunning total; /* the total after the scan; as it was given where the number isn't 0 */
+} YubiScanned;
+
+/* Checks a curve record: 0 to 7. Writes nothing. */
+YubiAnswer yubi_check_curve(const uint8_t *curve, size_t curve_length);
+
+/* Checks a divisor record on a curve: 0 to 11. Writes nothing. */
+YubiAnswer yubi_check_divisor(const uint8_t *curve, size_t curve_length, const uint8_t *divisor, size_t divisor_length);
+
+/* Checks a curve record and writes it to out: 0 to 7, 13. A good record has one form, so the bytes are those given. */
+YubiAnswer yubi_rewrite_curve(const uint8_t *curve, size_t curve_length, uint8_t *out, size_t out_length);
+
+/* Checks a divisor record and writes it to out: 0 to 11, 13. */
+YubiAnswer yubi_rewrite_divisor(const uint8_t *curve, size_t curve_length, const uint8_t *divisor, size_t divisor_length,
+                                uint8_t *out, size_t out_length);
+
+/* Writes the sum of the divisors a (place 1) and b (place 2) to out: 0 to 11, 13. */
+YubiAnswer yubi_add(const uint8_t *curve, size_t curve_length, const uint8_t *a, size_t a_length, const uint8_t *b,
+                    size_t b_length, uint8_t *out, size_t out_length);
+
+/* Writes the sum of the divisor a with itself to out: 0 to 11, 13. */
+YubiAnswer yubi_double(const uint8_t *curve, size_t curve_length, const uint8_t *a, size_t a_length, uint8_t *out,
+                       size_t out_length);
+
+/* Writes the opposite of the divisor a, (u, -v), to out: 0 to 11, 13. */
+YubiAnswer yubi_opposite(const uint8_t *curve, size_t curve_length, const uint8_t *a, size_t a_length, uint8_t *out,
+                         size_t out_length);
+
+/* Writes the sum of n copies of the divisor a to out, n the scalar; neutral for n = 0: 0 to 13. Its time depends on the
+ * scalar. */
+YubiMultiple yubi_multiply(const uint8_t *curve, size_t curve_length, const uint8_t *a, size_t a_length,
+                           const uint8_t *scalar, size_t scalar_length, uint8_t *out, size_t out_length);
+
+/* Writes the sum of a batch's divisors to out, neutral for an empty batch, and answers how many: 0 to 11, 13, 14. */
+YubiTotal yubi_total_batch(const uint8_t *curve, size_t curve_length, const uint8_t *batch, size_t batch_length,
+                           uint8_t *out, size_t out_length);
+
+/* Checks a whole batch and then finds its first two equal divisors: the least second, then the least first before it; both
+ * 0 where no two are equal: 0 to 11, 14. Mind the stack. */
+YubiRepeat yubi_first_repeat(const uint8_t *curve, size_t curve_length, const uint8_t *batch, size_t batch_length);
+
+/* A running total that has taken no scan: neutral, count 0. */
+YubiRunning yubi_fresh_total(void);
+
+/* Adds one divisor record to a running total, and 1 to its count: 0 to 11, 14, 15. From a fresh total, after each scan the
+ * total is the batch total of the records taken so far under the same curve. */
+YubiScanned yubi_scan(YubiRunning total, const uint8_t *curve, size_t curve_length, const uint8_t *record,
+                      size_t record_length);
+
+#ifdef __cplusplus
+}
+#endif
+
+#endif
