@@ -158,7 +158,7 @@ fn a_changed_declaration_shows() {
         ("uint64_t u1;", "uint64_t w1;"),
         ("const uint8_t *b,", "uint8_t *b,"),
         ("YubiTotal yubi_total_batch", "YubiAnswer yubi_total_batch"),
-        ("YubiRunning *total,", "YubiRunning total,"),
+        ("yubi_scan(YubiRunning total,", "yubi_scan(YubiRunning *total,"),
         ("YubiRunning yubi_fresh_total(void);", ""),
         ("size_t scalar_length, ", ""),
         ("yubi_opposite", "yubi_negate"),
