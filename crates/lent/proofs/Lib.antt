@@ -1,0 +1,3 @@
+pub mod Reports
+pub mod OneAnswer
+pub mod PoleList
