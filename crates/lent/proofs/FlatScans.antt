@@ -62,7 +62,7 @@ module _ (s : List ℕ) {c : CurveRecord} (ec : read-curve s ≡ taken c) where
       go (no n) = subst Small (sym (scan-kept s t a .1 n)) h
       go (yes e) =
           let d = scan-done s ec t a e in
-          let v = accepts-laws c (accepts s ec) .sum-closed (d .x) (d .y) (resume-valid c t (h .same) (d .t-is)) (divisor-valid c 1 true a 0 (d .a-is)) in
+          let v = accepts-laws c (accepts s ec) .sum-closed (d .x) (d .y) (resume-valid c t (d .t-is)) (divisor-valid c 1 true a 0 (d .a-is)) in
           subst (λ (w : Scanned). Small (w .total)) (sym (d .is)) (record {
             same = length-numbers (c .p) (sum (curve c) (d .x) (d .y) .v) ∙ v .fits ∙ sym (length-numbers (c .p) (sum (curve c) (d .x) (d .y) .u));
             few = omega (arith, length-numbers (c .p) (sum (curve c) (d .x) (d .y) .u), v .small, accepts s ec .greatest);
