@@ -143,11 +143,13 @@ unfolding below? elements on-curve?
 resume c t =
     let d : PairOf c = record { u = elements (c .p) (t .u); v = elements (c .p) (t .v) } in
     choose (leb (length (t .u)) (c .g))
+    (choose (eqb (length (t .v)) (length (t .u)))
     (choose (both (below? (c .p) (t .u)) (below? (c .p) (t .v)))
     (choose (on-curve? (curve c) d)
     (choose (leb (t .count) most)
     (choose (ltb (t .count) most) (taken d)
     (refused 14 0))
+    (refused 15 0))
     (refused 15 0))
     (refused 15 0))
     (refused 15 0))

@@ -93,11 +93,13 @@ module _ (c : CurveRecord) where
       let no : (m : ℕ) → (8 ≤ m → m ≤ 11 → ⊥) → Placed {A = PairOf c} None (refused m 0) = nowhere None in
       let d : PairOf c = made-of c (t .u) (t .v) in
       either-way None (leb (length (t .u)) (c .g)) _ _
+      (either-way None (eqb (length (t .v)) (length (t .u))) _ _
       (either-way None (both (below? (c .p) (t .u)) (below? (c .p) (t .v))) _ _
       (either-way None (on-curve? (curve c) d) _ _
       (either-way None (leb (t .count) most) _ _
       (either-way None (ltb (t .count) most) _ _ (all-taken None d)
       (no 14 (λ l u. omega arith)))
+      (no 15 (λ l u. omega arith)))
       (no 15 (λ l u. omega arith)))
       (no 15 (λ l u. omega arith)))
       (no 15 (λ l u. omega arith)))
