@@ -5,9 +5,9 @@ use mathlib.Core.Path.{_≡_, refl, _∙_, ap}
 use lib.ListN.{length, take, getD}
 use lib.Seq.{sets}
 use Rattle.rules.specs.Bytes.{all-bytes, bytes64}
-use Rattle.records.proofs.Writing.{length-sets, write-more}
-use Rattle.records.proofs.write_words.Statement.{statement}
-use Rattle.records.proofs.write_words.Tie as tie
+use Rattle.words.proofs.Writing.{length-sets, write-more}
+use Rattle.words.proofs.write_words.Statement.{statement}
+use Rattle.words.proofs.write_words.Tie as tie
 
 abbrev Inv-loop : tie.InvT-loop
 Inv-loop out₀ a n x k₀ out k = (k ≤ n) × (out ≡ sets out₀ a (all-bytes (take k x)))

@@ -4,11 +4,11 @@ use mathlib.Core.Path.{_∙_, ap}
 use lib.ListN.{length, length-set}
 use Rattle.divisor.specs.Divisors.{weightOf}
 use Rattle.divisor.proofs.Laws.{weight-le}
-use Rattle.records.proofs.Writing.{length-sets}
-use Rattle.records.proofs.Written.{divisor-written}
+use Rattle.words.proofs.Writing.{length-sets}
+use Rattle.writes.proofs.Written.{divisor-written}
 use borrow.Author.Needs.{needs}
-use Rattle.records.proofs.write_divisor.Statement.{statement}
-use Rattle.records.proofs.write_divisor.Tie as tie
+use Rattle.writes.proofs.write_divisor.Statement.{statement}
+use Rattle.writes.proofs.write_divisor.Tie as tie
 
 weight-requires : tie.Need-weight-requires
 weight-requires c κs = search needs

@@ -21,7 +21,7 @@ use Rattle.divisor.specs.declared.Divisor.{Divisor}
 use Rattle.divisor.specs.declared.Divisor.the-variants.{Neutral, One, Two, Three}
 use Rattle.divisor.specs.Divisors.{pair}
 use Rattle.curve.specs.declared.Curve.{Curve}
-use Rattle.records.specs.Write.{NumbersOf, CurveNumbersOf}
+use Rattle.writes.specs.Write.{NumbersOf, CurveNumbersOf}
 
 module _ (m : Modulus) where
   abbrev nm : Residue → ℕ

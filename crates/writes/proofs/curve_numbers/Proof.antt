@@ -1,9 +1,9 @@
 use native.Mathlib.Omega.{arith}
 use borrow.Author.Needs.{needs}
 use Prim.Native.Nat.{_-_}
-use Rattle.records.proofs.Numbers.{Listing, listing-begin, listing-turn, listing-end}
-use Rattle.records.proofs.curve_numbers.Statement.{statement}
-use Rattle.records.proofs.curve_numbers.Tie as tie
+use Rattle.writes.proofs.Numbers.{Listing, listing-begin, listing-turn, listing-end}
+use Rattle.writes.proofs.curve_numbers.Statement.{statement}
+use Rattle.writes.proofs.curve_numbers.Tie as tie
 
 abbrev Inv-loop : tie.InvT-loop
 Inv-loop m f g n x₀ k₀ x k = Listing (record { m = m; g = g; f = f }) x k

@@ -1,10 +1,10 @@
 use mathlib.Core.Path.{subst}
 use Rattle.divisor.specs.declared.Divisor.{Divisor}
 use Rattle.divisor.specs.Divisors.{Held}
-use Rattle.records.proofs.Numbers.{none, one, two, three}
+use Rattle.writes.proofs.Numbers.{none, one, two, three}
 use borrow.Author.Needs.{needs}
-use Rattle.records.proofs.numbers_of.Statement.{statement}
-use Rattle.records.proofs.numbers_of.Tie as tie
+use Rattle.writes.proofs.numbers_of.Statement.{statement}
+use Rattle.writes.proofs.numbers_of.Tie as tie
 
 enum-told : tie.Need-enum-told
 enum-told c = search needs

@@ -1,7 +1,7 @@
 use Rattle.rules.specs.Bytes.{word64}
 use borrow.Author.Needs.{needs}
-use Rattle.records.proofs.read64.Statement.{statement}
-use Rattle.records.proofs.read64.Tie as tie
+use Rattle.words.proofs.read64.Statement.{statement}
+use Rattle.words.proofs.read64.Tie as tie
 
 read32-requires : tie.Need-read32-requires
 read32-requires c κs = search needs

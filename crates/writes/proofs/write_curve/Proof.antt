@@ -1,11 +1,11 @@
 use native.Mathlib.Omega.{arith}
 use mathlib.Core.Path.{_∙_, ap}
 use lib.ListN.{length, length-set}
-use Rattle.records.proofs.Writing.{length-sets}
-use Rattle.records.proofs.Written.{curve-written}
+use Rattle.words.proofs.Writing.{length-sets}
+use Rattle.writes.proofs.Written.{curve-written}
 use borrow.Author.Needs.{needs}
-use Rattle.records.proofs.write_curve.Statement.{statement}
-use Rattle.records.proofs.write_curve.Tie as tie
+use Rattle.writes.proofs.write_curve.Statement.{statement}
+use Rattle.writes.proofs.write_curve.Tie as tie
 
 curve-numbers-requires : tie.Need-curve-numbers-requires
 curve-numbers-requires c κs = search needs

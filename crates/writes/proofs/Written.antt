@@ -14,9 +14,9 @@ use Rattle.divisor.specs.Divisors.{weightOf, us, vs, pair}
 use Rattle.divisor.proofs.Laws.{length-us, length-vs, length-elements, weight-le}
 use Rattle.curve.specs.declared.Curve.{Curve}
 use Rattle.curve.specs.Curves.{Sound}
 use Rattle.records.specs.Read.{recordOf}
-use Rattle.records.specs.Write.{NumbersOf, CurveNumbersOf}
-use Rattle.records.proofs.Writing.{all-append}
+use Rattle.writes.specs.Write.{NumbersOf, CurveNumbersOf}
+use Rattle.words.proofs.Writing.{all-append}
 
 pub weight-is : (m : Modulus) (d : Divisor) → length (pair m d .u) ≡ weightOf d
 unfolding pair

@@ -3,8 +3,8 @@ use Rattle.rules.specs.Bytes.{bytes64}
 use native.Mathlib.Numerals.{towards-suc}
 use lib.ListN.{length-set}
 use borrow.Author.Needs.{needs}
-use Rattle.records.proofs.write64.Statement.{statement}
-use Rattle.records.proofs.write64.Tie as tie
+use Rattle.words.proofs.write64.Statement.{statement}
+use Rattle.words.proofs.write64.Tie as tie
 
 cast-out : tie.Need-cast-out
 cast-out c = search needs
