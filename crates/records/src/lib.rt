@@ -312,7 +312,7 @@ fn write_words(out: &mut [u8], a: usize, x: [u64; 8], n: usize)
 }
 
 // The numbers of a divisor's coefficients, those of u first.
-fn numbers_of(d: Divisor, m: Modulus) -> [u64; 8]
+pub fn numbers_of(d: Divisor, m: Modulus) -> [u64; 8]
     requires { ⌜ Held m d ⌝ }
     ensures { λ r. ⌜ NumbersOf m d r ⌝ }
 {
