@@ -1,8 +1,15 @@
--- Document 01, "The pole's list": the digits of the program's lines. A character is its byte: 48 is `0`, 97 is `a`.
+-- Document 01, "The pole's list": the letters and digits of the program's lines. A character is its byte: 48 is `0`, 97 is `a`.
 use Prim.Native.Nat.{ℕ, zero, suc, _+_, _/_, _%_}
+use Prim.Native.Char.{code}
+use Prim.Native.String.{String, [] as end, _∷_ as _then_}
 use mathlib.Core.List.{List, [], _∷_, _++_}
 use mathlib.Core.Bool.{true, false, cond}
 use lib.Dec.{ltb}
+
+-- the bytes of a quoted text
+abbrev pub letters : String → List ℕ
+letters end = []
+letters (c then s) = code c ∷ letters s
 
 -- 0 to 9, then lower-case a to f
 unfoldable pub digit : ℕ → ℕ

@@ -11,8 +11,8 @@ use Rattle.algebra.proofs.zmod.Zmod.{zmod}
 use Rattle.rules.specs.Pair.{Pair}
 use Rattle.rules.specs.Lists.{Repeat}
 use Rattle.rules.specs.Records.{choose, numbers}
-use Rattle.digits.specs.Digits.{decimal, hex}
-use Rattle.lines.specs.Text.{none-word, two, places, spaced, count-line, repeat-line, total-line, refused-line}
+use Rattle.digits.specs.Digits.{letters, decimal, hex}
+use Rattle.lines.specs.Text.{two, places, spaced, count-line, repeat-line, total-line, refused-line}
 use Rattle.digits.proofs.Decimals.{length-hex, Word, decimal-short}
 
 -- ---- digits
@@ -38,7 +38,7 @@ places-short : (i j : ℕ) → Word i → Word j → length (places i j) ≤ 41
 unfolding places
 places-short i j h k = go (eqb i 0)
   where
-    go : (t : Bool) → length (choose t none-word (two i j)) ≤ 41
+    go : (t : Bool) → length (choose t (letters "none") (two i j)) ≤ 41
     go true = omega arith
     go false = two-short i j h k
 

@@ -1,3 +1,4 @@
 pub mod Lengths
 pub mod Lines
+pub mod Shown
 pub mod Tallies

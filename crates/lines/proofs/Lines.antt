@@ -13,20 +13,20 @@ use Rattle.divisor.specs.declared.Divisor.{Divisor}
 use Rattle.divisor.specs.Divisors.{weightOf, pair}
 use Rattle.records.specs.Write.{NumbersOf}
 use Rattle.records.proofs.Written.{weight-is}
-use Rattle.digits.specs.Digits.{hex}
-use Rattle.lines.specs.Text.{none-word, total-word, two, places, spaced, total-line}
+use Rattle.digits.specs.Digits.{letters, hex}
+use Rattle.lines.specs.Text.{two, places, spaced, total-line}
 use Rattle.digits.specs.Put.{PutAt, Room}
 use Rattle.digits.proofs.Decimals.{length-hex}
 use Rattle.lines.proofs.Lengths.{length-spaced}
 use Rattle.digits.proofs.Putting.{put-as, put-then, room-as, room-first, room-next}
 
-pub places-none : (i j : ℕ) → i ≡ 0 → places i j ≡ none-word
+pub places-none : (i j : ℕ) → i ≡ 0 → places i j ≡ (letters "none")
 unfolding places
-places-none i j h = ap (λ t. choose t none-word (two i j)) (eq-eqb i 0 h)
+places-none i j h = ap (λ t. choose t (letters "none") (two i j)) (eq-eqb i 0 h)
 
 pub places-some : (i j : ℕ) → (i ≡ 0 → ⊥) → places i j ≡ two i j
 unfolding places
-places-some i j h = ap (λ t. choose t none-word (two i j)) (ne-eqb i 0 h)
+places-some i j h = ap (λ t. choose t (letters "none") (two i j)) (ne-eqb i 0 h)
 
 -- ---- numbers, each after a space
 spaced-append : (l m : List ℕ) → spaced (l ++ m) ≡ spaced l ++ spaced m
@@ -56,15 +56,15 @@ module _ (m : Modulus) (d : Divisor) (x : List ℕ) (w : ℕ) (e : w ≡ weightO
   abbrev behind : List ℕ
   behind = hex 2 w ++ (spaced (take (2 * w) x) ++ (10 ∷ []))
 
-  total-is : total-word ++ behind ≡ total-line (m .p) (pair m d)
+  total-is : (letters "total ") ++ behind ≡ total-line (m .p) (pair m d)
   unfolding total-line
-  total-is = ap₂ (λ (n : ℕ) (l : List ℕ). total-word ++ (hex 2 n ++ (spaced l ++ (10 ∷ [])))) (e ∙ sym (weight-is m d)) (ap (λ (n : ℕ). take (2 * n) x) e ∙ h .is)
+  total-is = ap₂ (λ (n : ℕ) (l : List ℕ). (letters "total ") ++ (hex 2 n ++ (spaced l ++ (10 ∷ [])))) (e ∙ sym (weight-is m d)) (ap (λ (n : ℕ). take (2 * n) x) e ∙ h .is)
 
   module _ (a : ℕ) (room : Room a (total-line (m .p) (pair m d))) where
-    pub word-room : Room a total-word
-    word-room = room-first a total-word behind (room-as a (sym total-is) room)
+    pub word-room : Room a (letters "total ")
+    word-room = room-first a (letters "total ") behind (room-as a (sym total-is) room)
 
-    module _ {out o : List ℕ} {b : ℕ} (k : PutAt out a total-word o b) where
+    module _ {out o : List ℕ} {b : ℕ} (k : PutAt out a (letters "total ") o b) where
       pub behind-room : Room b behind
       behind-room = room-next k behind (room-as a (sym total-is) room)
 

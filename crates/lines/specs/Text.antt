@@ -1,5 +1,4 @@
--- Document 01, "The pole's list": what the program prints, every byte of it, from what was read of the two files. A line is bytes that end in
--- one line feed, 10; 32 is a space.
+-- Document 01, "The pole's list": what the program prints, every byte of it, from what was read of the two files. Each line ends in one line feed.
 use Prim.Native.Nat.{ℕ}
 use mathlib.Core.List.{List, [], _∷_, _++_}
 use lib.Dec.{eqb, ltb}
@@ -10,57 +9,41 @@ use Rattle.rules.specs.Sum.{sum}
 use Rattle.rules.specs.Records.{choose, curve, numbers, read-curve}
 use Rattle.rules.specs.Lists.{Repeat, batch}
 use Rattle.rules.specs.Calls.{check, repeat-call}
-use Rattle.digits.specs.Digits.{decimal, hex}
-
--- "count ", "repeat ", "none", "total ", "refused "
-abbrev pub count-word : List ℕ
-count-word = 99 ∷ 111 ∷ 117 ∷ 110 ∷ 116 ∷ 32 ∷ []
-
-abbrev pub repeat-word : List ℕ
-repeat-word = 114 ∷ 101 ∷ 112 ∷ 101 ∷ 97 ∷ 116 ∷ 32 ∷ []
-
-abbrev pub none-word : List ℕ
-none-word = 110 ∷ 111 ∷ 110 ∷ 101 ∷ []
-
-abbrev pub total-word : List ℕ
-total-word = 116 ∷ 111 ∷ 116 ∷ 97 ∷ 108 ∷ 32 ∷ []
-
-abbrev pub refused-word : List ℕ
-refused-word = 114 ∷ 101 ∷ 102 ∷ 117 ∷ 115 ∷ 101 ∷ 100 ∷ 32 ∷ []
+use Rattle.digits.specs.Digits.{letters, decimal, hex}
 
 -- two numbers in decimal, one space between them
 unfoldable pub two : ℕ → ℕ → List ℕ
 unfolding decimal
-two a b = decimal a ++ (32 ∷ decimal b)
+two a b = decimal a ++ (letters " " ++ decimal b)
 
 unfoldable pub count-line : ℕ → List ℕ
 unfolding decimal
-count-line n = count-word ++ (decimal n ++ (10 ∷ []))
+count-line n = letters "count " ++ (decimal n ++ letters "\n")
 
 -- no repeat is 0 and 0
 unfoldable pub places : ℕ → ℕ → List ℕ
 unfolding two
-places i j = choose (eqb i 0) none-word (two i j)
+places i j = choose (eqb i 0) (letters "none") (two i j)
 
 unfoldable pub repeat-line : Repeat → List ℕ
 unfolding places
-repeat-line r = repeat-word ++ (places (r .first) (r .second) ++ (10 ∷ []))
+repeat-line r = letters "repeat " ++ (places (r .first) (r .second) ++ letters "\n")
 
 -- each 8-byte number: one space and 16 digits
 unfoldable pub spaced : List ℕ → List ℕ
 unfolding hex
 spaced [] = []
-spaced (x ∷ l) = 32 ∷ (hex 16 x ++ spaced l)
+spaced (x ∷ l) = letters " " ++ (hex 16 x ++ spaced l)
 
 -- the weight in two digits, then u_0 to u_(w-1), then v_0 to v_(w-1)
 unfoldable pub total-line : (p : ℕ) → Pair (modulo p) → List ℕ
 unfolding hex spaced numbers
-total-line p d = total-word ++ (hex 2 (length (d .u)) ++ (spaced (numbers p (d .u) ++ numbers p (d .v)) ++ (10 ∷ [])))
+total-line p d = letters "total " ++ (hex 2 (length (d .u)) ++ (spaced (numbers p (d .u) ++ numbers p (d .v)) ++ letters "\n"))
 
 -- number and place
 unfoldable pub refused-line : ℕ → ℕ → List ℕ
 unfolding two
-refused-line n k = refused-word ++ (two n k ++ (10 ∷ []))
+refused-line n k = letters "refused " ++ (two n k ++ letters "\n")
 
 -- of the bytes of a curve and of a batch: three lines, or only the line of what refuses them
 unfoldable pub text-of : List ℕ → List ℕ → List ℕ
