@@ -7,7 +7,7 @@ use native.Mathlib.Omega.{arith}
 use borrow.Author.Tests.{lt-ltb, le-ltb}
 use lib.Dec.{ltb}
 use lib.ListN.{length, take, drop, length-append}
-use lib.Seq.{sets-eq, take-at}
+use lib.Seq.{length-sets, sets-eq, take-at}
 use Rattle.rules.specs.Pair.{neutral}
 use Rattle.rules.specs.Sum.{sum}
 use Rattle.rules.specs.Records.{Checked, CurveRecord, PairOf, choose, curve}
@@ -42,6 +42,9 @@ printed h k = record { all = omega (arith, k .next); front = k .put; room = omeg
 -- what stands at the front is the text
 pub front-is : {out text o : List ℕ} {r : ℕ} → length out ≡ 256 → Printed out text o r → take r o ≡ text
 front-is {out} {text} {o} {r} e h = ap₂ take (h .all) (h .front ∙ sets-eq text out 0 (omega (arith, h .all, h .room))) ∙ take-at text (drop (0 + length text) out) (length text) refl
+
+pub printed-within : {out text o : List ℕ} {r : ℕ} → length out ≡ 256 → Printed out text o r → r ≤ length o
+printed-within {out} {text} {o} {r} e h = omega (arith, h .room, ap length (h .front) ∙ length-sets out 0 text)
 
 pub printed-as : {out x y o : List ℕ} {r : ℕ} → x ≡ y → Printed out x o r → Printed out y o r
 printed-as {out} {x} {y} {o} {r} e h = subst (λ (t : List ℕ). Printed out t o r) e h
