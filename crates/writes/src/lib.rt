@@ -13,7 +13,7 @@ use divisor::Divisor;
 use field::Modulus;
 
 // The numbers of a divisor's coefficients, those of u first.
-fn numbers_of(d: Divisor, m: Modulus) -> [u64; 8]
+pub fn numbers_of(d: Divisor, m: Modulus) -> [u64; 8]
     requires { ⌜ Held m d ⌝ }
     ensures { λ r. ⌜ NumbersOf m d r ⌝ }
 {

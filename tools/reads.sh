@@ -1,0 +1,54 @@
+#!/usr/bin/env bash
+# bash tools/reads.sh: bin/tally on files that no folder of data can hold: one that comes in pieces, one that never ends, a dangling link, one without
+# permission. What must be printed is case P, 16 or 17. Exit 1 where something else is.
+set -eu
+home=$(cd "$(dirname "$0")/.." && pwd -P)
+room=$(mktemp -d)
+trap 'rm -rf "$room"' EXIT
+wrong=0
+
+held() { # NAME EXPECTED
+    if [ "$("$home/bin/tally" "$room/$1" 2>/dev/null)" = "$2" ]; then
+        echo "$1: as it must be"
+    else
+        echo "$1: WRONG"
+        wrong=1
+    fi
+}
+
+folder() { # NAME: with case P's curve
+    mkdir "$room/$1"
+    cp "$home/demo/case-p/curve" "$room/$1/curve"
+}
+
+case_p=$(cat "$home/crates/tally/stdout")
+
+folder in-pieces
+mkfifo "$room/in-pieces/batch"
+(
+    for at in 0 17 18 30; do
+        next=$(case $at in 0) echo 17 ;; 17) echo 1 ;; 18) echo 12 ;; *) echo 100 ;; esac)
+        tail -c +$((at + 1)) "$home/demo/case-p/batch" | head -c "$next"
+        sleep 0.3
+    done >"$room/in-pieces/batch"
+) &
+held in-pieces "$case_p"
+wait
+
+folder endless
+ln -s /dev/zero "$room/endless/batch"
+held endless "refused 16 0"
+
+folder dangling
+ln -s nowhere "$room/dangling/batch"
+held dangling "refused 17 0"
+
+folder no-permission
+cp "$home/demo/case-p/batch" "$room/no-permission/batch"
+chmod 000 "$room/no-permission/batch"
+if [ "$(id -u)" = 0 ]; then
+    echo "no-permission: not tried, since root reads every file"
+else
+    held no-permission "refused 17 0"
+fi
+exit "$wrong"

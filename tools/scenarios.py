@@ -1,0 +1,160 @@
+#!/usr/bin/env python3
+"""scenarios.py: makes the folders, the arguments and the expected text of the program `scenarios`: a folder for each case of the
+program `tally`, with its `curve` and its `batch` or without, and what the program prints for each after a line with the two paths.
+
+    python3 tools/scenarios.py             writes crates/scenarios/data, args and stdout
+    python3 tools/scenarios.py --check     writes nothing: all of it must be what it would write
+
+What a folder prints is reference.py's answer for that folder, read from the disk. Where document 01 gives the number or the lines, they
+are written out here too and must agree.
+"""
+import os
+import shutil
+import sys
+import tempfile
+
+import reference
+from frames import curve_record, divisor_record
+from streets import CASE_P, CURVE_A, CURVE_B, CURVE_L, CURVE_M, LARGEST, NEUTRAL, X6_3, X_1, X_2, X_6, meters, points
+
+MISSING, DIRECTORY = None, "directory"
+HOME = os.path.normpath(os.path.join(os.path.dirname(os.path.abspath(__file__)), "..", "crates", "scenarios"))
+
+scenarios = []  # name, curve, batch, what the document says of it: a beginning of the text
+
+
+def scenario(name, curve, batch, says):
+    assert name not in [other[0] for other in scenarios] and len(name) <= 40
+    scenarios.append((name, curve, batch, says))
+
+
+def refused(name, curve, batch, number, place=0):
+    scenario(name, curve, batch, "refused %d %d\n" % (number, place))
+
+
+def put_files():
+    long = bytes(65537)
+    refused("no-curve", MISSING, CASE_P, 17)
+    refused("no-batch", CURVE_A, MISSING, 17)
+    refused("no-files", MISSING, MISSING, 17)
+    refused("curve-is-a-directory", DIRECTORY, CASE_P, 17)
+    refused("batch-is-a-directory", CURVE_A, DIRECTORY, 17)
+    refused("curve-too-long", CURVE_A + long[len(CURVE_A) :], CASE_P, 16)
+    refused("batch-too-long", CURVE_A, long, 16)
+    refused("curve-too-long-no-batch", long, MISSING, 16)
+    refused("no-curve-batch-too-long", MISSING, long, 17)
+    refused("wrong-curve-no-batch", b"", MISSING, 17)
+    refused("wrong-curve-batch-too-long", b"", long, 16)
+    refused("curve-of-65536", CURVE_A + long[len(CURVE_A) : -1], CASE_P, 1)
+    refused("batch-of-65536-neutrals", CURVE_A, long[:-1], 14)
+    full = list(zip(range(3840), points(CURVE_L)))
+    whole = b"".join(record for _, record in full) + NEUTRAL * 256
+    assert len(whole) == 65536
+    scenario("batch-of-65536-and-4096", CURVE_L, whole, "count 4096\nrepeat 3841 3842\ntotal ")
+    refused("empty-curve", b"", CASE_P, 1)
+    scenario("empty-batch", CURVE_A, b"", "count 0\nrepeat none\ntotal 00\n")
+
+
+def put_curves():
+    f = [1, 0, 0, 0, 0]
+    refused("curve-of-5", CURVE_A[:5], CASE_P, 1)
+    refused("curve-cut", CURVE_A[:-1], CASE_P, 1)
+    refused("curve-with-one-more", CURVE_A + b"\0", CASE_P, 1)
+    refused("curve-of-the-other-length", CURVE_B[:54], CASE_P, 1)
+    refused("wrong-mark", curve_record(2, 7, f, mark=b"HJD"), CASE_P, 2)
+    refused("wrong-version", curve_record(2, 7, f, version=2), CASE_P, 3)
+    refused("genus-4", curve_record(4, 7, f), CASE_P, 4)
+    refused("p-9", curve_record(2, 9, f), CASE_P, 5)
+    refused("p-2", curve_record(2, 2, f), CASE_P, 5)
+    refused("p-past-the-limit", curve_record(2, 2147483648, f), CASE_P, 5)
+    refused("f-of-p", curve_record(2, 7, [7, 0, 0, 0, 0]), CASE_P, 6)
+    refused("repeated-factor", curve_record(2, 5, f), CASE_P, 7)
+    refused("wrong-curve-wrong-batch", curve_record(2, 5, f), b"\x09", 7)
+
+
+def put_batches():
+    refused("cut-record", CURVE_A, CASE_P[:-1], 8, 3)
+    refused("weight-above-g", CURVE_A, X_1 + b"\x03", 9, 2)
+    refused("coefficient-7", CURVE_A, divisor_record([7], [1]), 10, 1)
+    refused("not-on-the-curve", CURVE_A, X_1 + X6_3 + X_2, 11, 3)
+    refused("first-fault-wins", CURVE_A, X_2 + b"\x09", 11, 1)
+    refused("4097-neutrals", CURVE_A, NEUTRAL * 4097, 14)
+    refused("4096-and-a-wrong-byte", CURVE_A, NEUTRAL * 4096 + b"\xff", 14)
+    refused("fault-at-4096", CURVE_A, NEUTRAL * 4095 + b"\xff", 9, 4096)
+    scenario("4096-neutrals", CURVE_A, NEUTRAL * 4096, "count 4096\nrepeat 1 2\ntotal 00\n")
+    scenario("one-neutral", CURVE_A, NEUTRAL, "count 1\nrepeat none\ntotal 00\n")
+    scenario("neutral-total", CURVE_A, X_1 + X_6, "count 2\nrepeat none\ntotal 00\n")
+    scenario("least-j", CURVE_A, X_1 + X6_3 + NEUTRAL + X6_3 + X_1, "count 5\nrepeat 2 4\n")
+    scenario("least-i", CURVE_A, X6_3 + X_1 + X_1 + X_1, "count 4\nrepeat 2 3\n")
+    scenario("weight-1", CURVE_A, X_1, "count 1\nrepeat none\ntotal 01 " + "0" * 16 + " " + "0" * 15 + "1\n")
+
+
+def put_streets():
+    for name, curve, weight in (("two", CURVE_L, 2), ("three", CURVE_M, 3)):
+        street = meters(curve, 100, weight)
+        scenario("street-of-" + name, curve, b"".join(street), "count 100\nrepeat none\ntotal 0%d " % weight)
+        scenario("street-of-%s-with-a-repeat" % name, curve, b"".join(street + street[41:42]), "count 101\nrepeat 42 101\n")
+
+
+def put(folder, name, content):
+    path = os.path.join(folder, name)
+    if content is DIRECTORY:
+        os.mkdir(path)
+        content, path = b"", os.path.join(path, "nothing")
+    if content is not MISSING:
+        with open(path, "wb") as file:
+            file.write(content)
+
+
+def write(home):
+    """All of it below an empty folder."""
+    text = ""
+    for name, curve, batch, says in scenarios:
+        folder = os.path.join(home, "data", name)
+        os.makedirs(folder)
+        put(folder, "curve", curve)
+        put(folder, "batch", batch)
+        if curve is MISSING and batch is MISSING:
+            put(folder, "nothing", b"")
+        printed = reference.program_text(*(reference.file_content(os.path.join(folder, part)) for part in ("curve", "batch")))
+        if not printed.startswith(says):
+            raise AssertionError("%s: %r, and document 01 has %r" % (name, printed, says))
+        text += "%s/curve %s/batch\n" % (name, name) + printed
+    args = "".join("%s/curve\n%s/batch\n" % (name, name) for name, _, _, _ in scenarios)
+    for name, content in (("args", args), ("stdout", text)):
+        with open(os.path.join(home, name), "w") as file:
+            file.write(content)
+
+
+def content_of(home):
+    found = {}
+    for name in ("args", "stdout"):
+        with open(os.path.join(home, name), "rb") as file:
+            found[name] = file.read()
+    for folder, _, files in os.walk(os.path.join(home, "data")):
+        for name in files:
+            path = os.path.join(folder, name)
+            with open(path, "rb") as file:
+                found[os.path.relpath(path, home)] = file.read()
+    return found
+
+
+def main():
+    p_lines = "count 3\nrepeat 1 3\ntotal 02 %016x %016x %016x %016x\n" % (4, 4, 0, 1)
+    scenario("case-p", CURVE_A, CASE_P, p_lines)
+    for each in (put_files, put_curves, put_batches, put_streets):
+        each()
+    with tempfile.TemporaryDirectory() as fresh:
+        write(fresh)
+        if sys.argv[1:] == ["--check"]:
+            wrong = content_of(fresh) != content_of(HOME)
+            print("crates/scenarios isn't what it should be" if wrong else "%d scenarios, as they should be" % len(scenarios))
+            return int(wrong)
+        shutil.rmtree(os.path.join(HOME, "data"), ignore_errors=True)
+        shutil.copytree(fresh, HOME, dirs_exist_ok=True)
+    print("%d scenarios" % len(scenarios))
+    return 0
+
+
+if __name__ == "__main__":
+    sys.exit(main())
