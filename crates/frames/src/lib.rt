@@ -1,6 +1,50 @@
 // Reads a file of frames and prints the line of each: all of the programs `vectors` and `corners` but the file's name. tools/README.md
 // has the form of both.
+ghost use Prim.Native.Nat.{_<_};
 use libc::STDOUT_FILENO;
+
+// What each byte of an output holds before a call, and the longest output.
+const GUARD: u8 = 165;
+
+const MOST_OUTPUT: usize = 128;
+
+fn size(head: &[u8], at: usize) -> usize
+    ensures { λ r. ⌜ r < 4294967296 ⌝ }
+{
+    replay::word(head, at) as usize
+}
+
+// How many bytes follow a frame's head of 21.
+fn body_length(head: &[u8]) -> usize {
+    size(head, 1) + size(head, 5) + size(head, 9) + size(head, 17)
+}
+
+// A frame's line at the front of the text, from its head and all that follows it; answers the line's length, 0 where the frame is malformed.
+fn frame(head: &[u8], body: &[u8], text: &mut [u8]) -> usize {
+    let a = size(head, 1);
+    let b = a + size(head, 5);
+    let c = b + size(head, 9);
+    let n = size(head, 13);
+    if head.len() == 0 {
+        return 0;
+    }
+    if body.len() < c {
+        return 0;
+    }
+    if MOST_OUTPUT < n {
+        return 0;
+    }
+    let mut out = [GUARD; MOST_OUTPUT];
+    replay::line(
+        head[0],
+        &body[0..a],
+        &body[a..b],
+        &body[b..c],
+        &mut out[0..n],
+        &body[c..],
+        text,
+    )
+}
 
 // A line that no expected text has, so that the comparison fails.
 fn malformed() -> bool {
@@ -28,14 +72,14 @@ fn next(fd: i32, body: &mut [u8], text: &mut [u8]) -> bool {
     if got < 21 {
         return malformed();
     }
-    let n = replay::body_length(&head);
+    let n = body_length(&head);
     if body.len() < n {
         return malformed();
     }
     if io::read_full(fd, &mut body[0..n]) < n {
         return malformed();
     }
-    let end = replay::frame(&head, &body[0..n], text);
+    let end = frame(&head, &body[0..n], text);
     print(text, end)
 }
 

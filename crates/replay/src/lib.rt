@@ -1,5 +1,5 @@
-// One frame of a data file, run through the exported calls, and its line of text: what tools/README.md says of both. For tests: the
-// contracts say no more than safety asks. Text that has no room is left out; no line that the tools expect is that long.
+// A frame's call, run through the exported calls, and its line of text: what tools/README.md says of both. For tests: the contracts
+// say no more than safety asks.
 ghost use Prim.Native.Nat.{_<_};
 use flats::YubiRunning;
 use flats::YubiScanned;
@@ -8,11 +8,6 @@ use tablet::YubiMultiple;
 use tablet::YubiRepeat;
 use tablet::YubiTotal;
 
-// What each byte of an output holds before a call, and the longest output.
-const GUARD: u8 = 165;
-
-const MOST_OUTPUT: usize = 128;
-
 fn wide(x: u8) -> u64
     ensures { λ r. ⌜ r < 256 ⌝ }
 {
@@ -20,7 +15,7 @@ fn wide(x: u8) -> u64
 }
 
 // Four bytes, big-endian; 0 past the end.
-fn word(s: &[u8], at: usize) -> u64
+pub fn word(s: &[u8], at: usize) -> u64
     ensures { λ r. ⌜ r < 4294967296 ⌝ }
 {
     if s.len() < 4 {
@@ -30,12 +25,6 @@ fn word(s: &[u8], at: usize) -> u64
         return 0;
     }
     ((wide(s[at]) * 256 + wide(s[at + 1])) * 256 + wide(s[at + 2])) * 256 + wide(s[at + 3])
-}
-
-fn size(s: &[u8], at: usize) -> usize
-    ensures { λ r. ⌜ r < 4294967296 ⌝ }
-{
-    word(s, at) as usize
 }
 
 // The k-th of eight bytes each.
@@ -120,8 +109,8 @@ fn write(operation: u8, curve: &[u8], first: &[u8], second: &[u8], out: &mut [u8
     }
 }
 
-// The frame's line at the front of the text; answers its length, 0 where there is no such operation.
-fn line(
+// The frame's line at the front of the text; answers its length, 0 where there is no such operation or a scan's total isn't 64 bytes.
+pub fn line(
     operation: u8,
     curve: &[u8],
     first: &[u8],
@@ -150,36 +139,4 @@ fn line(
         11 => scan(text, curve, first, total),
         _ => 0,
     }
-}
-
-// How many bytes follow a frame's head of 21.
-pub fn body_length(head: &[u8]) -> usize {
-    size(head, 1) + size(head, 5) + size(head, 9) + size(head, 17)
-}
-
-// A frame's line at the front of the text, from its head and all that follows it; answers the line's length, 0 where the frame is malformed.
-pub fn frame(head: &[u8], body: &[u8], text: &mut [u8]) -> usize {
-    let a = size(head, 1);
-    let b = a + size(head, 5);
-    let c = b + size(head, 9);
-    let n = size(head, 13);
-    if head.len() == 0 {
-        return 0;
-    }
-    if body.len() < c {
-        return 0;
-    }
-    if MOST_OUTPUT < n {
-        return 0;
-    }
-    let mut out = [GUARD; MOST_OUTPUT];
-    line(
-        head[0],
-        &body[0..a],
-        &body[a..b],
-        &body[b..c],
-        &mut out[0..n],
-        &body[c..],
-        text,
-    )
 }
