@@ -19,7 +19,8 @@
  * ARGUMENTS
  *   Bytes pass as a pointer and then a length. With length 0 any pointer but NULL will do; it isn't read. Each call checks
  *   its records itself, each time; no bytes are asked to be well formed.
- *   An output must not overlap any input of the same call. Inputs may overlap each other, or be the same.
+ *   An output must not overlap any input of the same call, nor must a running total that is lent. Inputs may overlap each
+ *   other, or be the same.
  *
  * ROOM THAT ALWAYS SUFFICES for an output
  *   a divisor  33 bytes for g = 2, 49 for g = 3 (YUBI_DIVISOR_ROOM)
@@ -33,7 +34,7 @@
  * ANSWERS
  *   Each call answers a number, a place and a length. On number 0 the result stands in the first `length` bytes of the
  *   output and the rest of the output keeps its bytes. On any other number no byte of an output changes, a running total
- *   comes back as it was given, and length, counts, first and second are 0. The place says which divisor record is at
+ *   comes back or stays as it was given, and length, counts, first and second are 0. The place says which divisor record is at
  *   fault, counted from 1, for the numbers 8 to 11 (1 where a call has one divisor); otherwise it is 0.
  *
  *   no.  given exactly when                                     what a crew should do
@@ -181,6 +182,10 @@ YubiRunning yubi_fresh_total(void);
  * total is the batch total of the records taken so far under the same curve. */
 YubiScanned yubi_scan(YubiRunning total, const uint8_t *curve, size_t curve_length, const uint8_t *record,
                       size_t record_length);
+
+/* The same scan into a running total that is lent, not NULL, and changed in place: 0 to 11, 14, 15. */
+YubiAnswer yubi_scan_lent(YubiRunning *total, const uint8_t *curve, size_t curve_length, const uint8_t *record,
+                          size_t record_length);
 
 #ifdef __cplusplus
 }

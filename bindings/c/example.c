@@ -70,10 +70,9 @@ int main(void)
     /* One by one. */
     YubiRunning t = yubi_fresh_total();
     for (int i = 0; i < RECORDS; i++) {
-        YubiScanned scanned = yubi_scan(t, curve, sizeof curve, batch + i * RECORD, RECORD);
+        YubiAnswer scanned = yubi_scan_lent(&t, curve, sizeof curve, batch + i * RECORD, RECORD);
         if (scanned.number != 0)
             return refused(scanned.number, scanned.place);
-        t = scanned.total;
     }
     if (t.count != total.count || t.weight != 2 || out[0] != 2 || t.u0 != number_at(out + 1)
         || t.u1 != number_at(out + 9) || t.v0 != number_at(out + 17) || t.v1 != number_at(out + 25) || t.u2 != 0

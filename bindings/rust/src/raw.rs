@@ -149,11 +149,18 @@ extern "C" {
         record: *const u8,
         record_length: usize,
     ) -> YubiScanned;
+    fn yubi_scan_lent(
+        total: *mut YubiRunning,
+        curve: *const u8,
+        curve_length: usize,
+        record: *const u8,
+        record_length: usize,
+    ) -> YubiAnswer;
 }
 
 // SAFETY, of every call below: the library reads its inputs and writes its output within the lengths given, keeps no
-// pointer, and has no condition on what the bytes hold. A slice's pointer is never null, an output is borrowed mutably and
-// so overlaps no input, and the structs are laid out as the header's.
+// pointer, and has no condition on what the bytes hold. A slice's pointer is never null, an output or a lent total is
+// borrowed mutably and so overlaps no input, and the structs are laid out as the header's.
 
 /// Checks a curve record.
 pub fn check_curve(curve: &[u8]) -> YubiAnswer {
@@ -230,9 +237,7 @@ pub fn scan(total: YubiRunning, curve: &[u8], record: &[u8]) -> YubiScanned {
     unsafe { yubi_scan(total, curve.as_ptr(), curve.len(), record.as_ptr(), record.len()) }
 }
 
-/// Adds a record to a running total, in place, over the call by value: a refused scan hands back the total it was given.
+/// Adds a record to a running total, in place; a refused scan leaves it as it was.
 pub fn scan_lent(total: &mut YubiRunning, curve: &[u8], record: &[u8]) -> YubiAnswer {
-    let scanned = scan(*total, curve, record);
-    *total = scanned.total;
-    YubiAnswer { number: scanned.number, place: scanned.place, length: scanned.length }
+    unsafe { yubi_scan_lent(total, curve.as_ptr(), curve.len(), record.as_ptr(), record.len()) }
 }

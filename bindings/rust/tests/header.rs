@@ -143,6 +143,7 @@ fn declarations_are_the_headers() {
         "yubi_rewrite_curve",
         "yubi_rewrite_divisor",
         "yubi_scan",
+        "yubi_scan_lent",
         "yubi_total_batch",
     ];
     assert_eq!(calls, wanted);
@@ -159,6 +160,7 @@ fn a_changed_declaration_shows() {
         ("const uint8_t *b,", "uint8_t *b,"),
         ("YubiTotal yubi_total_batch", "YubiAnswer yubi_total_batch"),
         ("yubi_scan(YubiRunning total,", "yubi_scan(YubiRunning *total,"),
+        ("yubi_scan_lent(YubiRunning *total,", "yubi_scan_lent(const YubiRunning *total,"),
         ("YubiRunning yubi_fresh_total(void);", ""),
         ("size_t scalar_length, ", ""),
         ("yubi_opposite", "yubi_negate"),

@@ -1,3 +1,4 @@
+-- polynomials as lists of coefficients, to calculate with: the operations, what they stand for, Euclid
 pub mod Ops
 pub mod Value
 pub mod Coefs

@@ -1,3 +1,4 @@
+-- the ring K[x]: series, bounds, degrees, division by a monic, the derivative, common factors
 pub mod Series
 pub mod Bound
 pub mod Poly

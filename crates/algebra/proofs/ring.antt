@@ -1,3 +1,4 @@
+-- commutative rings, the normaliser of their identities, fields, divisibility
 pub mod CRing
 pub mod Normal
 pub mod Quote

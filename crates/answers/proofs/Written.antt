@@ -19,8 +19,8 @@ use Rattle.field.specs.declared.Modulus.{Modulus}
 use Rattle.poly.specs.Polys.{pol}
 use Rattle.curve.specs.declared.Curve.{Curve}
 use Rattle.records.specs.Read.{recordOf}
-use Rattle.records.proofs.Writing.{length-all}
-use Rattle.records.proofs.Written.{weight-is, weight-is-v}
+use Rattle.words.proofs.Writing.{length-all}
+use Rattle.writes.proofs.Written.{weight-is, weight-is-v}
 use Rattle.answers.specs.declared.Answer.{Answer}
 use Rattle.answers.specs.declared.Answer.the-variants.{Done, Refused}
 use Rattle.answers.specs.Answers.{PutIs, Wrote}

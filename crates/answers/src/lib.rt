@@ -66,11 +66,11 @@ pub fn write_out(d: Divisor, m: Modulus, out: &mut [u8]) -> u64
     requires { ⌜ Held m d ⌝ }
     ensures { λ r. ⌜ PutIs (now (out .entry)) (divisor-bytes (m .p) (pair m d)) (now (out .exit)) r ⌝ }
 {
-    let n = records::record_length(d);
+    let n = writes::record_length(d);
     if out.len() < n {
         return 0;
     }
-    records::write_divisor(d, m, out);
+    writes::write_divisor(d, m, out);
     n as u64
 }
 
@@ -120,7 +120,7 @@ pub fn rewrite_curve(curve: &[u8], out: &mut [u8]) -> Answer
     if out.len() < n {
         return Answer::Refused(13, 0);
     }
-    records::write_curve(c, out);
+    writes::write_curve(c, out);
     Answer::Done(n as u64)
 }
 

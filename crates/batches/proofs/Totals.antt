@@ -14,7 +14,7 @@ use Rattle.divisor.specs.Divisors.{pair}
 use Rattle.divisor.proofs.Laws.{neutral-is}
 use Rattle.curve.specs.declared.Curve.{Curve}
 use Rattle.curve.specs.Curves.{curveOf, Sound, Holds, Gives}
-use Rattle.multiple.proofs.Folds.{neutral-holds}
+use Rattle.curve.proofs.Carry.{neutral-holds}
 use Rattle.records.specs.declared.DivisorRead.{DivisorRead}
 use Rattle.records.specs.declared.DivisorRead.the-variants.{Taken, Refused}
 use Rattle.records.specs.Read.{recordOf, DivisorIs}

@@ -1,4 +1,5 @@
--- The validity test: f - v² leaves nothing when divided by u just where u divides it. And f, held whole, is the rule's f.
+-- Validity: f - v² leaves nothing when divided by u just where u divides it; the neutral divisor is held and valid. And f, held whole, is the
+-- rule's f.
 use Prim.Native.Nat.{suc, _+_, _-_, _≤_, max}
 use mathlib.Core.Path.{_≡_, sym, ap, ap₂, _∙_, subst}
 use native.Mathlib.Omega.{arith}
@@ -9,21 +10,27 @@ use Rattle.algebra.proofs.poly.Term.{at}
 use Rattle.algebra.proofs.poly.Divide.{Division, remainder-unique}
 use Rattle.algebra.proofs.list.Coefs.{mon-coefs, length-coefs}
 use Rattle.rules.specs.Curve.{f}
-use Rattle.rules.specs.Pair.{u-of, f-v²}
+use Rattle.rules.specs.Pair.{Valid, u-of, f-v²}
 use Rattle.rules.proofs.cantor.Accepted.{Accepted, accepted-mod-p}
+use Rattle.rules.proofs.cantor.Pairs.{neutral-valid}
 use Rattle.field.specs.declared.Modulus.{Modulus}
+use Rattle.field.specs.Residues.{Good}
 use Rattle.poly.specs.declared.Poly.{Poly}
 use Rattle.poly.specs.Polys.{K, P, pol, Is}
 use Rattle.poly.specs.Contracts.{Divided as PolyDivided}
 use Rattle.poly.proofs.Division.{monic-of}
 use Rattle.poly.proofs.Lengths.{none-is, is-none}
 use Rattle.divisor.specs.declared.Divisor.{Divisor}
+use Rattle.divisor.specs.declared.Divisor.the-variants.{Neutral}
 use Rattle.divisor.specs.Divisors.{pair}
-use Rattle.divisor.proofs.Laws.{weight-le}
+use Rattle.divisor.proofs.Laws.{weight-le, neutral-held, neutral-is}
 use Rattle.cantor.specs.declared.Mumford.{Mumford}
 use Rattle.curve.specs.declared.Curve.{Curve}
 use Rattle.curve.specs.Pairs.{AsPair}
-use Rattle.curve.specs.Curves.{curveOf, Sound, Divided}
+use Rattle.curve.specs.Curves.{curveOf, Sound, Holds, Divided}
+
+pub neutral-holds : (c : Curve) → Good (c .m) → Holds c Neutral
+neutral-holds c g = record { held = neutral-held (c .m) g; valid = subst (Valid (curveOf c)) (sym (neutral-is (c .m))) (neutral-valid (curveOf c)) }
 
 pub square-fits : (m : Modulus) (d : Divisor) (x : Mumford) → AsPair m d x → x .v .n + x .v .n ≤ 17
 square-fits m d x h = omega (arith, h .n-v, weight-le d)

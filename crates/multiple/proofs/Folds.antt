@@ -1,28 +1,23 @@
--- Multiples in code. Gives: that the neutral divisor is held and valid; that it is the 0-fold and a the 1-fold multiple of a; that a
--- multiple doubled, and with a added where a bit is 1, is the multiple with that bit more.
+-- Multiples in code. Gives: that the neutral divisor is the 0-fold and a the 1-fold multiple of a; that a multiple doubled,
+-- and with a added where a bit is 1, is the multiple with that bit more.
 use Prim.Native.Nat.{ℕ, _+_}
 use mathlib.Core.Path.{_≡_, sym, ap, ap₂, _∙_, subst}
 use native.Mathlib.Omega.{arith}
 use Rattle.algebra.proofs.zmod.PrimeField.{modulo}
 use Rattle.rules.specs.Curve.{Curve as RuleCurve}
-use Rattle.rules.specs.Pair.{Pair, Valid}
+use Rattle.rules.specs.Pair.{Pair}
 use Rattle.rules.specs.Sum.{sum, double}
 use Rattle.rules.specs.Multiple.{multiple}
 use Rattle.rules.proofs.Quick.{double-is}
-use Rattle.rules.proofs.cantor.Pairs.{neutral-valid}
 use Rattle.rules.proofs.cantor.Group.{neutral-sum}
 use Rattle.rules.proofs.cantor.Totals.{multiple-add}
-use Rattle.field.specs.Residues.{Good}
 use Rattle.divisor.specs.declared.Divisor.{Divisor}
 use Rattle.divisor.specs.declared.Divisor.the-variants.{Neutral}
 use Rattle.divisor.specs.Divisors.{pair}
-use Rattle.divisor.proofs.Laws.{neutral-held, neutral-is}
+use Rattle.divisor.proofs.Laws.{neutral-is}
 use Rattle.curve.specs.declared.Curve.{Curve}
 use Rattle.curve.specs.Curves.{curveOf, Sound, Holds, Gives}
-use Rattle.curve.proofs.Carry.{accepted}
-
-pub neutral-holds : (c : Curve) → Good (c .m) → Holds c Neutral
-neutral-holds c g = record { held = neutral-held (c .m) g; valid = subst (Valid (curveOf c)) (sym (neutral-is (c .m))) (neutral-valid (curveOf c)) }
+use Rattle.curve.proofs.Carry.{accepted, neutral-holds}
 
 module _ (c : Curve) (h : Sound c) (a : Divisor) (ha : Holds c a) where
   abbrev E : RuleCurve

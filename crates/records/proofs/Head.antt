@@ -1,5 +1,5 @@
--- The first five checks of a curve record: refusals 1 to 4, a law for each answer.
-use Prim.Native.Nat.{ℕ, _+_, _*_, _≤_, _<_}
+-- The first checks of a curve record: a law for each of the refusals 1 to 4, and `behind`: what the rule comes to where they pass.
+use Prim.Native.Nat.{ℕ, suc, _+_, _*_, _≤_, _<_}
 use mathlib.Core.Path.{_≡_, refl}
 use mathlib.Core.List.{List}
 use mathlib.Core.Bool.{Bool, true, false}
@@ -7,11 +7,10 @@ use native.Mathlib.Omega.{arith}
 use borrow.Author.Tests.{lt-ltb, le-ltb, eq-eqb, ne-eqb, eqb-true}
 use lib.Dec.{eqb}
 use lib.ListN.{getD, length}
-use Rattle.rules.specs.Records.{Checked, refused, either, CurveRecord}
-use Rattle.records.specs.Read.{Marked, IsGenus, head-rule, HeadIs}
-
-stopped : (s : List ℕ) (n : ℕ) → 0 < n → ((next : Checked CurveRecord) → head-rule s next ≡ refused n 0) → HeadIs s n
-stopped s n l h = record { passes = λ e. absurd (omega arith); long = λ e. absurd (omega arith); genus = λ e. absurd (omega arith); stops = λ e. h }
+use Rattle.rules.specs.Bytes.{word64, words}
+use Rattle.rules.specs.Tests.{square-free?}
+use Rattle.rules.specs.Records.{Checked, refused, taken, choose, either, CurveRecord, curve, odd-prime?, below?, elements, read-curve}
+use Rattle.records.specs.Read.{Marked, IsGenus, Headed, HeadIs}
 
 pub genus-is : (g : ℕ) → IsGenus g ≡ true → (2 ≤ g) × (g ≤ 3)
 genus-is g e = two (eqb g 2) (eqb-true g 2) (eqb g 3) (eqb-true g 3) e
@@ -21,29 +20,43 @@ genus-is g e = two (eqb g 2) (eqb-true g 2) (eqb g 3) (eqb-true g 3) e
     two false h b k e = omega (arith, k e)
 
 module _ (s : List ℕ) where
+  -- the last two checks
+  abbrev pub low-rule : ℕ → ℕ → Checked CurveRecord
+  low-rule g p =
+      let f : List ℕ = words s 14 (suc (g + g)) in
+      let c : CurveRecord = record { p = p; g = g; low = elements p f } in
+      choose (below? p f) (choose (square-free? (curve c)) (taken c) (refused 7 0)) (refused 6 0)
+
+  pub behind : Headed s → read-curve s ≡ choose (odd-prime? (word64 s 6)) (low-rule (getD s 5 0) (word64 s 6)) (refused 5 0)
+  unfolding read-curve
+  behind h = rw (le-ltb (length s) 6 (omega (arith, h .long)), h .mark, eq-eqb _ _ (h .version), h .genus, eq-eqb _ _ (h .long))
+
+  stopped : (n : ℕ) → 0 < n → read-curve s ≡ refused n 0 → HeadIs s n
+  stopped n l e = record { passes = λ z. absurd (omega arith); stops = λ z. e }
+
   pub too-short : length s < 6 → HeadIs s 1
-  too-short l = stopped s 1 (omega arith) (λ next. rw (lt-ltb (length s) 6 l))
+  unfolding read-curve
+  too-short l = stopped 1 (omega arith) (rw (lt-ltb (length s) 6 l))
 
   module _ (long : 6 ≤ length s) where
     pub unmarked : Marked s ≡ false → HeadIs s 2
-    unmarked e = stopped s 2 (omega arith) (λ next. rw (le-ltb (length s) 6 long, e))
+    unfolding read-curve
+    unmarked e = stopped 2 (omega arith) (rw (le-ltb (length s) 6 long, e))
 
     module _ (mark : Marked s ≡ true) where
       pub other-version : (getD s 3 0 * 256 + getD s 4 0 ≡ 1 → ⊥) → HeadIs s 3
-      other-version e = stopped s 3 (omega arith) (λ next. rw (le-ltb (length s) 6 long, mark, ne-eqb _ _ e))
+      unfolding read-curve
+      other-version e = stopped 3 (omega arith) (rw (le-ltb (length s) 6 long, mark, ne-eqb _ _ e))
 
       module _ (version : getD s 3 0 * 256 + getD s 4 0 ≡ 1) where
         pub other-genus : IsGenus (getD s 5 0) ≡ false → HeadIs s 4
-        other-genus e = stopped s 4 (omega arith) (λ next. rw (le-ltb (length s) 6 long, mark, eq-eqb _ _ version, e))
+        unfolding read-curve
+        other-genus e = stopped 4 (omega arith) (rw (le-ltb (length s) 6 long, mark, eq-eqb _ _ version, e))
 
         module _ (genus : IsGenus (getD s 5 0) ≡ true) where
           pub other-length : (length s ≡ 22 + 16 * getD s 5 0 → ⊥) → HeadIs s 1
-          other-length e = stopped s 1 (omega arith) (λ next. rw (le-ltb (length s) 6 long, mark, eq-eqb _ _ version, genus, ne-eqb _ _ e))
+          unfolding read-curve
+          other-length e = stopped 1 (omega arith) (rw (le-ltb (length s) 6 long, mark, eq-eqb _ _ version, genus, ne-eqb _ _ e))
 
           pub passed : length s ≡ 22 + 16 * getD s 5 0 → HeadIs s 0
-          passed e = record {
-            passes = λ z next. rw (le-ltb (length s) 6 long, mark, eq-eqb _ _ version, genus, eq-eqb _ _ e);
-            long = λ z. e;
-            genus = λ z. genus-is (getD s 5 0) genus;
-            stops = λ z. absurd (z refl);
-          }
+          passed e = record { passes = λ z. record { mark = mark; version = version; genus = genus; long = e }; stops = λ z. absurd (z refl) }

@@ -6,6 +6,3 @@ pub mod Low
 pub mod Whole
 pub mod Rows
 pub mod Divisors
-pub mod Writing
-pub mod Numbers
-pub mod Written

@@ -1,12 +1,12 @@
 -- What stands behind p in a curve record: refusals 6 and 7. Gives: the loop over f_0 up to f_2g; the curve that is built is sound, and its
 -- record is the rule's.
 use Prim.Native.Nat.{ℕ, zero, suc, _+_, _*_, _≤_, _<_, max}
-use mathlib.Core.Path.{_≡_, refl, sym, ap, _∙_, subst}
+use mathlib.Core.Path.{_≡_, refl, sym, ap, ap₂, _∙_, subst}
 use mathlib.Core.List.{List, [], _∷_, _++_}
-use mathlib.Core.Bool.{true, false, false≢true}
+use mathlib.Core.Bool.{Bool, true, false, false≢true}
 use native.Mathlib.Omega.{arith}
 use borrow.Author.Count.{below-more}
-use lib.ListN.{length}
+use lib.ListN.{getD, length}
 use Rattle.algebra.proofs.ring.CRing.{CRing}
 use Rattle.algebra.proofs.zmod.Zmod.{zmod, emb}
 use Rattle.algebra.proofs.poly.Bound.{Monic}
@@ -20,10 +20,11 @@ use Rattle.algebra.proofs.list.Coefs.{coefs, length-coefs, mon-coefs}
 use Rattle.rules.specs.Bytes.{word64, words}
 use Rattle.rules.specs.Curve.{SquareFree}
 use Rattle.rules.specs.Tests.{square-free?}
-use Rattle.rules.specs.Records.{choose, refused, taken, CurveRecord, curve, below?, elements}
+use Rattle.rules.specs.Records.{choose, refused, taken, CurveRecord, curve, below?, elements, read-curve}
 use Rattle.rules.proofs.Demand3.{square-free-test}
 use Rattle.field.specs.declared.Modulus.{Modulus}
 use Rattle.field.specs.declared.Residue.{Residue}
+use Rattle.field.specs.Primes.{OddPrime}
 use Rattle.field.specs.Residues.{el, Settles}
 use Rattle.field.proofs.Laws.{settled-kept}
 use Rattle.poly.specs.declared.Poly.{Poly}
@@ -34,8 +35,10 @@ use Rattle.curve.specs.declared.Curve.{Curve}
 use Rattle.curve.specs.Curves.{Sound}
 use Rattle.curve.proofs.Few.{next-term}
 use Rattle.records.specs.declared.LowRead.{LowRead}
-use Rattle.records.specs.Read.{recordOf, ToLow, LowsIs, LowIs}
+use Rattle.records.specs.Read.{recordOf, Headed, ToLow, LowsIs, LowIs}
 use Rattle.records.proofs.Checks.{otherwise}
+use Rattle.records.proofs.Head.{low-rule, behind}
+use Rattle.records.proofs.Primes.{odd-prime-yes}
 use Rattle.records.proofs.Words.{all-below, one-above, elements-snoc, length-row}
 
 -- ---- the loop: the first k coefficients are below p, and f has them
@@ -96,8 +99,19 @@ module _ (s : List ℕ) (g : ℕ) (m : Modulus) (h : ToLow s g m) where
   long : length low ≡ suc (g + g)
   long = length-row s (m .p) 14 (suc (g + g))
 
+  -- what the rule comes to, and by the two tests
+  here : Headed s → g ≡ getD s 5 0 → m .p ≡ word64 s 6 → read-curve s ≡ low-rule s g (m .p)
+  here hd g-is p-is = behind s hd ∙ ap (λ b. choose b (low-rule s (getD s 5 0) (word64 s 6)) (refused 5 0)) (odd-prime-yes (word64 s 6) (subst OddPrime p-is (h .good .prime)))
+      ∙ ap₂ (low-rule s) (sym g-is) (sym p-is)
+
+  by-below : {b : Bool} → below? (m .p) (words s 14 (suc (g + g))) ≡ b → low-rule s g (m .p) ≡ choose b (choose (square-free? (curve rule)) (taken rule) (refused 7 0)) (refused 6 0)
+  by-below e = ap (λ b. choose b (choose (square-free? (curve rule)) (taken rule) (refused 7 0)) (refused 6 0)) e
+
+  by-free : {b : Bool} → square-free? (curve rule) ≡ b → choose (square-free? (curve rule)) (taken rule) (refused 7 0) ≡ choose b (taken rule) (refused 7 0)
+  by-free e = ap (λ b. choose b (taken rule) (refused 7 0)) e
+
   pub too-large : (r : LowRead) → LowsIs s g m r → r .below ≡ false → (c : Curve) → LowIs s g m (record { number = 6; curve = c })
-  too-large r k e c = record { sound = λ z. absurd (omega arith); takes = λ z. absurd (omega arith); refuses = λ z. rw (sym (k .below) ∙ e) }
+  too-large r k e c = λ hd g-is p-is. record { sound = λ z. absurd (omega arith); takes = λ z. absurd (omega arith); refuses = λ z. here hd g-is p-is ∙ by-below (sym (k .below) ∙ e) }
 
   module _ (r : LowRead) (hr : LowsIs s g m r) (all : r .below ≡ true) (o : Residue) (ho : Settles m o 𝟙)
       (f : Poly) (hf : Is m f (P m .add (pol m (r .f)) (term (K m) (el m o) (g + g + 1))) (max (r .f .n) (g + g + 1 + 1))) where
@@ -151,15 +165,15 @@ module _ (s : List ℕ) (g : ℕ) (m : Modulus) (h : ToLow s g m) where
     }
 
     pub built-curve : Free → LowIs s g m (record { number = 0; curve = built })
-    built-curve a = record {
+    built-curve a = λ hd g-is p-is. record {
       sound = λ z. sound a;
-      takes = λ z. ap (λ b. choose b (choose (square-free? (curve rule)) (taken rule) (refused 7 0)) (refused 6 0)) below ∙ ap (λ b. choose b (taken rule) (refused 7 0)) (square-free-test (m .p) (h .good .prime .is) g low .1 (free a)) ∙ ap taken (sym record-is);
+      takes = λ z. here hd g-is p-is ∙ by-below below ∙ by-free (square-free-test (m .p) (h .good .prime .is) g low .1 (free a)) ∙ ap taken (sym record-is);
       refuses = λ z. absurd (z refl);
     }
 
     pub repeated : (Free → ⊥) → LowIs s g m (record { number = 7; curve = built })
-    repeated n = record {
+    repeated n = λ hd g-is p-is. record {
       sound = λ z. absurd (omega arith);
       takes = λ z. absurd (omega arith);
-      refuses = λ z. ap (λ b. choose b (choose (square-free? (curve rule)) (taken rule) (refused 7 0)) (refused 6 0)) below ∙ ap (λ b. choose b (taken rule) (refused 7 0)) (otherwise (square-free? (curve rule)) (λ e. n (free-back (square-free-test (m .p) (h .good .prime .is) g low .0 e))));
+      refuses = λ z. here hd g-is p-is ∙ by-below below ∙ by-free (otherwise (square-free? (curve rule)) (λ e. n (free-back (square-free-test (m .p) (h .good .prime .is) g low .0 e))));
     }

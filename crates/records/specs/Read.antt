@@ -4,15 +4,14 @@ use Prim.Native.Nat.{ℕ, suc, _+_, _*_, _≤_, _<_}
 use mathlib.Core.Path.{_≡_}
 use mathlib.Core.Bool.{Bool, true}
 use mathlib.Core.List.{List}
-use lib.Dec.{eqb, ltb}
+use lib.Dec.{eqb}
 use lib.ListN.{getD, length, take, drop}
 use Rattle.algebra.proofs.zmod.Zmod.{zmod, emb}
 use Rattle.algebra.proofs.poly.Poly.{coef}
 use Rattle.algebra.proofs.list.Value.{pol as list-pol}
 use Rattle.algebra.proofs.list.Coefs.{coefs}
 use Rattle.rules.specs.Bytes.{word64, words}
-use Rattle.rules.specs.Tests.{square-free?}
-use Rattle.rules.specs.Records.{Checked, refused, taken, choose, both, either, CurveRecord, curve, below?, elements, read-curve, divisor-at}
+use Rattle.rules.specs.Records.{refused, taken, both, either, CurveRecord, below?, elements, read-curve, divisor-at}
 use Rattle.field.specs.declared.Modulus.{Modulus}
 use Rattle.field.specs.declared.Residue.{Residue}
 use Rattle.field.specs.Residues.{Good, Settles}
@@ -37,33 +36,23 @@ Marked s = both (eqb (getD s 0 0) 72) (both (eqb (getD s 1 0) 74) (eqb (getD s 2
 abbrev pub IsGenus : ℕ → Bool
 IsGenus g = either (eqb g 2) (eqb g 3)
 
--- the rule's first five checks, and what it does after them
-abbrev pub head-rule : List ℕ → Checked CurveRecord → Checked CurveRecord
-head-rule s next =
-    choose (ltb (length s) 6) (refused 1 0)
-    (choose (Marked s)
-    (choose (eqb (getD s 3 0 * 256 + getD s 4 0) 1)
-    (choose (IsGenus (getD s 5 0))
-    (choose (eqb (length s) (22 + 16 * getD s 5 0)) next
-    (refused 1 0))
-    (refused 4 0))
-    (refused 3 0))
-    (refused 2 0))
+-- the first five checks pass
+pub record Headed (s : List ℕ) : Type 0 where
+  pub mark : Marked s ≡ true
+  pub version : getD s 3 0 * 256 + getD s 4 0 ≡ 1
+  pub genus : IsGenus (getD s 5 0) ≡ true
+  pub long : length s ≡ 22 + 16 * getD s 5 0
 
+-- they do, or a number other than 0
 pub record HeadIs (s : List ℕ) (n : ℕ) : Type 0 where
-  pub passes : n ≡ 0 → (next : Checked CurveRecord) → head-rule s next ≡ next
-  pub long : n ≡ 0 → length s ≡ 22 + 16 * getD s 5 0
-  pub genus : n ≡ 0 → (2 ≤ getD s 5 0) × (getD s 5 0 ≤ 3)
-  pub stops : (n ≡ 0 → ⊥) → (next : Checked CurveRecord) → head-rule s next ≡ refused n 0
+  pub passes : n ≡ 0 → Headed s
+  pub stops : (n ≡ 0 → ⊥) → read-curve s ≡ refused n 0
 
 -- a curve read, or a number other than 0
-pub record ReadAs (rule : Checked CurveRecord) (r : CurveRead) : Type 0 where
+pub record CurveIs (s : List ℕ) (r : CurveRead) : Type 0 where
   pub sound : r .number ≡ 0 → Sound (r .curve)
-  pub takes : r .number ≡ 0 → rule ≡ taken (recordOf (r .curve))
-  pub refuses : (r .number ≡ 0 → ⊥) → rule ≡ refused (r .number) 0
-
-abbrev pub CurveIs : List ℕ → CurveRead → Type 0
-CurveIs s r = ReadAs (read-curve s) r
+  pub takes : r .number ≡ 0 → read-curve s ≡ taken (recordOf (r .curve))
+  pub refuses : (r .number ≡ 0 → ⊥) → read-curve s ≡ refused (r .number) 0
 
 -- ---- what stands behind p
 pub record ToLow (s : List ℕ) (g : ℕ) (m : Modulus) : Type 0 where
@@ -77,15 +66,9 @@ pub record LowsIs (s : List ℕ) (g : ℕ) (m : Modulus) (r : LowRead) : Type 0 
   pub ok : Ok m (r .f)
   pub held : r .below ≡ true → Is m (r .f) (list-pol (zmod (m .p)) (elements (m .p) (words s 14 (suc (g + g))))) (suc (g + g))
 
--- the rule's last two checks
-abbrev pub low-rule : List ℕ → ℕ → ℕ → Checked CurveRecord
-low-rule s g p =
-    let f : List ℕ = words s 14 (suc (g + g)) in
-    let c : CurveRecord = record { p = p; g = g; low = elements p f } in
-    choose (below? p f) (choose (square-free? (curve c)) (taken c) (refused 7 0)) (refused 6 0)
-
+-- behind the first checks, where g and p are the record's own
 abbrev pub LowIs : List ℕ → ℕ → Modulus → CurveRead → Type 0
-LowIs s g m r = ReadAs (low-rule s g (m .p)) r
+LowIs s g m r = Headed s → g ≡ getD s 5 0 → m .p ≡ word64 s 6 → CurveIs s r
 
 -- ---- divisors
 abbrev pub DivisorIs : Curve → Bool → List ℕ → ℕ → DivisorRead → Type 0

@@ -1,15 +1,11 @@
-// Records: bytes in, values out, and back. What is read and what is refused is what the rules say, a check a line, in their order.
+// Records: bytes in, values out. What is read and what is refused is what the rules say, a check a line, in their order.
 ghost use mathlib.Core.Path.{_≡_};
-ghost use Prim.Native.Nat.{_+_, _*_, _≤_, _<_};
-ghost use lib.ListN.{length, take};
-ghost use lib.Seq.{sets};
-ghost use Rattle.rules.specs.Bytes.{word32, word64, all-bytes, bytes64};
-ghost use Rattle.rules.specs.Records.{fits, curve-bytes, divisor-bytes};
+ghost use Prim.Native.Nat.{_+_, _*_, _≤_};
+ghost use lib.ListN.{length};
+ghost use Rattle.rules.specs.Records.{fits};
 ghost use Rattle.field.specs.Residues.{Good};
-ghost use Rattle.divisor.specs.Divisors.{pair, Held, weightOf};
 ghost use Rattle.curve.specs.Curves.{Sound};
-ghost use Rattle.records.specs.Read.{recordOf, CurveIs, Marked, IsGenus, HeadIs, ToLow, LowIs, LowsIs, DivisorIs, ResiduesIs, BuiltOf};
-ghost use Rattle.records.specs.Write.{NumbersOf, CurveNumbersOf};
+ghost use Rattle.records.specs.Read.{CurveIs, Marked, IsGenus, HeadIs, ToLow, LowIs, LowsIs, DivisorIs, ResiduesIs, BuiltOf};
 use curve::Curve;
 use divisor::Cubic;
 use divisor::Divisor;
@@ -44,27 +40,6 @@ pub struct Residues {
     pub r: [Residue; 6],
 }
 
-fn wide(x: u8) -> u64
-    ensures { λ r. ⌜ (r ≡ x) × (r < 256) ⌝ }
-{
-    x as u64
-}
-
-fn read32(s: &[u8], a: usize) -> u64
-    requires { ⌜ a + 4 ≤ length (now s) ⌝ }
-    ensures within { λ r. ⌜ r < 4294967296 ⌝ }
-    ensures word { λ r. ⌜ r ≡ word32 (now (s .entry)) a ⌝ }
-{
-    ((wide(s[a]) * 256 + wide(s[a + 1])) * 256 + wide(s[a + 2])) * 256 + wide(s[a + 3])
-}
-
-pub fn read64(s: &[u8], a: usize) -> u64
-    requires { ⌜ a + 8 ≤ length (now s) ⌝ }
-    ensures { λ r. ⌜ r ≡ word64 (now (s .entry)) a ⌝ }
-{
-    read32(s, a) * 4294967296 + read32(s, a + 4)
-}
-
 fn marked(s: &[u8]) -> bool
     requires { ⌜ 6 ≤ length (now s) ⌝ }
     ensures { λ r. ⌜ r ≡ Marked (now (s .entry)) ⌝ }
@@ -95,7 +70,7 @@ fn read_lows(s: &[u8], g: usize, m: Modulus) -> LowRead
     let mut f = Poly::zero(m);
     let mut k: usize = 0;
     while k < n {
-        match Residue::read(read64(s, 14 + 8 * k), m) {
+        match Residue::read(words::read64(s, 14 + 8 * k), m) {
             ResidueRead::Below(x) => {
                 f = f.put(k, x, m);
             }
@@ -159,10 +134,10 @@ fn head_number(s: &[u8]) -> u64
         return 1;
     }
     if marked(s) {
-        if wide(s[3]) * 256 + wide(s[4]) != Curve::VERSION {
+        if words::wide(s[3]) * 256 + words::wide(s[4]) != Curve::VERSION {
             return 3;
         }
-        let g = wide(s[5]);
+        let g = words::wide(s[5]);
         if is_genus(g) {
             if s.len() != 22 + 16 * (g as usize) {
                 return 1;
@@ -181,8 +156,8 @@ pub fn read_curve(s: &[u8]) -> CurveRead
     if number != 0 {
         return no_curve(number);
     }
-    match Modulus::read(read64(s, 6)) {
-        ModulusRead::Modulo(m) => read_low(s, wide(s[5]) as usize, m),
+    match Modulus::read(words::read64(s, 6)) {
+        ModulusRead::Modulo(m) => read_low(s, words::wide(s[5]) as usize, m),
         ModulusRead::NoPrime => no_curve(5),
     }
 }
@@ -195,7 +170,7 @@ fn residues_at(s: &[u8], a: usize, n: usize, m: Modulus) -> Residues
     let mut r = [z; 6];
     let mut k: usize = 0;
     while k < n {
-        match Residue::read(read64(s, a + 8 * k), m) {
+        match Residue::read(words::read64(s, a + 8 * k), m) {
             ResidueRead::Below(x) => {
                 r[k] = x;
             }
@@ -261,7 +236,7 @@ pub fn divisor_at(c: Curve, whole: bool, s: &[u8], a: usize) -> DivisorRead
     if s.len() <= a {
         return DivisorRead::Refused(8);
     }
-    let w = wide(s[a]);
+    let w = words::wide(s[a]);
     let g = c.g;
     if (g as u64) < w {
         return DivisorRead::Refused(9);
@@ -283,111 +258,4 @@ pub fn divisor_at(c: Curve, whole: bool, s: &[u8], a: usize) -> DivisorRead
     } else {
         DivisorRead::Refused(8)
     }
-}
-
-pub fn write64(out: &mut [u8], a: usize, x: u64)
-    requires { ⌜ a + 8 ≤ length (now out) ⌝ }
-    ensures { λ _. ⌜ now (out .exit) ≡ sets (now (out .entry)) a (bytes64 x) ⌝ }
-{
-    out[a] = (x / 72057594037927936 % 256) as u8;
-    out[a + 1] = (x / 281474976710656 % 256) as u8;
-    out[a + 2] = (x / 1099511627776 % 256) as u8;
-    out[a + 3] = (x / 4294967296 % 256) as u8;
-    out[a + 4] = (x / 16777216 % 256) as u8;
-    out[a + 5] = (x / 65536 % 256) as u8;
-    out[a + 6] = (x / 256 % 256) as u8;
-    out[a + 7] = (x % 256) as u8;
-}
-
-// The first n numbers, one after the other from a on.
-fn write_words(out: &mut [u8], a: usize, x: [u64; 8], n: usize)
-    requires { ⌜ (n ≤ 8) × (a + 8 * n ≤ length (now out)) ⌝ }
-    ensures { λ _. ⌜ now (out .exit) ≡ sets (now (out .entry)) a (all-bytes (take n x)) ⌝ }
-{
-    let mut k: usize = 0;
-    while k < n {
-        write64(out, a + 8 * k, x[k]);
-        k += 1;
-    }
-}
-
-// The numbers of a divisor's coefficients, those of u first.
-fn numbers_of(d: Divisor, m: Modulus) -> [u64; 8]
-    requires { ⌜ Held m d ⌝ }
-    ensures { λ r. ⌜ NumbersOf m d r ⌝ }
-{
-    let mut x = [0u64; 8];
-    match d {
-        Divisor::Neutral => {}
-        Divisor::One(d) => {
-            x[0] = d.u0.number(m);
-            x[1] = d.v0.number(m);
-        }
-        Divisor::Two(d) => {
-            x[0] = d.u0.number(m);
-            x[1] = d.u1.number(m);
-            x[2] = d.v0.number(m);
-            x[3] = d.v1.number(m);
-        }
-        Divisor::Three(d) => {
-            x[0] = d.u0.number(m);
-            x[1] = d.u1.number(m);
-            x[2] = d.u2.number(m);
-            x[3] = d.v0.number(m);
-            x[4] = d.v1.number(m);
-            x[5] = d.v2.number(m);
-        }
-    }
-    x
-}
-
-// The length of a divisor's record.
-pub fn record_length(d: Divisor) -> usize
-    ensures { λ r. ⌜ r ≡ 1 + 16 * weightOf d ⌝ }
-{
-    1 + 16 * d.weight()
-}
-
-pub fn write_divisor(d: Divisor, m: Modulus, out: &mut [u8])
-    requires { ⌜ Held m d × (1 + 16 * weightOf d ≤ length (now out)) ⌝ }
-    ensures { λ _. ⌜ now (out .exit) ≡ sets (now (out .entry)) 0 (divisor-bytes (m .p) (pair m d)) ⌝ }
-{
-    let w = d.weight();
-    let x = numbers_of(d, m);
-    out[0] = (w % 256) as u8;
-    write_words(out, 1, x, 2 * w);
-}
-
-// p and the coefficients f_0 up to f_2g.
-fn curve_numbers(c: Curve) -> [u64; 8]
-    requires { ⌜ Sound c ⌝ }
-    ensures { λ r. ⌜ CurveNumbersOf c r ⌝ }
-{
-    let m = c.m;
-    let f = c.f;
-    let g = c.g;
-    let n = g + g + 1;
-    let mut x = [0u64; 8];
-    x[0] = m.number();
-    let mut k: usize = 0;
-    while k < n {
-        x[k + 1] = f.get(k).settle(m).number(m);
-        k += 1;
-    }
-    x
-}
-
-pub fn write_curve(c: Curve, out: &mut [u8])
-    requires { ⌜ Sound c × (22 + 16 * c .g ≤ length (now out)) ⌝ }
-    ensures { λ _. ⌜ now (out .exit) ≡ sets (now (out .entry)) 0 (curve-bytes (recordOf c)) ⌝ }
-{
-    let g = c.g;
-    let x = curve_numbers(c);
-    out[0] = Curve::MARK[0];
-    out[1] = Curve::MARK[1];
-    out[2] = Curve::MARK[2];
-    out[3] = 0;
-    out[4] = 1;
-    out[5] = (g % 256) as u8;
-    write_words(out, 6, x, g + g + 2);
 }

@@ -25,3 +25,6 @@ pub mod Scans
 -- what a refusal leaves
 pub mod Kept
 pub mod Rewrites
+-- the place of a refusal
+pub mod Places
+pub mod CallPlaces

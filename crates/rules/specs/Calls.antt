@@ -2,17 +2,16 @@
 -- returns. A refused call has length 0, counts 0, and leaves the output and the running total as they were.
 use Prim.Native.Nat.{ℕ, _+_}
 use mathlib.Core.List.{List, [], _∷_, _++_}
-use mathlib.Core.Bool.{Bool, true, false}
 use lib.Dec.{eqb, ltb, leb}
 use lib.ListN.{length}
 use lib.Seq.{sets}
 use Rattle.rules.specs.Bytes.{number}
-use Rattle.rules.specs.Pair.{Pair, neutral, opposite}
+use Rattle.rules.specs.Pair.{neutral, opposite}
 use Rattle.rules.specs.Sum.{sum, double}
 use Rattle.rules.specs.Multiple.{multiple, doublings, additions}
 use Rattle.rules.specs.Tests.{on-curve?}
 use Rattle.rules.specs.Records.{Checked, refused, taken, choose, both, CurveRecord, curve, PairOf, below?, elements, numbers, read-curve, read-divisor, curve-bytes, divisor-bytes}
-use Rattle.rules.specs.Lists.{Batch, batch, most, Repeat, first-repeat}
+use Rattle.rules.specs.Lists.{batch, most, Repeat, first-repeat}
 
 pub record Answer : Type 0 where
   pub number : ℕ
@@ -144,11 +143,13 @@ unfolding below? elements on-curve?
 resume c t =
     let d : PairOf c = record { u = elements (c .p) (t .u); v = elements (c .p) (t .v) } in
     choose (leb (length (t .u)) (c .g))
+    (choose (eqb (length (t .v)) (length (t .u)))
     (choose (both (below? (c .p) (t .u)) (below? (c .p) (t .v)))
     (choose (on-curve? (curve c) d)
     (choose (leb (t .count) most)
     (choose (ltb (t .count) most) (taken d)
     (refused 14 0))
+    (refused 15 0))
     (refused 15 0))
     (refused 15 0))
     (refused 15 0))

@@ -125,6 +125,12 @@ module _ (m : Modulus) where
     unfolding pair
     written-v h = numbers-of (vs d) (h .v)
 
+pub one-length : (d : Divisor) → length (map raw (vs d)) ≡ length (map raw (us d))
+one-length Neutral = refl
+one-length (One d) = refl
+one-length (Two d) = refl
+one-length (Three d) = refl
+
 pub length-raw : (d : Divisor) → length (map raw (us d)) ≡ weightOf d
 length-raw Neutral = refl
 length-raw (One d) = refl

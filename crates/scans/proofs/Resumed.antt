@@ -1,10 +1,11 @@
 -- A total taken up again: an answer's law for each check of the rule `resume`.
 use Prim.Native.Nat.{ℕ, _≤_, _<_}
 use mathlib.Core.Path.{_≡_, refl, ap, _∙_}
+use mathlib.Core.Bool.{true}
 use mathlib.Core.List.{map}
 use native.Mathlib.Omega.{arith}
-use borrow.Author.Tests.{lt-ltb, le-ltb, le-leb, lt-leb}
-use lib.Dec.{ltb, leb}
+use borrow.Author.Tests.{lt-ltb, le-ltb, le-leb, lt-leb, eq-eqb}
+use lib.Dec.{ltb, leb, eqb}
 use lib.ListN.{length}
 use Rattle.rules.specs.Tests.{on-curve?}
 use Rattle.rules.specs.Records.{Checked, refused, taken, choose, PairOf}
@@ -20,11 +21,14 @@ use Rattle.curve.specs.Curves.{curveOf, Divided}
 use Rattle.running.specs.declared.Running.{Running}
 use Rattle.records.specs.Read.{recordOf}
 use Rattle.scans.specs.Scans.{runningOf, AllIn, ResumeIs}
-use Rattle.scans.proofs.Ranges.{no, all-below, not-below, held-of, read-as, length-raw}
+use Rattle.scans.proofs.Ranges.{no, all-below, not-below, held-of, read-as, one-length, length-raw}
 
 module _ (c : Curve) (t : Running) where
   abbrev d : Divisor
   d = t .divisor
+
+  same : eqb (length (map raw (vs d))) (length (map raw (us d))) ≡ true
+  same = eq-eqb (length (map raw (vs d))) (length (map raw (us d))) (one-length d)
 
   -- the rule's last checks, of a divisor x
   abbrev last : PairOf (recordOf c) → Checked (PairOf (recordOf c))
@@ -52,12 +56,12 @@ module _ (c : Curve) (t : Running) where
     module _ (light : w ≤ c .g) where
       pub out-of-range : (AllIn (c .m) d → ⊥) → ResumeIs c t 15
       unfolding resume
-      out-of-range n = stops 15 (omega arith) (rw (le-leb (length (map raw (us d))) (c .g) (omega (arith, length-raw d)), not-below (c .m) d n))
+      out-of-range n = stops 15 (omega arith) (rw (le-leb (length (map raw (us d))) (c .g) (omega (arith, length-raw d)), same, not-below (c .m) d n))
 
       module _ (all : AllIn (c .m) d) (good : Good (c .m)) where
         rule-is : resume (recordOf c) (runningOf t) ≡ last (pair (c .m) d)
         unfolding resume
-        rule-is = rw (le-leb (length (map raw (us d))) (c .g) (omega (arith, length-raw d)), all-below (c .m) d all) refl ∙ ap last (read-as (c .m) d)
+        rule-is = rw (le-leb (length (map raw (us d))) (c .g) (omega (arith, length-raw d)), same, all-below (c .m) d all) refl ∙ ap last (read-as (c .m) d)
 
         pub off-curve : (Divided c d → ⊥) → ResumeIs c t 15
         off-curve n = stops 15 (omega arith) (rule-is ∙ rw (no (on-curve? (curveOf c) (pair (c .m) d)) (λ e. n (on-curve-test (curveOf c) (pair (c .m) d) .0 e))))

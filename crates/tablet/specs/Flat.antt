@@ -7,6 +7,8 @@ use Rattle.answers.specs.declared.MultipleAnswer.{MultipleAnswer}
 use Rattle.answers.specs.Answers.{multipleOf}
 use Rattle.batches.specs.declared.TotalAnswer.{TotalAnswer}
 use Rattle.batches.specs.Batches.{totalOf}
+use Rattle.flats.specs.declared.YubiRunning.{YubiRunning}
+use Rattle.flats.specs.declared.YubiScanned.{YubiScanned}
 use Rattle.tablet.specs.declared.YubiAnswer.{YubiAnswer}
 use Rattle.tablet.specs.declared.YubiTotal.{YubiTotal}
 use Rattle.tablet.specs.declared.YubiRepeat.{YubiRepeat}
@@ -30,3 +32,7 @@ FlatTotal a r = (out : List ℕ) → r ≡ flat-total (totalOf a out)
 
 abbrev pub flat-repeat : Repeated → YubiRepeat
 flat-repeat r = record { number = r .answer .number; place = r .answer .place; length = r .answer .length; first = r .repeat .first; second = r .repeat .second }
+
+-- an answer, beside the total that the scan left
+abbrev pub scanned-with : YubiAnswer → YubiRunning → YubiScanned
+scanned-with a total = record { number = a .number; place = a .place; length = a .length; total = total }

@@ -6,7 +6,7 @@ ghost use Rattle.answers.specs.Answers.{answerOf};
 ghost use Rattle.batches.specs.Batches.{repeatOf};
 ghost use Rattle.rules.specs.Calls.{fresh};
 ghost use Rattle.flats.specs.Flats.{flat-running, FlatScanIs};
-ghost use Rattle.tablet.specs.Flat.{flat, flat-multiple, FlatMultiple, flat-total, FlatTotal, flat-repeat};
+ghost use Rattle.tablet.specs.Flat.{flat, flat-multiple, FlatMultiple, flat-total, FlatTotal, flat-repeat, scanned-with};
 use answers::Answer;
 use answers::MultipleAnswer;
 use batches::RepeatAnswer;
@@ -227,4 +227,36 @@ pub extern "C" fn yubi_scan(total: YubiRunning, curve: &[u8], record: &[u8]) -> 
     ensures { λ r. ⌜ FlatScanIs total (now (curve .entry)) (now («record» .entry)) r ⌝ }
 {
     flats::scan(total, curve, record)
+}
+
+// What a scan left of the total, beside its answer.
+struct LentStep {
+    total: YubiRunning,
+    answer: YubiAnswer,
+}
+
+// The work of the lent scan, by value.
+fn lent_by_value(total: YubiRunning, curve: &[u8], record: &[u8]) -> LentStep
+    ensures { λ r. ⌜ FlatScanIs total (now (curve .entry)) (now («record» .entry)) (scanned-with (r .answer) (r .total)) ⌝ }
+{
+    let s = flats::scan(total, curve, record);
+    let after = s.total;
+    LentStep {
+        total: after,
+        answer: YubiAnswer {
+            number: s.number,
+            place: s.place,
+            length: s.length,
+        },
+    }
+}
+
+// The total is lent, and changed in place.
+#[no_mangle]
+pub extern "C" fn yubi_scan_lent(total: &mut YubiRunning, curve: &[u8], record: &[u8]) -> YubiAnswer
+    ensures { λ r. ⌜ FlatScanIs (now (total .entry)) (now (curve .entry)) (now («record» .entry)) (scanned-with r (now (total .exit))) ⌝ }
+{
+    let s = lent_by_value(*total, curve, record);
+    *total = s.total;
+    s.answer
 }

@@ -14,7 +14,7 @@ returns : tie.Need-returns
 returns c = head-refused _ _ (c .before .before .head-number .ensures) _ (c .before .if1 .taken) (c .no-curve .ensures)
 
 read64-requires : tie.Need-read64-requires
-read64-requires c κs = omega (arith, c .before .head-number .ensures .long (c .if1 .left))
+read64-requires c κs = omega (arith, c .before .head-number .ensures .passes (c .if1 .left) .long)
 
 read-requires : tie.Need-read-requires
 read-requires c κs = search needs
@@ -23,7 +23,7 @@ enum-known-m : tie.Need-enum-known-m
 enum-known-m c = search needs
 
 shared-slice-read-wide : tie.Need-shared-slice-read-wide
-shared-slice-read-wide c = let e = c .before .before .before .before .before .before .before .head-number .ensures .long (c .before .before .before .before .before .before .if1 .left) in search needs
+shared-slice-read-wide c = let e = c .before .before .before .before .before .before .before .head-number .ensures .passes (c .before .before .before .before .before .before .if1 .left) .long in search needs
 
 wide-requires : tie.Need-wide-requires
 wide-requires c κs = search needs

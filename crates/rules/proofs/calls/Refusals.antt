@@ -77,11 +77,12 @@ module _ (c : CurveRecord) where
   unfolding resume
   resume-numbered t k e =
       let t1 = not-failed (leb (length (t .u)) (c .g)) _ 15 _ e (omega arith) in
-      let t2 = not-failed (both (below? (c .p) (t .u)) (below? (c .p) (t .v))) _ 15 _ t1 (omega arith) in
-      let t3 = not-failed (on-curve? (curve c) (made-of c (t .u) (t .v))) _ 15 _ t2 (omega arith) in
-      let t4 = not-failed (leb (t .count) most) _ 15 _ t3 (omega arith) in
-      let t5 = not-failed (ltb (t .count) most) _ 14 _ t4 (omega arith) in
-      refused-taken (sym t5)
+      let t2 = not-failed (eqb (length (t .v)) (length (t .u))) _ 15 _ t1 (omega arith) in
+      let t3 = not-failed (both (below? (c .p) (t .u)) (below? (c .p) (t .v))) _ 15 _ t2 (omega arith) in
+      let t4 = not-failed (on-curve? (curve c) (made-of c (t .u) (t .v))) _ 15 _ t3 (omega arith) in
+      let t5 = not-failed (leb (t .count) most) _ 15 _ t4 (omega arith) in
+      let t6 = not-failed (ltb (t .count) most) _ 14 _ t5 (omega arith) in
+      refused-taken (sym t6)
 
   module _ {A : Type 0} (step : A → PairOf c → A) (s : List ℕ) where
     pub batch-numbered : (left a k : ℕ) (from : A) → Numbered (batch-from c step s left a k from)

@@ -8,7 +8,7 @@ use mathlib.Core.Logic.{_↔_}
 use native.Mathlib.Omega.{arith}
 use lib.Dec.{leb}
 use lib.ListN.{length}
-use borrow.Author.Tests.{ltb-true, leb-true, lt-ltb, le-leb}
+use borrow.Author.Tests.{ltb-true, leb-true, eqb-true, lt-ltb, le-leb, eq-eqb}
 use Rattle.rules.specs.Bytes.{all-bytes}
 use Rattle.rules.specs.Pair.{Valid, neutral}
 use Rattle.rules.specs.Sum.{sum}
@@ -52,6 +52,7 @@ AllDone t s (r ∷ rs) = ((scan-call t s r) .answer .number ≡ 0) × AllDone ((
 module _ (c : CurveRecord) where
   pub record Resumes (t : Running) : Type 0 where
     pub small : length (t .u) ≤ c .g
+    pub same : length (t .v) ≡ length (t .u)
     pub below : both (below? (c .p) (t .u)) (below? (c .p) (t .v)) ≡ true
     pub on : on-curve? (curve c) (made-of c (t .u) (t .v)) ≡ true
     pub room : t .count < 4096
@@ -62,25 +63,27 @@ module _ (c : CurveRecord) where
       let t1 = passed _ _ _ _ e in
       let t2 = passed _ _ _ _ (t1 .1) in
       let t3 = passed _ _ _ _ (t2 .1) in
-      let t4 = passed (leb (t .count) most) _ _ _ (t3 .1) in
-      let t5 = passed _ _ _ _ (t4 .1) in
-      (record { small = leb-true _ _ (t1 .0); below = t2 .0; on = t3 .0; room = ltb-true _ _ (t5 .0) }, taken-inj (t5 .1))
+      let t4 = passed _ _ _ _ (t3 .1) in
+      let t5 = passed (leb (t .count) most) _ _ _ (t4 .1) in
+      let t6 = passed _ _ _ _ (t5 .1) in
+      (record { small = leb-true _ _ (t1 .0); same = eqb-true _ _ (t2 .0); below = t3 .0; on = t4 .0; room = ltb-true _ _ (t6 .0) }, taken-inj (t6 .1))
 
-  -- (the rule's lists may have two lengths, a total in code can't: where they have one, what is taken is valid)
-  pub resume-valid : (t : Running) {x : PairOf c} → length (t .v) ≡ length (t .u) → resume c t ≡ taken x → Valid (curve c) x
-  resume-valid t same e = let r = resume-read t e in subst (Valid (curve c)) (r .1) (record {
-    fits = length-elements (c .p) (t .v) ∙ same ∙ sym (length-elements (c .p) (t .u));
+  -- what is taken is valid
+  pub resume-valid : (t : Running) {x : PairOf c} → resume c t ≡ taken x → Valid (curve c) x
+  resume-valid t e = let r = resume-read t e in subst (Valid (curve c)) (r .1) (record {
+    fits = length-elements (c .p) (t .v) ∙ r .0 .same ∙ sym (length-elements (c .p) (t .u));
     small = omega (arith, length-elements (c .p) (t .u), r .0 .small);
     divides = on-curve-decides (curve c) (made-of c (t .u) (t .v)) .0 (r .0 .on);
   })
 
   pub resume-taken : (t : Running) → Resumes t → resume c t ≡ taken (made-of c (t .u) (t .v))
   unfolding resume
-  resume-taken t h = rw (le-leb (length (t .u)) (c .g) (h .small), h .below, h .on, le-leb (t .count) most (omega (arith, h .room)), lt-ltb (t .count) most (h .room))
+  resume-taken t h = rw (le-leb (length (t .u)) (c .g) (h .small), eq-eqb (length (t .v)) (length (t .u)) (h .same), h .below, h .on, le-leb (t .count) most (omega (arith, h .room)), lt-ltb (t .count) most (h .room))
 
   pub resume-is : Accepts c → (d : PairOf c) → Valid (curve c) d → (n : ℕ) → n < 4096 → resume c (running-of c d n) ≡ taken d
   resume-is ok d v n l = resume-taken (running-of c d n) (record {
     small = omega (arith, length-numbers (c .p) (d .u), v .small);
+    same = length-numbers (c .p) (d .v) ∙ v .fits ∙ sym (length-numbers (c .p) (d .u));
     below = true-both (numbers-below (c .p) pos (d .u)) (numbers-below (c .p) pos (d .v));
     on = ap (on-curve? (curve c)) (made-numbers c d) ∙ on-curve-decides (curve c) d .1 (v .divides);
     room = l;

@@ -1,0 +1,5 @@
+pub mod Reports
+pub mod OneAnswer
+pub mod Sequences
+pub mod FlatScans
+pub mod PoleList

@@ -1,0 +1,41 @@
+-- A whole record written: the bytes in front, then the numbers.
+use Prim.Native.Nat.{ℕ, _+_, _*_, _%_}
+use mathlib.Core.Path.{_≡_, sym, ap, ap₂, _∙_}
+use mathlib.Core.List.{List}
+use native.Mathlib.Omega.{arith}
+use native.Mathlib.Nat.{mod-eq-of-lt}
+use lib.ListN.{length, set, take}
+use lib.Seq.{sets}
+use Rattle.rules.specs.Bytes.{all-bytes}
+use Rattle.rules.specs.Records.{numbers, curve-bytes, divisor-bytes}
+use Rattle.field.specs.declared.Modulus.{Modulus}
+use Rattle.divisor.specs.declared.Divisor.{Divisor}
+use Rattle.divisor.specs.Divisors.{weightOf, us, vs, pair}
+use Rattle.divisor.proofs.Laws.{length-us, length-vs, length-elements, weight-le}
+use Rattle.curve.specs.declared.Curve.{Curve}
+use Rattle.curve.specs.Curves.{Sound}
+use Rattle.records.specs.Read.{recordOf}
+use Rattle.writes.specs.Write.{NumbersOf, CurveNumbersOf}
+use Rattle.words.proofs.Writing.{all-append}
+
+pub weight-is : (m : Modulus) (d : Divisor) → length (pair m d .u) ≡ weightOf d
+unfolding pair
+weight-is m d = length-elements m (us d) ∙ length-us d
+
+pub weight-is-v : (m : Modulus) (d : Divisor) → length (pair m d .v) ≡ weightOf d
+unfolding pair
+weight-is-v m d = length-elements m (vs d) ∙ length-vs d
+
+pub divisor-written : (m : Modulus) (d : Divisor) (out x : List ℕ) (w : ℕ) → w ≡ weightOf d → NumbersOf m d x
+    → sets (set out 0 (w % 256)) 1 (all-bytes (take (2 * w) x)) ≡ sets out 0 (divisor-bytes (m .p) (pair m d))
+unfolding divisor-bytes
+divisor-written m d out x w e h = ap₂ (λ (n : ℕ) (l : List ℕ). sets (set out 0 n) 1 l) front
+    (ap (λ (n : ℕ). all-bytes (take (2 * n) x)) e ∙ ap all-bytes (h .is) ∙ all-append (numbers (m .p) (pair m d .u)) (numbers (m .p) (pair m d .v)))
+  where
+    front : w % 256 ≡ length (pair m d .u)
+    front = mod-eq-of-lt {n = w} {m = 256} (omega (arith, weight-le d)) ∙ e ∙ sym (weight-is m d)
+
+pub curve-written : (c : Curve) (out x : List ℕ) → Sound c → CurveNumbersOf c x
+    → sets (set (set (set (set (set (set out 0 72) 1 74) 2 67) 3 0) 4 1) 5 (c .g % 256)) 6 (all-bytes (take (c .g + c .g + 2) x)) ≡ sets out 0 (curve-bytes (recordOf c))
+unfolding curve-bytes all-bytes
+curve-written c out x s h = ap₂ (λ (n : ℕ) (l : List ℕ). sets (set (set (set (set (set (set out 0 72) 1 74) 2 67) 3 0) 4 1) 5 n) 6 l) (mod-eq-of-lt {n = c .g} {m = 256} (omega (arith, s .most))) (ap all-bytes (h .is))
