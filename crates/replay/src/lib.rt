@@ -36,27 +36,27 @@ fn number(s: &[u8], k: usize) -> u64
 
 fn checked(text: &mut [u8], a: YubiAnswer) -> usize {
     let values = [a.number, a.place, a.length];
-    lines::plain(text, &values)
+    rows::plain(text, &values)
 }
 
 fn written(text: &mut [u8], a: YubiAnswer, out: &[u8]) -> usize {
     let values = [a.number, a.place, a.length];
-    lines::with_output(text, &values, out)
+    rows::with_output(text, &values, out)
 }
 
 fn multiplied(text: &mut [u8], a: YubiMultiple, out: &[u8]) -> usize {
     let values = [a.number, a.place, a.length, a.doublings, a.additions];
-    lines::with_output(text, &values, out)
+    rows::with_output(text, &values, out)
 }
 
 fn totalled(text: &mut [u8], a: YubiTotal, out: &[u8]) -> usize {
     let values = [a.number, a.place, a.length, a.count];
-    lines::with_output(text, &values, out)
+    rows::with_output(text, &values, out)
 }
 
 fn repeated(text: &mut [u8], a: YubiRepeat) -> usize {
     let values = [a.number, a.place, a.length, a.first, a.second];
-    lines::plain(text, &values)
+    rows::plain(text, &values)
 }
 
 fn scanned(text: &mut [u8], a: YubiScanned) -> usize {
@@ -74,7 +74,7 @@ fn scanned(text: &mut [u8], a: YubiScanned) -> usize {
         t.v2,
         t.count,
     ];
-    lines::plain(text, &values)
+    rows::plain(text, &values)
 }
 
 fn running(s: &[u8]) -> YubiRunning {
@@ -120,7 +120,7 @@ pub fn line(
     text: &mut [u8],
 ) -> usize {
     match operation {
-        0 => lines::label(text, curve),
+        0 => rows::label(text, curve),
         1 => checked(text, tablet::yubi_check_curve(curve)),
         2 => checked(text, tablet::yubi_check_divisor(curve, first)),
         3..=7 => {
