@@ -6,7 +6,7 @@ with a star or without, run through the calls, one line each: a label and the an
     python3 tools/corners.py --check     writes nothing: both files must be what it would write
     --input PATH, --expected PATH        other files than crates/corners/data/corners and crates/corners/stdout
 
-The format is frames.py's, with a label before each frame. What document 01 says of a corner is written out here by hand;
+The format is frames.py's, with a label before each frame. What document 01 says of a corner stands in corner_table.py;
 reference.py's answer must agree with it or nothing is written.
 """
 import argparse
@@ -15,24 +15,14 @@ import sys
 
 import ideals
 import reference as r
+from corner_table import (
+    CASE_P, CASE_P_COUNT, CASE_P_REPEAT, CASE_P_TOTAL, CURVE_A, CURVES, DIVISORS, NEUTRAL, SCALARS, X6_3, X_1, X_6, XX6X, XX_1,
+    XX_6, each_example, power_and_1,
+)  # fmt: skip
 from frames import (
     ADD, CHECK_CURVE, CHECK_DIVISOR, DOUBLE, FIRST_REPEAT, GUARD, MULTIPLY, OPPOSITE, REWRITE_CURVE, REWRITE_DIVISOR, SCAN,
     TOTAL_BATCH, WITH_OUTPUT, Frame, answer, curve_record, decoded, divisor_record, encoded, label, text_of,
 )  # fmt: skip
-
-CURVE_A = curve_record(2, 7, [1, 0, 0, 0, 0])
-CURVE_B = curve_record(3, 11, [1, 0, 0, 0, 0, 0, 0])
-NEUTRAL = b"\x00"
-X_1, X_6, X_2 = (divisor_record([0], [v]) for v in (1, 6, 2))  # (x, 1), (x, 6) and (x, 2)
-X6_3 = divisor_record([6], [3])  # (x + 6, 3)
-X1_0 = divisor_record([1], [0])  # (x + 1, 0)
-XX_1 = divisor_record([0, 0], [1, 0])  # (x², 1)
-XX_6 = divisor_record([0, 0], [6, 0])  # (x², 6)
-XX6X = divisor_record([0, 6], [1, 2])  # (x² + 6x, 2x + 1)
-XX4X4 = divisor_record([4, 4], [0, 1])  # (x² + 4x + 4, x)
-B_X_10 = divisor_record([0], [10])
-B_XXX_1 = divisor_record([0, 0, 0], [1, 0, 0])
-B_XXX_10 = divisor_record([0, 0, 0], [10, 0, 0])
 
 frames = []
 labels = set()
@@ -106,58 +96,35 @@ def taken_divisor(name, a):
 
 
 def put_sums():
-    summed("A1", CURVE_A, X_1, X6_3, XX6X)
-    doubled("A2", CURVE_A, X_1, XX_1)
-    times("A3", CURVE_A, X_1, 3, XX_6, (1, 1))
-    times("A4", CURVE_A, X_1, 4, X_6, (2, 0))
-    times("A5", CURVE_A, X_1, 5, NEUTRAL, (2, 1))
-    summed("A6", CURVE_A, X_1, X_6, NEUTRAL)
-    doubled("A7", CURVE_A, X1_0, NEUTRAL)
-    summed("A8", CURVE_A, XX6X, X_6, X6_3)
-    summed("A9", CURVE_A, XX6X, X_1, XX4X4)
-    doubled("B1", CURVE_B, B_XXX_1, B_X_10)
-    times("B2", CURVE_B, X_1, 4, B_XXX_10, (2, 0))
-    times("B3", CURVE_B, X_1, 7, NEUTRAL, (2, 2))
+    each_example(summed, doubled, times)
 
 
 def put_curves():
-    for p in (1, 2, 9, 2147483648):
-        every_call("p=%d" % p, curve_record(2, p, [1, 0, 0, 0, 0]), X_1, 5)
+    for name, curve, number in CURVES:
+        if number:
+            every_call(name, curve, X_1, number)
+        else:
+            taken_curve(name, curve)
     for p in (3, 2147483647):
-        curve = curve_record(2, p, [1, 0, 0, 0, 0])
-        taken_curve("p=%d" % p, curve)
+        curve = power_and_1(2, p)
         corner("p=%d-cancel" % p, Frame(ADD, curve, X_1, divisor_record([0], [p - 1]), 9), 0, 0, NEUTRAL)
         corner("p=%d-double" % p, Frame(DOUBLE, curve, X_1, b"", 33), 0, 0, XX_1)
-    every_call("x^5+1,p=5", curve_record(2, 5, [1, 0, 0, 0, 0]), X_1, 7)
-    every_call("x^7+1,p=7", curve_record(3, 7, [1, 0, 0, 0, 0, 0, 0]), X_1, 7)
-    taken_curve("x^7+6x+1,p=7", curve_record(3, 7, [1, 6, 0, 0, 0, 0, 0]))
-    taken_curve("A", CURVE_A)
-    taken_curve("B", CURVE_B)
 
 
 def put_bounds():
-    every_call("(x,2)", CURVE_A, X_2, 11, 1)
-    taken_divisor("coefficient-6-in-v", X_6)
-    taken_divisor("coefficient-6-in-u", X6_3)
-    every_call("coefficient-7-in-v", CURVE_A, divisor_record([0], [7]), 10, 1)
-    every_call("coefficient-7-in-u", CURVE_A, divisor_record([7], [1]), 10, 1)
-    # (x, 1) has order 5, A5: 2^256 - 1 = 0 and 2^255 = 3 modulo 5
-    for name, scalar, result, counts in (
-        ("zeros", bytes(32), NEUTRAL, (0, 0)),
-        ("five", (5).to_bytes(32, "big"), NEUTRAL, (2, 1)),
-        ("ones", b"\xff" * 32, NEUTRAL, (255, 255)),
-        ("top", b"\x80" + bytes(31), XX_6, (255, 0)),
-    ):
-        corner("scalar-32-" + name, Frame(MULTIPLY, CURVE_A, X_1, scalar, 40), 0, 0, result, counts)
-    for name, scalar in (("zeros", bytes(33)), ("five", (5).to_bytes(33, "big")), ("ones", b"\xff" * 33)):
-        corner("scalar-33-" + name, Frame(MULTIPLY, CURVE_A, X_1, scalar, 40), 12, more=(0, 0))
-    corner("scalar-empty", Frame(MULTIPLY, CURVE_A, X_1, b"", 40), 0, 0, NEUTRAL, (0, 0))
+    for name, record, number in DIVISORS:
+        if number:
+            every_call(name, CURVE_A, record, number, 1)
+        else:
+            taken_divisor(name, record)
+    for name, scalar, number, result, counts in SCALARS:
+        corner(name, Frame(MULTIPLY, CURVE_A, X_1, scalar, 40), number, 0, result, counts)
     for name, frame, result, more in (
         ("add", Frame(ADD, CURVE_A, X_1, X6_3), XX6X, ()),
         ("double", Frame(DOUBLE, CURVE_A, X_1), XX_1, ()),
         ("opposite", Frame(OPPOSITE, CURVE_A, XX_1), XX_6, ()),
         ("multiply", Frame(MULTIPLY, CURVE_A, X_1, b"\3"), XX_6, (1, 1)),
-        ("total", Frame(TOTAL_BATCH, CURVE_A, X_1 + X6_3 + X_1), XX4X4, (3,)),
+        ("total", Frame(TOTAL_BATCH, CURVE_A, b"".join(CASE_P)), CASE_P_TOTAL, (CASE_P_COUNT,)),
         ("rewrite", Frame(REWRITE_DIVISOR, CURVE_A, XX6X), XX6X, ()),
     ):
         corner("output-32-" + name, frame._replace(output=32), 13, more=(0,) * len(more))
@@ -167,18 +134,12 @@ def put_bounds():
 
 
 def put_case_p():
-    batch = X_1 + X6_3 + X_1
-    corner("P-total", Frame(TOTAL_BATCH, CURVE_A, batch, b"", 34), 0, 0, XX4X4, (3,))
-    corner("P-repeat", Frame(FIRST_REPEAT, CURVE_A, batch), 0, more=(1, 3))
+    batch = b"".join(CASE_P)
+    corner("P-total", Frame(TOTAL_BATCH, CURVE_A, batch, b"", 34), 0, 0, CASE_P_TOTAL, (CASE_P_COUNT,))
+    corner("P-repeat", Frame(FIRST_REPEAT, CURVE_A, batch), 0, more=CASE_P_REPEAT)
     total = r.fresh_total()
-    for k, (record, after) in enumerate(
-        (
-            (X_1, (1, 0, 0, 0, 1, 0, 0, 1)),
-            (X6_3, (2, 0, 6, 0, 1, 2, 0, 2)),
-            (X_1, (2, 4, 4, 0, 0, 1, 0, 3)),
-        ),
-        start=1,
-    ):
+    totals = ((1, 0, 0, 0, 1, 0, 0, 1), (2, 0, 6, 0, 1, 2, 0, 2), (2, 4, 4, 0, 0, 1, 0, 3))
+    for k, (record, after) in enumerate(zip(CASE_P, totals), start=1):
         corner("P-scan-%d" % k, Frame(SCAN, CURVE_A, record, b"", 0, total), 0, more=after)
         total = after
     corner("empty-batch-total", Frame(TOTAL_BATCH, CURVE_A, b"", b"", 4), 0, 0, NEUTRAL, (0,))

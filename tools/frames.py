@@ -82,32 +82,19 @@ def decoded(data):
 
 
 def answer(frame):
-    """The fields and the output as it returns, or None."""
-    operation, curve, first, second, length, total = frame
-    out = bytes([GUARD]) * length
-    if operation == CHECK_CURVE:
-        return reference.check_curve(curve)
-    if operation == CHECK_DIVISOR:
-        return reference.check_divisor(curve, first)
-    if operation == REWRITE_CURVE:
-        return reference.rewrite_curve(curve, out)
-    if operation == REWRITE_DIVISOR:
-        return reference.rewrite_divisor(curve, first, out)
-    if operation == ADD:
-        return reference.add(curve, first, second, out)
-    if operation == DOUBLE:
-        return reference.double(curve, first, out)
-    if operation == OPPOSITE:
-        return reference.opposite(curve, first, out)
-    if operation == MULTIPLY:
-        return reference.multiply(curve, first, second, out)
-    if operation == TOTAL_BATCH:
-        return reference.total_batch(curve, first, out)
-    if operation == FIRST_REPEAT:
-        return reference.first_repeat(curve, first)
-    if operation == SCAN:
-        return reference.scan(total, curve, first)
-    raise ValueError("operation %d" % operation)
+    """The fields and the output as it returns, or None. reference.py's functions have the calls' names, and take what
+    the frame has in its order, a scan its total first."""
+    operation = frame.operation
+    if not CHECK_CURVE <= operation <= SCAN:
+        raise ValueError("operation %d" % operation)
+    given = (
+        (operation == SCAN, frame.total),
+        (True, frame.curve),
+        (operation in WITH_FIRST, frame.first),
+        (operation in WITH_SECOND, frame.second),
+        (operation in WITH_OUTPUT, bytes([GUARD]) * frame.output),
+    )
+    return getattr(reference, NAMES[operation])(*(part for taken, part in given if taken))
 
 
 def text_of(frame, answered=None):

@@ -8,6 +8,10 @@ import itertools
 
 import ideals
 import reference as r
+from corner_table import (
+    B_X_10, B_XXX_1, CASE_P, CASE_P_COUNT, CASE_P_REPEAT, CASE_P_TOTAL, CURVE_A, CURVE_B, CURVES, DIVISORS, NEUTRAL, SCALARS,
+    X1_0, X6_3, X_1, X_6, XX6X, XX_1, each_example,
+)  # fmt: skip
 from frames import curve_record, divisor_record
 
 held = 0
@@ -34,24 +38,6 @@ def expect_written(name, call, record, more=()):
         expect(name, call(out), ((0, 0, len(record)) + more, record + GUARD * extra))
 
 
-# Document 01's curves and divisors, "Street corners"
-CURVE_A = curve_record(2, 7, [1, 0, 0, 0, 0])
-CURVE_B = curve_record(3, 11, [1, 0, 0, 0, 0, 0, 0])
-NEUTRAL = b"\x00"
-X_1 = divisor_record([0], [1])  # (x, 1)
-X_6 = divisor_record([0], [6])  # (x, 6)
-X6_3 = divisor_record([6], [3])  # (x + 6, 3)
-X1_0 = divisor_record([1], [0])  # (x + 1, 0)
-XX_1 = divisor_record([0, 0], [1, 0])  # (x², 1)
-XX_6 = divisor_record([0, 0], [6, 0])  # (x², 6)
-XX6X = divisor_record([0, 6], [1, 2])  # (x² + 6x, 2x + 1)
-XX4X4 = divisor_record([4, 4], [0, 1])  # (x² + 4x + 4, x)
-B_X_1 = divisor_record([0], [1])
-B_X_10 = divisor_record([0], [10])
-B_XXX_1 = divisor_record([0, 0, 0], [1, 0, 0])
-B_XXX_10 = divisor_record([0, 0, 0], [10, 0, 0])
-
-
 def check_examples():
     """A1 to A9 and B1 to B3."""
 
@@ -69,21 +55,9 @@ def check_examples():
             expect_written(name, lambda out: r.multiply(curve, a, scalar, out), record, counts)
         expect_written(name + " as a batch", lambda out: r.total_batch(curve, a * n, out), record, (n,))
 
-    sums("A1", CURVE_A, X_1, X6_3, XX6X)
-    doubles("A2", CURVE_A, X_1, XX_1)
-    multiples("A3", CURVE_A, X_1, 3, XX_6, (1, 1))
-    multiples("A4", CURVE_A, X_1, 4, X_6, (2, 0))
-    multiples("A5", CURVE_A, X_1, 5, NEUTRAL, (2, 1))
-    sums("A6", CURVE_A, X_1, X_6, NEUTRAL)
-    doubles("A7", CURVE_A, X1_0, NEUTRAL)
-    sums("A8", CURVE_A, XX6X, X_6, X6_3)
-    sums("A9", CURVE_A, XX6X, X_1, XX4X4)
-    doubles("B1", CURVE_B, B_XXX_1, B_X_10)
-    multiples("B2", CURVE_B, B_X_1, 4, B_XXX_10, (2, 0))
-    multiples("B3", CURVE_B, B_X_1, 7, NEUTRAL, (2, 2))
+    each_example(sums, doubles, multiples)
     multiples("0-fold", CURVE_A, X_1, 0, NEUTRAL, (0, 0))
     multiples("1-fold", CURVE_A, X_1, 1, X_1, (0, 0))
-    expect_written("empty scalar", lambda out: r.multiply(CURVE_A, X_1, b"", out), NEUTRAL, (0, 0))
     expect_written("opposite", lambda out: r.opposite(CURVE_A, XX6X, out), divisor_record([0, 6], [6, 5]))
     expect_written("opposite of y = 0", lambda out: r.opposite(CURVE_A, X1_0, out), X1_0)
     expect_written("opposite of neutral", lambda out: r.opposite(CURVE_A, NEUTRAL, out), NEUTRAL)
@@ -91,28 +65,18 @@ def check_examples():
 
 def check_corners():
     """The refusals of "Street corners", each through every call that can give it."""
+    for name, curve, number in CURVES:
+        expect(name, r.check_curve(curve), ((number, 0, 0), None))
+        if number == 0:
+            expect_written(name, lambda out: r.rewrite_curve(curve, out), curve)
     for p in (1, 2, 9, 2147483648, 0, 2147483646, 2**63, 2**64 - 1):
-        expect("p = %d" % p, r.check_curve(curve_record(2, p, [0] * 5)), ((5, 0, 0), None))
-        expect("p = %d, x^5 + 1" % p, r.check_curve(curve_record(2, p, [1, 0, 0, 0, 0])), ((5, 0, 0), None))
-    for p in (3, 2147483647):
-        record = curve_record(2, p, [1, 0, 0, 0, 0])
-        expect("p = %d" % p, r.check_curve(record), ((0, 0, 0), None))
-        expect_written("p = %d" % p, lambda out: r.rewrite_curve(record, out), record)
-    expect("x^5 + 1, p = 5", r.check_curve(curve_record(2, 5, [1, 0, 0, 0, 0])), ((7, 0, 0), None))
-    expect("x^7 + 1, p = 7", r.check_curve(curve_record(3, 7, [1] + [0] * 6)), ((7, 0, 0), None))
-    taken = curve_record(3, 7, [1, 6, 0, 0, 0, 0, 0])
-    expect("x^7 + 6x + 1, p = 7", r.check_curve(taken), ((0, 0, 0), None))
-    expect_written("x^7 + 6x + 1, p = 7", lambda out: r.rewrite_curve(taken, out), taken)
+        for f in ([0] * 5, [1, 0, 0, 0, 0]):
+            expect("p = %d" % p, r.check_curve(curve_record(2, p, f)), ((5, 0, 0), None))
     expect("f_i = p", r.check_curve(curve_record(2, 7, [1, 0, 0, 0, 7])), ((6, 0, 0), None))
     # f = x^5 + 6x^4 + 1 has the derivative x³·(5x + 3) with roots 0 and 5, and f(0) = 1, f(5) = 2.
     expect("f_i = p - 1", r.check_curve(curve_record(2, 7, [1, 0, 0, 0, 6])), ((0, 0, 0), None))
 
-    for number, record in (
-        (11, divisor_record([0], [2])),
-        (0, X_6),
-        (0, X6_3),
-        (10, divisor_record([0], [7])),
-        (10, divisor_record([7], [1])),
+    for number, record in [(number, record) for _, record, number in DIVISORS] + [
         (10, divisor_record([0], [8])),
         (10, divisor_record([0], [2**64 - 1])),
         (8, b""),
@@ -124,7 +88,7 @@ def check_corners():
         (9, b"\xff"),
         (9, b"\3" + bytes(48)),
         (0, NEUTRAL),
-    ):
+    ]:
         place = 1 if number else 0
         out = GUARD * 60
         expect("check %r" % record, r.check_divisor(CURVE_A, record), ((number, place, 0), None))
@@ -140,13 +104,12 @@ def check_corners():
         else:
             expect_written("rewrite", lambda out: r.rewrite_divisor(CURVE_A, record, out), record)
 
-    five_fold = (5).to_bytes(32, "big")
-    expect_written("32 bytes", lambda out: r.multiply(CURVE_A, X_1, five_fold, out), NEUTRAL, (2, 1))
-    # 32 bytes FF are 2^256 - 1; 2^4 = 1 modulo 5, so (x, 1) is multiplied by 0 modulo 5.
-    expect_written("32 bytes FF", lambda out: r.multiply(CURVE_A, X_1, b"\xff" * 32, out), NEUTRAL, (255, 255))
     out = GUARD * 33
-    expect("33 bytes", r.multiply(CURVE_A, X_1, b"\0" + five_fold, out), ((12, 0, 0, 0, 0), out))
-    expect("33 zero bytes", r.multiply(CURVE_A, X_1, bytes(33), out), ((12, 0, 0, 0, 0), out))
+    for name, scalar, number, record, counts in SCALARS:
+        if number:
+            expect(name, r.multiply(CURVE_A, X_1, scalar, out), ((number, 0, 0) + counts, out))
+        else:
+            expect_written(name, lambda out: r.multiply(CURVE_A, X_1, scalar, out), record, counts)
     expect("12 before 13", r.multiply(CURVE_A, X_1, bytes(33), b""), ((12, 0, 0, 0, 0), b""))
     out = GUARD * 32
     expect("output of 32", r.double(CURVE_A, X_1, out), ((13, 0, 0), out))
@@ -211,9 +174,9 @@ def check_batches():
     out = GUARD * 40
     expect_written("empty batch", lambda out: r.total_batch(CURVE_A, b"", out), NEUTRAL, (0,))
     expect("empty batch, repeat", r.first_repeat(CURVE_A, b""), ((0, 0, 0, 0, 0), None))
-    three = X_1 + X6_3 + X_1
-    expect_written("case P", lambda out: r.total_batch(CURVE_A, three, out), XX4X4, (3,))
-    expect("case P, repeat", r.first_repeat(CURVE_A, three), ((0, 0, 0, 1, 3), None))
+    three = b"".join(CASE_P)
+    expect_written("case P", lambda out: r.total_batch(CURVE_A, three, out), CASE_P_TOTAL, (CASE_P_COUNT,))
+    expect("case P, repeat", r.first_repeat(CURVE_A, three), ((0, 0, 0) + CASE_P_REPEAT, None))
     for number, place, batch in (
         (8, 2, X_1 + X_1[:-1]),
         (8, 2, X_1 + b"\1"),
@@ -293,10 +256,9 @@ def check_running_totals():
 
 
 def check_program():
-    case_p = X_1 + X6_3 + X_1
     expect(
         "case P",
-        r.program_text(CURVE_A, case_p),
+        r.program_text(CURVE_A, b"".join(CASE_P)),
         "count 3\nrepeat 1 3\ntotal 02 0000000000000004 0000000000000004 0000000000000000 0000000000000001\n",
     )
     expect("empty batch", r.program_text(CURVE_A, b""), "count 0\nrepeat none\ntotal 00\n")

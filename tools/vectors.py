@@ -23,11 +23,10 @@ from frames import (
     REWRITE_DIVISOR, SCAN, TOTAL_BATCH, WITH_OUTPUT, Frame, answer, curve_record, decoded, divisor_record, encoded, text_of,
 )  # fmt: skip
 
-PRIMES = (3, 5, 7, 11, 13, 1009, 65537, 2147483629, 2147483647)
+PRIMES = (3, 5, 7, 11, 1009, 65537, 2147483629, 2147483647)
 GENERA = (2, 3)
-MOST_BYTES = 1500000
-ENOUGH = 20  # of each kind of sum, per genus and prime
-ASKED = 22  # what the generator tries for
+MOST_BYTES = 930000  # of input and expected text together: both stand in the repository
+ENOUGH = 20  # of each main kind of sum, per genus and prime
 NEUTRAL_RECORD = r.write_divisor(r.NEUTRAL)
 
 
@@ -274,9 +273,11 @@ RECIPES = (
 SHARED, SHARED_TANGENT, SHARED_CANCELLING = "shared root", "shared, d = 1", "shared, d ≠ 1"
 OPPOSITES, FLAT, LIGHT, LIGHT_RESULT = "opposite", "y = 0", "weight < g in", "weight < g out"
 TOP, NO_TOP, TWO_STEPS, COPRIME = "f_2g ≠ 0", "f_2g = 0", "two reductions", "coprime"
-KINDS = (
-    SHARED, SHARED_TANGENT, SHARED_CANCELLING, OPPOSITES, FLAT, LIGHT, LIGHT_RESULT, TOP, NO_TOP, TWO_STEPS, COPRIME,
-)  # fmt: skip
+# How many there must be of each, per genus and prime.
+KINDS = {
+    SHARED: ENOUGH, SHARED_TANGENT: 8, SHARED_CANCELLING: 8, OPPOSITES: ENOUGH, FLAT: ENOUGH, LIGHT: ENOUGH,
+    LIGHT_RESULT: ENOUGH, TOP: ENOUGH, NO_TOP: 8, TWO_STEPS: ENOUGH, COPRIME: 8,
+}  # fmt: skip
 
 
 def has_flat_point(curve, a):
@@ -323,7 +324,7 @@ SHAPES = (
     + [(3, 0, 6, 1, 1), (3, 0, 6, 1, 2), (3, 0, 6, 2, 3)]
     + [(3, 1, w, 0, w) for w in (0, 1, 2, 3)] + [(3, 1, 4, 1, 3)] + [(3, 2, w, 0, w) for w in (0, 1, 2)] + [(3, 3, 0, 0, 0)]
 )  # fmt: skip
-ASKED_SHAPES = 4  # of each shape, per prime, where the tries come by them
+ASKED_SHAPES = 2  # of each shape, per prime, where the tries come by them
 
 
 # ---------------------------------------------------------------------------------------------------------
@@ -345,8 +346,10 @@ class Collection:
 
 
 def enough_output(dice, need):
-    """An output that fits: exactly, by one byte more, or by many."""
-    return dice.pick([need, need, need + 1, need + 1 + dice.below(MOST_OUTPUT - need)])
+    """An output that fits: exactly, by one byte more, by a few, seldom by many."""
+    if dice.below(32) == 0:
+        return need + 1 + dice.below(MOST_OUTPUT - need)
+    return dice.pick([need, need, need + 1, need + 2 + dice.below(4)])
 
 
 def any_output(dice, need):
@@ -386,29 +389,31 @@ def pools_for(dice, g, p):
 
 def put_sums(dice, collection, g, p, pools):
     counts = Counter()
-    wanted = {kind: ASKED for kind in KINDS}
+    wanted = {**KINDS, **{shape: ASKED_SHAPES for shape in SHAPES}}
     if g == 2:
         wanted[TWO_STEPS] = 0  # never more than g - 1 reductions
+    collection.put(Frame(ADD, pools[0].record, NEUTRAL_RECORD, NEUTRAL_RECORD, 1))
     tries = 0
-    while tries < 500 or any(counts[k] < n for k, n in wanted.items()) and tries < 6000:
+    while tries < 1000 or any(counts[k] < n for k, n in KINDS.items() if wanted[k]) and tries < 6000:
         pool, recipe = pools[tries % len(pools)], RECIPES[(tries // len(pools)) % len(RECIPES)]
         tries += 1
         pair = recipe(pool)
         if pair is None:
             continue
-        kinds, shape = kinds_of_sum(pool.curve, *pair), shape_of_sum(pool.curve, *pair)
-        if all(counts[k] >= wanted[k] for k in kinds) and counts[shape] >= ASKED_SHAPES:
+        # Few sums that are many things at once: the first tries take only what fills several gaps.
+        kinds = kinds_of_sum(pool.curve, *pair) | {shape_of_sum(pool.curve, *pair)}
+        if sum(counts[k] < wanted[k] for k in kinds) < (3 if tries < 300 else 2 if tries < 600 else 1):
             continue
         frame = Frame(ADD, pool.record, *map(r.write_divisor, pair))
         if collection.put(frame._replace(output=enough_output(dice, need_of(frame)))):
-            counts.update(kinds | {shape})
-            if dice.below(8) == 0:
+            counts.update(kinds)
+            if dice.below(16) == 0:
                 need = need_of(frame)
                 collection.put(frame._replace(output=dice.pick([need - 1, dice.below(need), 0])))
 
 
 def put_doubles_and_opposites(dice, collection, pools):
-    for n in range(24):
+    for n in range(12):
         pool = pools[n % len(pools)]
         a = pool.anything()
         if n % 3 == 0 and pool.flats:
@@ -421,7 +426,7 @@ def put_doubles_and_opposites(dice, collection, pools):
 
 
 def put_checks(dice, collection, pools):
-    for n, pool in enumerate(pools[:6]):
+    for n, pool in enumerate(pools[:3]):
         a = r.write_divisor(pool.anything())
         collection.put(Frame(CHECK_CURVE, pool.record))
         collection.put(Frame(CHECK_DIVISOR, pool.record, a))
@@ -434,7 +439,7 @@ def put_multiples(dice, collection, pools):
         b"", b"\0", bytes(32), b"\1", b"\0\0\1", b"\2", b"\3", b"\4", b"\7", b"\x80", b"\xff", b"\0\xff\0", b"\1" + bytes(31),
         bytes(31) + b"\5",
     ]  # fmt: skip
-    scalars = dice.turned(scalars)[:8] + [dice.some_bytes(1 + dice.below(4)) for _ in range(4)]
+    scalars = dice.turned(scalars)[:6] + [dice.some_bytes(1 + dice.below(4)) for _ in range(2)]
     scalars += [dice.some_bytes(8), dice.some_bytes(20), dice.some_bytes(32), b"\xff" * dice.pick([8, 16, 32])]
     for n, scalar in enumerate(scalars):
         pool = pools[n % len(pools)]
@@ -466,40 +471,38 @@ def drawn_batch(dice, pool, length):
 
 
 def put_batches(dice, collection, pools):
-    for n, length in enumerate((0, 1, 2, 3, 4, 7, 14)):
+    for n, length in enumerate((0, 1, 2, 3, 5, 12)):
         pool = pools[n % len(pools)]
         batch = b"".join(map(r.write_divisor, drawn_batch(dice, pool, length)))
-        put_with_outputs(dice, collection, Frame(TOTAL_BATCH, pool.record, batch), [enough_output, any_output])
-        collection.put(Frame(FIRST_REPEAT, pool.record, batch))
+        put_with_outputs(dice, collection, Frame(TOTAL_BATCH, pool.record, batch), [enough_output if n else any_output])
+        if n % 2:
+            collection.put(Frame(FIRST_REPEAT, pool.record, batch))
         # different divisors, and the same with one of them again
         different = sorted(set(drawn_batch(dice, pool, length) + [pool.anything() for _ in range(3)]))
         records = [r.write_divisor(a) for a in dice.turned(different)[: length + 1]]
         collection.put(Frame(FIRST_REPEAT, pool.record, b"".join(records)))
-        for _ in range(2 if length < 7 else 1):
-            again = list(records)
-            for _ in range(1 + dice.below(2)):
-                again.insert(dice.below(len(again) + 1), dice.pick(records))
-            collection.put(Frame(FIRST_REPEAT, pool.record, b"".join(again)))
+        again = list(records)
+        for _ in range(1 + dice.below(2)):
+            again.insert(dice.below(len(again) + 1), dice.pick(records))
+        collection.put(Frame(FIRST_REPEAT, pool.record, b"".join(again)))
         # a last record that is cut
         record = r.write_divisor(pool.heavy())
-        for cut in (batch + record[:-1], batch + record[: 1 + dice.below(len(record) - 1)])[: 2 if length < 7 else 1]:
-            collection.put(Frame(TOTAL_BATCH, pool.record, cut, b"", 49))
-            collection.put(Frame(FIRST_REPEAT, pool.record, cut))
+        cut = batch + dice.pick([record[:-1], record[: 1 + dice.below(len(record) - 1)]])
+        collection.put(Frame(TOTAL_BATCH, pool.record, cut, b"", 3) if n % 2 else Frame(FIRST_REPEAT, pool.record, cut))
 
 
 def put_scans(dice, collection, pools):
-    for n in range(3):
+    for n in range(2):
         pool, total = pools[n % len(pools)], r.fresh_total()
-        for a in drawn_batch(dice, pool, 5):
+        for a in drawn_batch(dice, pool, 4):
             frame = Frame(SCAN, pool.record, r.write_divisor(a), b"", 0, total)
             collection.put(frame)
             total = answer(frame)[0][3:]
     for count in (0, 1, 4095, 4096, 4097, 2 + dice.below(4000)):
         # a total whose divisor and count needn't fit each other
         pool = dice.pick(pools)
-        held, a = pool.anything(), pool.anything()
-        collection.put(Frame(SCAN, pool.record, r.write_divisor(a), b"", 0, r.flat_total(held, count)))
-        a = pool.opposite(held)
+        held = pool.anything()
+        a = pool.anything() if dice.below(3) else pool.opposite(held)
         collection.put(Frame(SCAN, pool.record, r.write_divisor(a), b"", 0, r.flat_total(held, count)))
 
 
@@ -659,9 +662,9 @@ class Base:
                 return None
         output = 0
         if operation in WITH_OUTPUT:
-            output = 0 if by_part.get("output") else dice.pick([49, 70, 80, MOST_OUTPUT])
-            if operation == REWRITE_CURVE and output:
-                output = 70 + dice.below(20)
+            # one that would fit or, mostly, one that wouldn't: the earlier fault wins over that too
+            fits = 70 if operation == REWRITE_CURVE else 49
+            output = 0 if by_part.get("output") else dice.pick([fits, 2, 4, 8])
             if by_part.get("output") and len(faults) == 1:
                 # the only fault: one byte short of the need, or shorter
                 good = Frame(operation, curve, first, second, MOST_OUTPUT)
@@ -702,7 +705,7 @@ def put_refusals(dice, collection, pools):
     for operation in range(CHECK_CURVE, SCAN + 1):
         stages = Base(dice, operation, pools[0]).stages
         for faults in itertools.chain(
-            ((stage,) for stage in stages for _ in range(3)), itertools.combinations(stages, 2)
+            ((stage,) for stage in stages), itertools.combinations(stages, 2)
         ):
             for _ in range(12):
                 made = Base(dice, operation, dice.pick(pools)).frame(faults)
@@ -721,7 +724,7 @@ def put_refusals(dice, collection, pools):
 
 def put_every_curve_fault(dice, collection):
     """All the wrong marks, versions, genera, primes and lengths by themselves."""
-    for g, p in ((2, 7), (3, 11), (2, 2147483647), (3, 2147483647)):
+    for g, p in ((3, 11), (2, 2147483647)):
         f = [1] + [0] * (2 * g)
         good = curve_record(g, p, f)
         wrong = [good[:n] for n in range(7)] + [good[:n] for n in (13, 14, len(good) - 16, len(good) - 1)]
@@ -744,14 +747,14 @@ def put_every_curve_fault(dice, collection):
                 collection.put(Frame(CHECK_CURVE, curve_record(genus, p, f, mark, version)[:length]))
     # repeated factors: (x - a)²·rest, a derivative of 0, a quadratic factor twice
     for g, p in itertools.product(GENERA, PRIMES):
-        for _ in range(6):
+        for _ in range(3):
             factor = tuple(dice.below(p) for _ in range(1 + dice.below(g))) + (1,)
             square = r.times(factor, factor, p)
             rest = tuple(dice.below(p) for _ in range(2 * g + 2 - len(square))) + (1,)
             f = r.times(square, rest, p)
             record = curve_record(g, p, f[:-1])
             collection.put(Frame(CHECK_CURVE, record))
-            collection.put(Frame(REWRITE_CURVE, record, b"", b"", dice.pick([0, 53, 54, 70])))
+            collection.put(Frame(REWRITE_CURVE, record, b"", b"", dice.pick([0, 9, 54, 70])))
         if p == 2 * g + 1 or (g == 3 and p == 7):
             collection.put(Frame(CHECK_CURVE, curve_record(g, p, [p - 1] + [0] * (2 * g))))
 
@@ -810,7 +813,7 @@ def put_every_total_fault(dice, collection, pools):
             good = r.flat_total(a, 0)[:7]
             totals = [good] + [(n,) + good[1:] for n in (0, 1, 2, 3, 4, 256 + w, 2**32 + w, 2**64 - 1)]
             for i in range(1, 7):
-                for c in (1, p - 1, p, good[i] + p, 2**32, 2**64 - 1):
+                for c in (1, p, good[i] + p, 2**64 - 1):
                     totals.append(good[:i] + (c,) + good[i + 1 :])
             for total in totals:
                 count = dice.pick([0, 1, 4095, 4096, 4096, 4097, 2**32, 2**64 - 1])
@@ -819,37 +822,33 @@ def put_every_total_fault(dice, collection, pools):
 
 
 def put_long_batches(dice, collection, pools_of):
-    """4,096 and 4,097 records, kept small by neutral ones; thousands of different points."""
+    """4,096 and 4,097 records, kept small by neutral ones; a thousand different points."""
     pool = pools_of[2, 2147483647][0]
     points = []
     x = 1
-    while len(points) < 4000:
+    while len(points) < 1000:
         x += 1 + dice.below(1000)
         y = square_root(value_at(pool.curve.f, x, pool.curve.p), pool.curve.p)
         if y:
             points.append(divisor_record([pool.curve.p - x], [y if dice.below(2) else pool.curve.p - y]))
     collection.put(Frame(FIRST_REPEAT, pool.record, b"".join(points)))
-    collection.put(Frame(FIRST_REPEAT, pool.record, b"".join(points[:2000] + points[:1])))
-    collection.put(Frame(TOTAL_BATCH, pool.record, b"".join(points[:1000]), b"", 33))
-    for key in ((3, 11), (2, 2147483647), (3, 65537)):
-        pool = pools_of[key][0]
-        heavy = [r.write_divisor(pool.anything()) for _ in range(30)]
-        full = dice.turned(heavy + [NEUTRAL_RECORD] * 4066)
-        bad = divisor_record([pool.curve.p], [0])
-        for batch, output in (
-            (full, 49),
-            (full + [NEUTRAL_RECORD], 49),
-            (full + [b"\xff"], 0),
-            (full[:-1] + [bad], 49),
-            (full[:-1] + [bad, NEUTRAL_RECORD], 0),
-            (full[:-1] + [b"\1"], 49),
-        )[: 6 if key == (3, 11) else 2]:
-            collection.put(Frame(TOTAL_BATCH, pool.record, b"".join(batch), b"", output))
-            collection.put(Frame(FIRST_REPEAT, pool.record, b"".join(batch)))
-    for fault in ("1b", "7"):
-        curve = faulty_curve(dice, pool.curve, [fault])
-        collection.put(Frame(TOTAL_BATCH, curve, NEUTRAL_RECORD * 4097, b"", 49))
-        collection.put(Frame(FIRST_REPEAT, curve, NEUTRAL_RECORD * 4097))
+    collection.put(Frame(FIRST_REPEAT, pool.record, b"".join(points[:400] + points[199:200])))
+    collection.put(Frame(TOTAL_BATCH, pool.record, b"".join(points[:300]), b"", 33))
+    pool = pools_of[3, 11][0]
+    heavy = [r.write_divisor(pool.anything()) for _ in range(10)]
+    full = dice.turned(heavy + [NEUTRAL_RECORD] * 4086)
+    bad = divisor_record([pool.curve.p], [0])
+    for operation, batch, output in (
+        (TOTAL_BATCH, full, 49),
+        (FIRST_REPEAT, full, 0),
+        (TOTAL_BATCH, full + [b"\xff"], 0),
+        (FIRST_REPEAT, full + [NEUTRAL_RECORD], 0),
+        (TOTAL_BATCH, full[:-1] + [bad, NEUTRAL_RECORD], 0),
+        (FIRST_REPEAT, full[:-1] + [b"\1"], 0),
+    ):
+        collection.put(Frame(operation, pool.record, b"".join(batch), b"", output))
+    curve = faulty_curve(dice, pool.curve, ["7"])
+    collection.put(Frame(TOTAL_BATCH, curve, NEUTRAL_RECORD * 4097, b"", 49))
 
 
 def made(seed):
@@ -863,11 +862,11 @@ def made(seed):
         put_batches(dice, collection, pools)
         put_scans(dice, collection, pools)
         put_checks(dice, collection, pools)
-    faulty = [pools_of[g, p][k] for g in GENERA for p in (7, 11, 13, 65537, 2147483647) for k in (0, 1)]
+    faulty = [pools_of[g, p][k] for g in GENERA for p in (7, 11, 65537, 2147483647) for k in (0, 1)]
     put_refusals(dice, collection, faulty)
     put_every_curve_fault(dice, collection)
-    put_every_divisor_fault(dice, collection, [pools_of[key][1] for key in ((2, 7), (3, 11), (2, 2147483647), (3, 2147483647))])
-    put_every_total_fault(dice, collection, [pools_of[key][1] for key in ((2, 7), (3, 11), (2, 2147483647), (3, 65537))])
+    put_every_divisor_fault(dice, collection, [pools_of[key][1] for key in ((2, 7), (3, 2147483647))])
+    put_every_total_fault(dice, collection, [pools_of[key][1] for key in ((3, 11), (2, 2147483647))])
     put_long_batches(dice, collection, pools_of)
     return collection
 
@@ -945,15 +944,15 @@ class Census:
         calls = (ADD, DOUBLE, OPPOSITE, MULTIPLY, TOTAL_BATCH, SCAN, FIRST_REPEAT)
         need("sums, doubles, opposites, multiples, totals, scans, repeats", sum(self.done[o] for o in calls), 2000)
         for (g, p), kinds in self.kinds.items():
-            for kind in KINDS:
+            for kind, least in KINDS.items():
                 if kind != TWO_STEPS or g == 3:
-                    need("g = %d, p = %d: %s" % (g, p, kind), kinds[kind], ENOUGH)
+                    need("g = %d, p = %d: %s" % (g, p, kind), kinds[kind], least)
             if g == 2 and kinds[TWO_STEPS]:
                 short.append("two reductions in genus 2")
             for operation in calls:
                 need("g = %d, p = %d: %s" % (g, p, NAMES[operation]), self.done_per_curve[(g, p), operation], 5)
         for shape in SHAPES:
-            least = 9 if shape == (2, 0, 0, 0, 0) or shape == (3, 0, 0, 0, 0) else ENOUGH
+            least = 8 if shape == (2, 0, 0, 0, 0) or shape == (3, 0, 0, 0, 0) else 12
             need("shape %d %d %d %d %d" % shape, self.shapes[shape], least)
         if set(self.shapes) - set(SHAPES):
             short.append("shapes that can't be: %s" % (set(self.shapes) - set(SHAPES)))
@@ -1056,8 +1055,8 @@ def main():
     for line in census.lines(len(given)):
         print(line)
     short = census.shortfalls()
-    if len(given) > MOST_BYTES:
-        short.append("%d bytes of input, over %d" % (len(given), MOST_BYTES))
+    if len(given) + len(text) > MOST_BYTES:
+        short.append("%d bytes in all, over %d" % (len(given) + len(text), MOST_BYTES))
     if options.check:
         if given != data:
             short.append("the input isn't what seed %s makes" % options.seed)

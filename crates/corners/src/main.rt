@@ -1,0 +1,11 @@
+// Prints the lines of the file `corners`: document 01's street corners, each under its label, made by tools/corners.py.
+use libc::STDOUT_FILENO;
+
+fn main() {
+    let mut data = frames::data();
+    let mut text = frames::text();
+    let fd = os::open_read(b"corners");
+    let n = io::read_full(fd, &mut data);
+    let k = frames::lines(&data[..n], &mut text);
+    io::write_all(STDOUT_FILENO, &text[..k]);
+}

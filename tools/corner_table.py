@@ -1,0 +1,89 @@
+"""corner_table.py: document 01's "Street corners" as tables, line by line, and the records they speak of; corners.py runs them
+through the calls of the product, selfcheck.py holds reference.py to them. All is written out by hand from the document.
+"""
+from frames import curve_record, divisor_record
+
+CURVE_A = curve_record(2, 7, [1, 0, 0, 0, 0])
+CURVE_B = curve_record(3, 11, [1, 0, 0, 0, 0, 0, 0])
+NEUTRAL = b"\x00"
+X_1, X_6, X_2 = (divisor_record([0], [v]) for v in (1, 6, 2))  # (x, 1), (x, 6) and (x, 2)
+X6_3 = divisor_record([6], [3])  # (x + 6, 3)
+X1_0 = divisor_record([1], [0])  # (x + 1, 0)
+XX_1 = divisor_record([0, 0], [1, 0])  # (x², 1)
+XX_6 = divisor_record([0, 0], [6, 0])  # (x², 6)
+XX6X = divisor_record([0, 6], [1, 2])  # (x² + 6x, 2x + 1)
+XX4X4 = divisor_record([4, 4], [0, 1])  # (x² + 4x + 4, x)
+B_X_10 = divisor_record([0], [10])  # (x, 10)
+B_XXX_1 = divisor_record([0, 0, 0], [1, 0, 0])  # (x³, 1)
+B_XXX_10 = divisor_record([0, 0, 0], [10, 0, 0])  # (x³, 10)
+
+# A sum has the two divisors and their sum; a double the divisor and twice it; a multiple the divisor, n, the n-fold, its
+# doublings and additions.
+SUM, DOUBLE, MULTIPLE = "sum", "double", "multiple"
+EXAMPLES = (
+    (SUM, "A1", CURVE_A, X_1, X6_3, XX6X),
+    (DOUBLE, "A2", CURVE_A, X_1, XX_1),
+    (MULTIPLE, "A3", CURVE_A, X_1, 3, XX_6, (1, 1)),
+    (MULTIPLE, "A4", CURVE_A, X_1, 4, X_6, (2, 0)),
+    (MULTIPLE, "A5", CURVE_A, X_1, 5, NEUTRAL, (2, 1)),
+    (SUM, "A6", CURVE_A, X_1, X_6, NEUTRAL),
+    (DOUBLE, "A7", CURVE_A, X1_0, NEUTRAL),
+    (SUM, "A8", CURVE_A, XX6X, X_6, X6_3),
+    (SUM, "A9", CURVE_A, XX6X, X_1, XX4X4),
+    (DOUBLE, "B1", CURVE_B, B_XXX_1, B_X_10),
+    (MULTIPLE, "B2", CURVE_B, X_1, 4, B_XXX_10, (2, 0)),
+    (MULTIPLE, "B3", CURVE_B, X_1, 7, NEUTRAL, (2, 2)),
+)
+
+
+def each_example(sums, doubles, multiples):
+    """Calls one of the three with each row, from its name on, in the document's order."""
+    take = {SUM: sums, DOUBLE: doubles, MULTIPLE: multiples}
+    for kind, *row in EXAMPLES:
+        take[kind](*row)
+
+
+def power_and_1(g, p):
+    """x^(2g+1) + 1 modulo p."""
+    return curve_record(g, p, [1] + [0] * (2 * g))
+
+
+# name, curve, the number that the curve is answered; 0 is accepted
+CURVES = (
+    ("p=1", power_and_1(2, 1), 5),
+    ("p=2", power_and_1(2, 2), 5),
+    ("p=9", power_and_1(2, 9), 5),
+    ("p=2147483648", power_and_1(2, 2147483648), 5),
+    ("p=3", power_and_1(2, 3), 0),
+    ("p=2147483647", power_and_1(2, 2147483647), 0),
+    ("x^5+1,p=5", power_and_1(2, 5), 7),
+    ("x^7+1,p=7", power_and_1(3, 7), 7),
+    ("x^7+6x+1,p=7", curve_record(3, 7, [1, 6, 0, 0, 0, 0, 0]), 0),
+    ("A", CURVE_A, 0),
+    ("B", CURVE_B, 0),
+)
+
+# On A: name, divisor, the number that the divisor is answered
+DIVISORS = (
+    ("(x,2)", X_2, 11),
+    ("coefficient-6-in-v", X_6, 0),
+    ("coefficient-6-in-u", X6_3, 0),
+    ("coefficient-7-in-v", divisor_record([0], [7]), 10),
+    ("coefficient-7-in-u", divisor_record([7], [1]), 10),
+)
+
+# On A, of (x, 1): name, scalar, number, the multiple, its counts. (x, 1) has order 5, A5: 2^256 - 1 = 0 and 2^255 = 3 modulo 5.
+SCALARS = (
+    ("scalar-32-zeros", bytes(32), 0, NEUTRAL, (0, 0)),
+    ("scalar-32-five", (5).to_bytes(32, "big"), 0, NEUTRAL, (2, 1)),
+    ("scalar-32-ones", b"\xff" * 32, 0, NEUTRAL, (255, 255)),
+    ("scalar-32-top", b"\x80" + bytes(31), 0, XX_6, (255, 0)),
+    ("scalar-33-zeros", bytes(33), 12, b"", (0, 0)),
+    ("scalar-33-five", (5).to_bytes(33, "big"), 12, b"", (0, 0)),
+    ("scalar-33-ones", b"\xff" * 33, 12, b"", (0, 0)),
+    ("scalar-empty", b"", 0, NEUTRAL, (0, 0)),
+)
+
+# Case P on A: the batch, its total with the count, its first repeat
+CASE_P = (X_1, X6_3, X_1)
+CASE_P_TOTAL, CASE_P_COUNT, CASE_P_REPEAT = XX4X4, 3, (1, 3)
