@@ -14,6 +14,7 @@ number, place and length; for a call with an output one space and the whole buff
 empty buffer. Operation 0 is a label: its bytes stand in the place of the curve and are printed with one space
 after them and no line feed, so that the next frame's answer ends the line.
 """
+import os
 from collections import namedtuple
 
 import reference
@@ -30,7 +31,7 @@ WITH_FIRST = {CHECK_DIVISOR, REWRITE_DIVISOR, ADD, DOUBLE, OPPOSITE, MULTIPLY, T
 WITH_SECOND = {ADD, MULTIPLY}
 
 GUARD = 0xA5
-MOST_PAYLOAD = 69000
+MOST_PAYLOAD = 65515
 MOST_OUTPUT = 128
 
 # output: a length; total: None or a tuple of eight numbers
@@ -106,6 +107,36 @@ def text_of(frame, answered=None):
     if frame.operation in WITH_OUTPUT:
         line += " " + (out.hex() or "-")
     return line + "\n"
+
+
+# A file of frames in parts of at most 65,536 bytes, which is what the program has room for at a time: PATH.a, PATH.b and on.
+MOST_PART = 65536
+
+
+def in_parts(frames):
+    """The frames' bytes, cut between frames."""
+    parts = [b""]
+    for data in map(encoded, frames):
+        assert len(data) <= MOST_PART
+        if len(parts[-1]) + len(data) > MOST_PART:
+            parts.append(b"")
+        parts[-1] += data
+    return parts
+
+
+def part_paths(path, count):
+    assert count <= 26
+    return [path + "." + chr(ord("a") + k) for k in range(count)]
+
+
+def read_parts(path):
+    """The bytes of all parts that are there, one after the other."""
+    data = b""
+    for part in part_paths(path, 26):
+        if os.path.exists(part):
+            with open(part, "rb") as file:
+                data += file.read()
+    return data
 
 
 # Records from their parts, also wrong ones: nothing is checked here.

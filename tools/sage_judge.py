@@ -12,7 +12,7 @@ import shutil
 import sys
 
 import reference as r
-from frames import ADD, DOUBLE, decoded
+from frames import ADD, DOUBLE, decoded, read_parts
 
 AGAIN = "SAGE_JUDGE_AGAIN"
 CRATE = os.path.join(os.path.dirname(os.path.abspath(__file__)), "..", "crates", "vectors")
@@ -20,8 +20,7 @@ CRATE = os.path.join(os.path.dirname(os.path.abspath(__file__)), "..", "crates",
 
 def done():
     """Every sum and double that was done: curve, the two divisors, and the divisor in the expected line."""
-    with open(os.path.join(CRATE, "data", "vectors"), "rb") as file:
-        frames = decoded(file.read())
+    frames = decoded(read_parts(os.path.join(CRATE, "data", "vectors")))
     with open(os.path.join(CRATE, "stdout"), encoding="ascii") as file:
         lines = file.read().splitlines()
     for frame, line in zip(frames, lines):

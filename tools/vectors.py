@@ -4,7 +4,8 @@
     python3 tools/vectors.py SEED             writes both files and prints the census
     python3 tools/vectors.py SEED --check     writes nothing: reads both files again, answers every frame again, sums
                                               again by ideals.py, makes all anew from SEED, compares, prints the census
-    --input PATH, --expected PATH             other files than crates/vectors/data/vectors and crates/vectors/stdout
+    --input PATH, --expected PATH             other files than crates/vectors/data/vectors (in parts, vectors.a, vectors.b and
+                                              on) and crates/vectors/stdout
 
 Exit 1 if the census falls short of what it must cover (`shortfalls` below) or if a check fails. The format is
 described in frames.py, the answers are reference.py's. The same SEED gives the same bytes.
@@ -20,7 +21,8 @@ import ideals
 import reference as r
 from frames import (
     ADD, CHECK_CURVE, CHECK_DIVISOR, DOUBLE, FIRST_REPEAT, GUARD, MOST_OUTPUT, MULTIPLY, NAMES, OPPOSITE, REWRITE_CURVE,
-    REWRITE_DIVISOR, SCAN, TOTAL_BATCH, WITH_OUTPUT, Frame, answer, curve_record, decoded, divisor_record, encoded, text_of,
+    REWRITE_DIVISOR, SCAN, TOTAL_BATCH, WITH_OUTPUT, Frame, answer, curve_record, decoded, divisor_record, encoded, in_parts, part_paths,
+    read_parts, text_of,
 )  # fmt: skip
 
 PRIMES = (3, 5, 7, 11, 1009, 65537, 2147483629, 2147483647)
@@ -1044,8 +1046,7 @@ def main():
     collection = made(options.seed)
     data = b"".join(map(encoded, collection.frames))
     if options.check:
-        with open(options.input, "rb") as file:
-            given = file.read()
+        given = read_parts(options.input)
         with open(options.expected, "rb") as file:
             expected = file.read().decode("ascii")
     else:
@@ -1064,7 +1065,9 @@ def main():
             short.append("the expected text isn't what the frames answer")
         print("%d sums and doubles agree with ideals.py" % sums_by_ideals(census.frames))
     else:
-        for path, content in ((options.input, given), (options.expected, text.encode("ascii"))):
+        parts = in_parts(collection.frames)
+        files = list(zip(part_paths(options.input, len(parts)), parts)) + [(options.expected, text.encode("ascii"))]
+        for path, content in files:
             os.makedirs(os.path.dirname(os.path.abspath(path)), exist_ok=True)
             with open(path, "wb") as file:
                 file.write(content)

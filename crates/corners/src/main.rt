@@ -2,8 +2,8 @@
 use libc::STDOUT_FILENO;
 
 fn main() {
-    let mut data = frames::data();
-    let mut text = frames::text();
+    let mut data = io::large_buffer();
+    let mut text = io::large_buffer();
     let fd = os::open_read(b"corners");
     let n = io::read_full(fd, &mut data);
     let k = frames::lines(&data[..n], &mut text);

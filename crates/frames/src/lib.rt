@@ -4,19 +4,6 @@ ghost use mathlib.Core.Path.{_≡_};
 ghost use Prim.Native.Nat.{_<_, _≤_};
 ghost use lib.ListN.{length, take};
 
-// Room for a file of frames, and for its lines. The `ensures` give only the lengths, which lending them as slices needs.
-pub fn data() -> [u8; 1048576]
-    ensures { λ r. ⌜ 1048576 ≡ length r ⌝ }
-{
-    [0; 1048576]
-}
-
-pub fn text() -> [u8; 262144]
-    ensures { λ r. ⌜ 262144 ≡ length r ⌝ }
-{
-    [0; 262144]
-}
-
 // What each byte of an output holds before a call, and the longest output.
 const GUARD: u8 = 165;
 
