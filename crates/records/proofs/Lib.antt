@@ -1,6 +1,5 @@
 pub mod Checks
 pub mod Words
-pub mod Head
 pub mod Primes
 pub mod Low
 pub mod Whole

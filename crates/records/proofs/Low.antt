@@ -34,10 +34,11 @@ use Rattle.poly.proofs.Monic.{exact, monic-at}
 use Rattle.curve.specs.declared.Curve.{Curve}
 use Rattle.curve.specs.Curves.{Sound}
 use Rattle.curve.proofs.Few.{next-term}
+use Rattle.heads.specs.Heads.{Headed}
+use Rattle.heads.proofs.Head.{low-rule, behind}
 use Rattle.records.specs.declared.LowRead.{LowRead}
-use Rattle.records.specs.Read.{recordOf, Headed, ToLow, LowsIs, LowIs}
+use Rattle.records.specs.Read.{recordOf, ToLow, LowsIs, LowIs}
 use Rattle.records.proofs.Checks.{otherwise}
-use Rattle.records.proofs.Head.{low-rule, behind}
 use Rattle.records.proofs.Primes.{odd-prime-yes}
 use Rattle.records.proofs.Words.{all-below, one-above, elements-snoc, length-row}
 

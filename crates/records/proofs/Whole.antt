@@ -11,10 +11,11 @@ use Rattle.field.specs.declared.ModulusRead.{ModulusRead}
 use Rattle.field.specs.declared.ModulusRead.the-variants.{Modulo, NoPrime}
 use Rattle.field.specs.Primes.{OddPrime}
 use Rattle.field.specs.Read.{ModulusIs}
+use Rattle.heads.specs.Heads.{HeadIs}
+use Rattle.heads.proofs.Head.{genus-is, low-rule, behind}
 use Rattle.records.specs.declared.CurveRead.{CurveRead}
-use Rattle.records.specs.Read.{HeadIs, CurveIs, ToLow, LowIs}
+use Rattle.records.specs.Read.{CurveIs, ToLow, LowIs}
 use Rattle.records.proofs.Primes.{odd-prime-no}
-use Rattle.records.proofs.Head.{genus-is, low-rule, behind}
 
 module _ (s : List ℕ) where
   refused-as : (n : ℕ) (r : CurveRead) → (n ≡ 0 → ⊥) → r .number ≡ n → read-curve s ≡ refused n 0 → CurveIs s r

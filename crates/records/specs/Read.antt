@@ -4,14 +4,13 @@ use Prim.Native.Nat.{ℕ, suc, _+_, _*_, _≤_, _<_}
 use mathlib.Core.Path.{_≡_}
 use mathlib.Core.Bool.{Bool, true}
 use mathlib.Core.List.{List}
-use lib.Dec.{eqb}
 use lib.ListN.{getD, length, take, drop}
 use Rattle.algebra.proofs.zmod.Zmod.{zmod, emb}
 use Rattle.algebra.proofs.poly.Poly.{coef}
 use Rattle.algebra.proofs.list.Value.{pol as list-pol}
 use Rattle.algebra.proofs.list.Coefs.{coefs}
 use Rattle.rules.specs.Bytes.{word64, words}
-use Rattle.rules.specs.Records.{refused, taken, both, either, CurveRecord, below?, elements, read-curve, divisor-at}
+use Rattle.rules.specs.Records.{refused, taken, CurveRecord, below?, elements, read-curve, divisor-at}
 use Rattle.field.specs.declared.Modulus.{Modulus}
 use Rattle.field.specs.declared.Residue.{Residue}
 use Rattle.field.specs.Residues.{Good, Settles}
@@ -20,6 +19,7 @@ use Rattle.divisor.specs.declared.Divisor.{Divisor}
 use Rattle.divisor.specs.Divisors.{us, vs, pair}
 use Rattle.curve.specs.declared.Curve.{Curve}
 use Rattle.curve.specs.Curves.{Sound, Holds}
+use Rattle.heads.specs.Heads.{Headed}
 use Rattle.records.specs.declared.CurveRead.{CurveRead}
 use Rattle.records.specs.declared.DivisorRead.{DivisorRead}
 use Rattle.records.specs.declared.DivisorRead.the-variants.{Taken, Refused}
@@ -29,24 +29,6 @@ use Rattle.records.specs.declared.Residues.{Residues}
 -- what the record of a curve in code says
 abbrev pub recordOf : Curve → CurveRecord
 recordOf c = record { p = c .m .p; g = c .g; low = coefs (zmod (c .m .p)) (suc (c .g + c .g)) (coef (zmod (c .m .p)) (pol (c .m) (c .f))) }
-
-abbrev pub Marked : List ℕ → Bool
-Marked s = both (eqb (getD s 0 0) 72) (both (eqb (getD s 1 0) 74) (eqb (getD s 2 0) 67))
-
-abbrev pub IsGenus : ℕ → Bool
-IsGenus g = either (eqb g 2) (eqb g 3)
-
--- the first five checks pass
-pub record Headed (s : List ℕ) : Type 0 where
-  pub mark : Marked s ≡ true
-  pub version : getD s 3 0 * 256 + getD s 4 0 ≡ 1
-  pub genus : IsGenus (getD s 5 0) ≡ true
-  pub long : length s ≡ 22 + 16 * getD s 5 0
-
--- they do, or a number other than 0
-pub record HeadIs (s : List ℕ) (n : ℕ) : Type 0 where
-  pub passes : n ≡ 0 → Headed s
-  pub stops : (n ≡ 0 → ⊥) → read-curve s ≡ refused n 0
 
 -- a curve read, or a number other than 0
 pub record CurveIs (s : List ℕ) (r : CurveRead) : Type 0 where

@@ -5,7 +5,7 @@ ghost use lib.ListN.{length};
 ghost use Rattle.rules.specs.Records.{fits};
 ghost use Rattle.field.specs.Residues.{Good};
 ghost use Rattle.curve.specs.Curves.{Sound};
-ghost use Rattle.records.specs.Read.{CurveIs, Marked, IsGenus, HeadIs, ToLow, LowIs, LowsIs, DivisorIs, ResiduesIs, BuiltOf};
+ghost use Rattle.records.specs.Read.{CurveIs, ToLow, LowIs, LowsIs, DivisorIs, ResiduesIs, BuiltOf};
 use curve::Curve;
 use divisor::Cubic;
 use divisor::Divisor;
@@ -38,27 +38,6 @@ pub struct LowRead {
 pub struct Residues {
     pub below: bool,
     pub r: [Residue; 6],
-}
-
-fn marked(s: &[u8]) -> bool
-    requires { ⌜ 6 ≤ length (now s) ⌝ }
-    ensures { λ r. ⌜ r ≡ Marked (now (s .entry)) ⌝ }
-{
-    if s[0] == Curve::MARK[0] {
-        if s[1] == Curve::MARK[1] {
-            return s[2] == Curve::MARK[2];
-        }
-    }
-    false
-}
-
-fn is_genus(g: u64) -> bool
-    ensures { λ r. ⌜ r ≡ IsGenus g ⌝ }
-{
-    if g == 2 {
-        return true;
-    }
-    g == 3
 }
 
 // The coefficients f_0 up to f_2g.
@@ -126,33 +105,10 @@ fn no_curve(number: u64) -> CurveRead
     }
 }
 
-// Refusals 1 to 4: the number, or 0.
-fn head_number(s: &[u8]) -> u64
-    ensures { λ r. ⌜ HeadIs (now (s .entry)) r ⌝ }
-{
-    if s.len() < 6 {
-        return 1;
-    }
-    if marked(s) {
-        if words::wide(s[3]) * 256 + words::wide(s[4]) != Curve::VERSION {
-            return 3;
-        }
-        let g = words::wide(s[5]);
-        if is_genus(g) {
-            if s.len() != 22 + 16 * (g as usize) {
-                return 1;
-            }
-            return 0;
-        }
-        return 4;
-    }
-    2
-}
-
 pub fn read_curve(s: &[u8]) -> CurveRead
     ensures { λ r. ⌜ CurveIs (now (s .entry)) r ⌝ }
 {
-    let number = head_number(s);
+    let number = heads::head_number(s);
     if number != 0 {
         return no_curve(number);
     }

@@ -10,7 +10,7 @@ use lib.ListN.{getD, length}
 use Rattle.rules.specs.Bytes.{word64, words}
 use Rattle.rules.specs.Tests.{square-free?}
 use Rattle.rules.specs.Records.{Checked, refused, taken, choose, either, CurveRecord, curve, odd-prime?, below?, elements, read-curve}
-use Rattle.records.specs.Read.{Marked, IsGenus, Headed, HeadIs}
+use Rattle.heads.specs.Heads.{Marked, IsGenus, Headed, HeadIs}
 
 pub genus-is : (g : ℕ) → IsGenus g ≡ true → (2 ≤ g) × (g ≤ 3)
 genus-is g e = two (eqb g 2) (eqb-true g 2) (eqb g 3) (eqb-true g 3) e

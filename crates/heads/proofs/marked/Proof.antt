@@ -1,7 +1,7 @@
 use borrow.Author.Tests.{eq-eqb, ne-eqb}
 use borrow.Author.Needs.{needs}
-use Rattle.records.proofs.marked.Statement.{statement}
-use Rattle.records.proofs.marked.Tie as tie
+use Rattle.heads.proofs.marked.Statement.{statement}
+use Rattle.heads.proofs.marked.Tie as tie
 
 shared-slice-read-if1 : tie.Need-shared-slice-read-if1
 shared-slice-read-if1 c = search needs

@@ -1,10 +1,10 @@
 use mathlib.Core.Path.{sym, ap, _∙_}
 use native.Mathlib.Omega.{arith}
-use Rattle.records.specs.Read.{IsGenus}
-use Rattle.records.proofs.Head.{too-short, unmarked, other-version, other-genus, other-length, passed}
+use Rattle.heads.specs.Heads.{IsGenus}
+use Rattle.heads.proofs.Head.{too-short, unmarked, other-version, other-genus, other-length, passed}
 use borrow.Author.Needs.{needs}
-use Rattle.records.proofs.head_number.Statement.{statement}
-use Rattle.records.proofs.head_number.Tie as tie
+use Rattle.heads.proofs.head_number.Statement.{statement}
+use Rattle.heads.proofs.head_number.Tie as tie
 
 returns : tie.Need-returns
 returns c = too-short _ (c .if1 .taken)

@@ -1,6 +1,6 @@
 use borrow.Author.Tests.{eq-eqb, ne-eqb}
-use Rattle.records.proofs.is_genus.Statement.{statement}
-use Rattle.records.proofs.is_genus.Tie as tie
+use Rattle.heads.proofs.is_genus.Statement.{statement}
+use Rattle.heads.proofs.is_genus.Tie as tie
 
 returns : tie.Need-returns
 returns c = rw (eq-eqb _ _ (c .if1 .taken))
