@@ -3,8 +3,8 @@ use Prim.Native.Nat.{ℕ}
 use mathlib.Core.Path.{_≡_}
 use mathlib.Core.List.{List}
 use Rattle.rules.specs.Calls.{Answer as RuleAnswer, Multiplied, Totalled, Repeated}
-use Rattle.answers.specs.declared.MultipleAnswer.{MultipleAnswer}
-use Rattle.answers.specs.Answers.{multipleOf}
+use Rattle.sums.specs.declared.MultipleAnswer.{MultipleAnswer}
+use Rattle.sums.specs.Multiples.{multipleOf}
 use Rattle.batches.specs.declared.TotalAnswer.{TotalAnswer}
 use Rattle.batches.specs.Batches.{totalOf}
 use Rattle.flats.specs.declared.YubiRunning.{YubiRunning}

@@ -8,12 +8,12 @@ ghost use Rattle.rules.specs.Calls.{fresh};
 ghost use Rattle.flats.specs.Flats.{flat-running, FlatScanIs};
 ghost use Rattle.tablet.specs.Flat.{flat, flat-multiple, FlatMultiple, flat-total, FlatTotal, flat-repeat, scanned-with};
 use answers::Answer;
-use answers::MultipleAnswer;
 use batches::RepeatAnswer;
 use batches::TotalAnswer;
 use flats::YubiRunning;
 use flats::YubiScanned;
 use running::Running;
+use sums::MultipleAnswer;
 
 #[repr(C)]
 pub struct YubiAnswer {
@@ -121,7 +121,7 @@ pub extern "C" fn yubi_add(curve: &[u8], a: &[u8], b: &[u8], out: &mut [u8]) -> 
     ensures answer { λ r. ⌜ r ≡ flat (add-call (now (curve .entry)) (now (a .entry)) (now (b .entry)) (now (out .entry)) .answer) ⌝ }
     ensures output { λ r. ⌜ now (out .exit) ≡ add-call (now (curve .entry)) (now (a .entry)) (now (b .entry)) (now (out .entry)) .out ⌝ }
 {
-    flatten(answers::add(curve, a, b, out))
+    flatten(sums::add(curve, a, b, out))
 }
 
 #[no_mangle]
@@ -129,7 +129,7 @@ pub extern "C" fn yubi_double(curve: &[u8], a: &[u8], out: &mut [u8]) -> YubiAns
     ensures answer { λ r. ⌜ r ≡ flat (double-call (now (curve .entry)) (now (a .entry)) (now (out .entry)) .answer) ⌝ }
     ensures output { λ r. ⌜ now (out .exit) ≡ double-call (now (curve .entry)) (now (a .entry)) (now (out .entry)) .out ⌝ }
 {
-    flatten(answers::double(curve, a, out))
+    flatten(sums::double(curve, a, out))
 }
 
 #[no_mangle]
@@ -137,7 +137,7 @@ pub extern "C" fn yubi_opposite(curve: &[u8], a: &[u8], out: &mut [u8]) -> YubiA
     ensures answer { λ r. ⌜ r ≡ flat (opposite-call (now (curve .entry)) (now (a .entry)) (now (out .entry)) .answer) ⌝ }
     ensures output { λ r. ⌜ now (out .exit) ≡ opposite-call (now (curve .entry)) (now (a .entry)) (now (out .entry)) .out ⌝ }
 {
-    flatten(answers::opposite(curve, a, out))
+    flatten(sums::opposite(curve, a, out))
 }
 
 #[no_mangle]
@@ -150,7 +150,7 @@ pub extern "C" fn yubi_multiply(
     ensures answer { λ r. ⌜ r ≡ flat-multiple (multiply-call (now (curve .entry)) (now (a .entry)) (now (scalar .entry)) (now (out .entry))) ⌝ }
     ensures output { λ r. ⌜ now (out .exit) ≡ multiply-call (now (curve .entry)) (now (a .entry)) (now (scalar .entry)) (now (out .entry)) .written .out ⌝ }
 {
-    flatten_multiple(answers::multiply(curve, a, scalar, out))
+    flatten_multiple(sums::multiply(curve, a, scalar, out))
 }
 
 fn flatten_total(a: TotalAnswer) -> YubiTotal

@@ -1,6 +1,6 @@
 use mathlib.Core.Path.{ap, sym}
-use Rattle.answers.specs.declared.MultipleAnswer.{MultipleAnswer}
-use Rattle.answers.specs.Answers.{multipleOf}
+use Rattle.sums.specs.declared.MultipleAnswer.{MultipleAnswer}
+use Rattle.sums.specs.Multiples.{multipleOf}
 use Rattle.tablet.specs.Flat.{flat-multiple}
 use borrow.Author.Needs.{needs}
 use Rattle.tablet.proofs.flatten_multiple.Statement.{statement}
