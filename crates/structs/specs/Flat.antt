@@ -9,10 +9,10 @@ use Rattle.batches.specs.declared.TotalAnswer.{TotalAnswer}
 use Rattle.batches.specs.Batches.{totalOf}
 use Rattle.flats.specs.declared.YubiRunning.{YubiRunning}
 use Rattle.flats.specs.declared.YubiScanned.{YubiScanned}
-use Rattle.tablet.specs.declared.YubiAnswer.{YubiAnswer}
-use Rattle.tablet.specs.declared.YubiTotal.{YubiTotal}
-use Rattle.tablet.specs.declared.YubiRepeat.{YubiRepeat}
-use Rattle.tablet.specs.declared.YubiMultiple.{YubiMultiple}
+use Rattle.structs.specs.declared.YubiAnswer.{YubiAnswer}
+use Rattle.structs.specs.declared.YubiTotal.{YubiTotal}
+use Rattle.structs.specs.declared.YubiRepeat.{YubiRepeat}
+use Rattle.structs.specs.declared.YubiMultiple.{YubiMultiple}
 
 abbrev pub flat : RuleAnswer → YubiAnswer
 flat a = record { number = a .number; place = a .place; length = a .length }
