@@ -11,8 +11,7 @@ use Rattle.algebra.proofs.poly.Poly.{coef}
 use Rattle.algebra.proofs.list.Coefs.{length-coefs}
 use Rattle.rules.specs.Bytes.{bytes64, all-bytes}
 use Rattle.rules.specs.Records.{numbers, curve-bytes, divisor-bytes}
-use Rattle.rules.specs.Multiple.{doublings, additions}
-use Rattle.rules.specs.Calls.{Written, Multiplied, left-as-is, write, multiplied, not-multiplied, done}
+use Rattle.rules.specs.Calls.{Written, left-as-is, write, done}
 use Rattle.divisor.specs.declared.Divisor.{Divisor}
 use Rattle.divisor.specs.Divisors.{weightOf, pair}
 use Rattle.field.specs.declared.Modulus.{Modulus}
@@ -59,12 +58,6 @@ module _ (out bytes : List ℕ) where
 
     pub wrote-all : (n ≡ 0 → ⊥) → Wrote (Done n) o (write out bytes)
     wrote-all e = record { answer = sym (ap (λ (w : Written). w .answer) (write-all e)); bytes = sym (ap (λ (w : Written). w .out) (write-all e)) }
-
-    pub multiplied-none : (k : ℕ) → n ≡ 0 → not-multiplied o 13 0 ≡ multiplied (write out bytes) k
-    multiplied-none k e = ap (λ (l : List ℕ). not-multiplied l 13 0) (h .kept e) ∙ sym (ap (λ (w : Written). multiplied w k) (write-none e))
-
-    pub multiplied-all : (k : ℕ) → (n ≡ 0 → ⊥) → _≡_ {A = Multiplied} (record { written = record { answer = done n; out = o }; doublings = doublings k; additions = additions k }) (multiplied (write out bytes) k)
-    multiplied-all k e = sym (ap (λ (w : Written). multiplied w k) (write-all e))
 
 -- ---- a refusal before anything was written, and a call that goes on as another rule says
 pub refused-as : {n k : ℕ} {out : List ℕ} {rule : Written} → rule ≡ left-as-is out n k → Wrote (Refused n k) out rule

@@ -6,14 +6,12 @@ use mathlib.Core.List.{List}
 use lib.ListN.{length}
 use lib.Seq.{sets}
 use Rattle.rules.specs.Records.{Checked, refused, taken, CurveRecord, PairOf, read-curve, read-divisor}
-use Rattle.rules.specs.Calls.{Answer as RuleAnswer, Written, Multiplied, refusal, done, check}
+use Rattle.rules.specs.Calls.{Answer as RuleAnswer, Written, refusal, done, check}
 use Rattle.divisor.specs.Divisors.{pair}
 use Rattle.curve.specs.Curves.{Sound, Holds}
 use Rattle.records.specs.Read.{recordOf}
 use Rattle.answers.specs.declared.Answer.{Answer}
 use Rattle.answers.specs.declared.Answer.the-variants.{Done, Refused}
-use Rattle.answers.specs.declared.MultipleAnswer.{MultipleAnswer}
-use Rattle.answers.specs.declared.MultipleAnswer.the-variants.{Done as DoneMultiple, Refused as RefusedMultiple}
 use Rattle.answers.specs.declared.One.{One}
 
 -- number, place and length of an answer
@@ -33,14 +31,6 @@ pub record PutIs (out bytes o : List ℕ) (n : ℕ) : Type 0 where
 pub record Wrote (r : Answer) (out : List ℕ) (rule : Written) : Type 0 where
   pub answer : answerOf r ≡ rule .answer
   pub bytes : out ≡ rule .out
-
--- with the two counts
-abbrev pub multipleOf : MultipleAnswer → List ℕ → Multiplied
-multipleOf (DoneMultiple n d a) out = record { written = record { answer = done n; out = out }; doublings = d; additions = a }
-multipleOf (RefusedMultiple n k) out = record { written = record { answer = refusal n k; out = out }; doublings = 0; additions = 0 }
-
-abbrev pub MultipleIs : MultipleAnswer → List ℕ → Multiplied → Type 0
-MultipleIs r out rule = multipleOf r out ≡ rule
 
 -- ---- a curve and the first divisor on it
 abbrev pub FirstRead : Type 0

@@ -1,25 +1,18 @@
 // The calls inside Rattle, in the shape of document 01: records in as bytes, each checked here and once; an enum out, and the result at the
-// front of the output. Every promise is an equation with the call's rule.
+// front of the output. Every promise is an equation with the call's rule. Here: what reads and what writes, the checks and the rewrites.
 ghost use mathlib.Core.Path.{_≡_};
-ghost use Rattle.rules.specs.Calls.{check-curve, check-divisor, rewrite-curve, rewrite-divisor, double-call, opposite-call, add-call, multiply-call, write};
+ghost use Rattle.rules.specs.Calls.{check-curve, check-divisor, rewrite-curve, rewrite-divisor, write};
 ghost use Rattle.rules.specs.Records.{divisor-bytes};
 ghost use Rattle.divisor.specs.Divisors.{pair, Held};
-ghost use Rattle.answers.specs.Answers.{answerOf, OneIs, PutIs, Wrote, MultipleIs};
+ghost use Rattle.answers.specs.Answers.{answerOf, OneIs, PutIs, Wrote};
 use curve::Curve;
 use divisor::Divisor;
 use field::Modulus;
-use multiple::Multiple;
 use records::DivisorRead;
 
 // Done, with the length written, or a number and its place.
 pub enum Answer {
     Done(u64),
-    Refused(u64, u64),
-}
-
-// Done, with the length and the two counts.
-pub enum MultipleAnswer {
-    Done(u64, u64, u64),
     Refused(u64, u64),
 }
 
@@ -134,64 +127,4 @@ pub fn rewrite_divisor(curve: &[u8], a: &[u8], out: &mut [u8]) -> Answer
     let c = x.curve;
     let d = x.divisor;
     write_answer(d, c.m, out)
-}
-
-pub fn double(curve: &[u8], a: &[u8], out: &mut [u8]) -> Answer
-    ensures { λ r. ⌜ Wrote r (now (out .exit)) (double-call (now (curve .entry)) (now (a .entry)) (now (out .entry))) ⌝ }
-{
-    let x = read_one(curve, a);
-    if x.number != 0 {
-        return Answer::Refused(x.number, x.place);
-    }
-    let c = x.curve;
-    let d = x.divisor;
-    write_answer(c.double(d), c.m, out)
-}
-
-pub fn opposite(curve: &[u8], a: &[u8], out: &mut [u8]) -> Answer
-    ensures { λ r. ⌜ Wrote r (now (out .exit)) (opposite-call (now (curve .entry)) (now (a .entry)) (now (out .entry))) ⌝ }
-{
-    let x = read_one(curve, a);
-    if x.number != 0 {
-        return Answer::Refused(x.number, x.place);
-    }
-    let c = x.curve;
-    let d = x.divisor;
-    write_answer(c.opposite(d), c.m, out)
-}
-
-pub fn add(curve: &[u8], a: &[u8], b: &[u8], out: &mut [u8]) -> Answer
-    ensures { λ r. ⌜ Wrote r (now (out .exit)) (add-call (now (curve .entry)) (now (a .entry)) (now (b .entry)) (now (out .entry))) ⌝ }
-{
-    let x = read_one(curve, a);
-    if x.number != 0 {
-        return Answer::Refused(x.number, x.place);
-    }
-    let c = x.curve;
-    let d = x.divisor;
-    match records::divisor_at(c, true, b, 0) {
-        DivisorRead::Taken(y) => write_answer(c.sum(d, y), c.m, out),
-        DivisorRead::Refused(n) => Answer::Refused(n, 2),
-    }
-}
-
-pub fn multiply(curve: &[u8], a: &[u8], scalar: &[u8], out: &mut [u8]) -> MultipleAnswer
-    ensures { λ r. ⌜ MultipleIs r (now (out .exit)) (multiply-call (now (curve .entry)) (now (a .entry)) (now (scalar .entry)) (now (out .entry))) ⌝ }
-{
-    let x = read_one(curve, a);
-    if x.number != 0 {
-        return MultipleAnswer::Refused(x.number, x.place);
-    }
-    if 32 < scalar.len() {
-        return MultipleAnswer::Refused(12, 0);
-    }
-    let c = x.curve;
-    let d = x.divisor;
-    let y = Multiple::of(c, d, scalar);
-    let e = y.divisor;
-    let n = write_out(e, c.m, out);
-    if n == 0 {
-        return MultipleAnswer::Refused(13, 0);
-    }
-    MultipleAnswer::Done(n, y.doublings, y.additions)
 }

@@ -3,10 +3,10 @@
 ghost use Prim.Native.Nat.{_<_};
 use flats::YubiRunning;
 use flats::YubiScanned;
-use tablet::YubiAnswer;
-use tablet::YubiMultiple;
-use tablet::YubiRepeat;
-use tablet::YubiTotal;
+use structs::YubiAnswer;
+use structs::YubiMultiple;
+use structs::YubiRepeat;
+use structs::YubiTotal;
 
 fn wide(x: u8) -> u64
     ensures { λ r. ⌜ r < 256 ⌝ }

@@ -2,7 +2,7 @@ use mathlib.Core.Path.{sym}
 use Rattle.tablet.proofs.Outputs.{multiple-out}
 use mathlib.Core.Path.{ap, _∙_}
 use Rattle.rules.specs.Calls.{Multiplied}
-use Rattle.tablet.specs.Flat.{flat-multiple}
+use Rattle.structs.specs.Flat.{flat-multiple}
 use borrow.Author.Needs.{needs}
 use Rattle.tablet.proofs.yubi_multiply.Statement.{statement}
 use Rattle.tablet.proofs.yubi_multiply.Tie as tie

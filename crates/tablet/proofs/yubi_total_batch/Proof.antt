@@ -1,7 +1,7 @@
 use mathlib.Core.Path.{ap, sym, _∙_}
 use Rattle.tablet.proofs.Outputs.{total-out}
 use Rattle.rules.specs.Calls.{Totalled}
-use Rattle.tablet.specs.Flat.{flat-total}
+use Rattle.structs.specs.Flat.{flat-total}
 use borrow.Author.Needs.{needs}
 use Rattle.tablet.proofs.yubi_total_batch.Statement.{statement}
 use Rattle.tablet.proofs.yubi_total_batch.Tie as tie

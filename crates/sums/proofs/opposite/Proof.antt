@@ -1,9 +1,9 @@
 use Rattle.rules.specs.Calls.{opposite-call}
 use Rattle.answers.proofs.Calls.{one-refused, one-done}
 use Rattle.rules.specs.Pair.{opposite}
 use borrow.Author.Needs.{needs}
-use Rattle.answers.proofs.opposite.Statement.{statement}
-use Rattle.answers.proofs.opposite.Tie as tie
+use Rattle.sums.proofs.opposite.Statement.{statement}
+use Rattle.sums.proofs.opposite.Tie as tie
 
 read-one-requires : tie.Need-read-one-requires
 read-one-requires c κs = search needs

@@ -1,10 +1,10 @@
 use mathlib.Core.Path.{ap, sym}
 use Rattle.answers.specs.declared.Answer.{Answer}
 use Rattle.answers.specs.Answers.{answerOf}
-use Rattle.tablet.specs.Flat.{flat}
+use Rattle.structs.specs.Flat.{flat}
 use borrow.Author.Needs.{needs}
-use Rattle.tablet.proofs.flatten.Statement.{statement}
-use Rattle.tablet.proofs.flatten.Tie as tie
+use Rattle.structs.proofs.flatten.Statement.{statement}
+use Rattle.structs.proofs.flatten.Tie as tie
 
 enum-known-a : tie.Need-enum-known-a
 enum-known-a c = search needs

@@ -1,7 +1,7 @@
-use Rattle.answers.proofs.Calls.{multiply-refused, multiply-long, multiply-short, multiply-done}
+use Rattle.sums.proofs.Calls.{multiply-refused, multiply-long, multiply-short, multiply-done}
 use borrow.Author.Needs.{needs}
-use Rattle.answers.proofs.multiply.Statement.{statement}
-use Rattle.answers.proofs.multiply.Tie as tie
+use Rattle.sums.proofs.multiply.Statement.{statement}
+use Rattle.sums.proofs.multiply.Tie as tie
 
 read-one-requires : tie.Need-read-one-requires
 read-one-requires c κs = search needs

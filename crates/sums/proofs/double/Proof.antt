@@ -1,10 +1,10 @@
 use Rattle.rules.specs.Calls.{double-call}
 use Rattle.answers.proofs.Calls.{one-refused, one-done}
 use Rattle.rules.specs.Records.{curve}
 use Rattle.rules.specs.Sum.{double}
 use borrow.Author.Needs.{needs}
-use Rattle.answers.proofs.double.Statement.{statement}
-use Rattle.answers.proofs.double.Tie as tie
+use Rattle.sums.proofs.double.Statement.{statement}
+use Rattle.sums.proofs.double.Tie as tie
 
 read-one-requires : tie.Need-read-one-requires
 read-one-requires c κs = search needs

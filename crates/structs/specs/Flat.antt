@@ -3,16 +3,16 @@ use Prim.Native.Nat.{ℕ}
 use mathlib.Core.Path.{_≡_}
 use mathlib.Core.List.{List}
 use Rattle.rules.specs.Calls.{Answer as RuleAnswer, Multiplied, Totalled, Repeated}
-use Rattle.answers.specs.declared.MultipleAnswer.{MultipleAnswer}
-use Rattle.answers.specs.Answers.{multipleOf}
+use Rattle.sums.specs.declared.MultipleAnswer.{MultipleAnswer}
+use Rattle.sums.specs.Multiples.{multipleOf}
 use Rattle.batches.specs.declared.TotalAnswer.{TotalAnswer}
 use Rattle.batches.specs.Batches.{totalOf}
 use Rattle.flats.specs.declared.YubiRunning.{YubiRunning}
 use Rattle.flats.specs.declared.YubiScanned.{YubiScanned}
-use Rattle.tablet.specs.declared.YubiAnswer.{YubiAnswer}
-use Rattle.tablet.specs.declared.YubiTotal.{YubiTotal}
-use Rattle.tablet.specs.declared.YubiRepeat.{YubiRepeat}
-use Rattle.tablet.specs.declared.YubiMultiple.{YubiMultiple}
+use Rattle.structs.specs.declared.YubiAnswer.{YubiAnswer}
+use Rattle.structs.specs.declared.YubiTotal.{YubiTotal}
+use Rattle.structs.specs.declared.YubiRepeat.{YubiRepeat}
+use Rattle.structs.specs.declared.YubiMultiple.{YubiMultiple}
 
 abbrev pub flat : RuleAnswer → YubiAnswer
 flat a = record { number = a .number; place = a .place; length = a .length }

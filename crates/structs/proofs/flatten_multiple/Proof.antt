@@ -1,10 +1,10 @@
 use mathlib.Core.Path.{ap, sym}
-use Rattle.answers.specs.declared.MultipleAnswer.{MultipleAnswer}
-use Rattle.answers.specs.Answers.{multipleOf}
-use Rattle.tablet.specs.Flat.{flat-multiple}
+use Rattle.sums.specs.declared.MultipleAnswer.{MultipleAnswer}
+use Rattle.sums.specs.Multiples.{multipleOf}
+use Rattle.structs.specs.Flat.{flat-multiple}
 use borrow.Author.Needs.{needs}
-use Rattle.tablet.proofs.flatten_multiple.Statement.{statement}
-use Rattle.tablet.proofs.flatten_multiple.Tie as tie
+use Rattle.structs.proofs.flatten_multiple.Statement.{statement}
+use Rattle.structs.proofs.flatten_multiple.Tie as tie
 
 enum-known-a : tie.Need-enum-known-a
 enum-known-a c = search needs

@@ -3,10 +3,10 @@ use mathlib.Core.Bool.{true}
 use mathlib.Core.Path.{subst}
 use Rattle.records.specs.declared.DivisorRead.{DivisorRead}
 use Rattle.records.specs.Read.{DivisorIs}
-use Rattle.answers.proofs.Calls.{add-refused, add-second, add-done}
+use Rattle.sums.proofs.Calls.{add-refused, add-second, add-done}
 use borrow.Author.Needs.{needs}
-use Rattle.answers.proofs.add.Statement.{statement}
-use Rattle.answers.proofs.add.Tie as tie
+use Rattle.sums.proofs.add.Statement.{statement}
+use Rattle.sums.proofs.add.Tie as tie
 
 read-one-requires : tie.Need-read-one-requires
 read-one-requires c κs = search needs

@@ -1,10 +1,10 @@
 use mathlib.Core.Path.{ap, sym}
 use Rattle.batches.specs.declared.RepeatAnswer.{RepeatAnswer}
 use Rattle.batches.specs.Batches.{repeatOf}
-use Rattle.tablet.specs.Flat.{flat-repeat}
+use Rattle.structs.specs.Flat.{flat-repeat}
 use borrow.Author.Needs.{needs}
-use Rattle.tablet.proofs.flatten_repeat.Statement.{statement}
-use Rattle.tablet.proofs.flatten_repeat.Tie as tie
+use Rattle.structs.proofs.flatten_repeat.Statement.{statement}
+use Rattle.structs.proofs.flatten_repeat.Tie as tie
 
 enum-known-a : tie.Need-enum-known-a
 enum-known-a c = search needs

@@ -1,10 +1,10 @@
 use mathlib.Core.Path.{ap, sym}
 use Rattle.batches.specs.declared.TotalAnswer.{TotalAnswer}
 use Rattle.batches.specs.Batches.{totalOf}
-use Rattle.tablet.specs.Flat.{flat-total}
+use Rattle.structs.specs.Flat.{flat-total}
 use borrow.Author.Needs.{needs}
-use Rattle.tablet.proofs.flatten_total.Statement.{statement}
-use Rattle.tablet.proofs.flatten_total.Tie as tie
+use Rattle.structs.proofs.flatten_total.Statement.{statement}
+use Rattle.structs.proofs.flatten_total.Tie as tie
 
 enum-known-a : tie.Need-enum-known-a
 enum-known-a c = search needs
