@@ -58,18 +58,20 @@ module _ (m : Modulus) (a T : P m .El) (s n : ℕ) where
       term-is : term (K m) (cf T k) j ≡ xs *P term (K m) (cf T k) k
       term-is = ap₂ (term (K m)) (sym (K m .one-mul (cf T k))) ej ∙ sym (term-mul (K m) 𝟙 (cf T k) s k)
 
-  module _ (i : ℕ) (start : Below (K m) i (cf a)) (end : Below (K m) n (cf T)) where
-    sum-below : Below (K m) (max i (s + n)) (cf (a +P xs *P T))
-    sum-below k l = at (K m) (coef-add (K m) a (xs *P T)) k
-        ∙ ap₂ _⊕_ (start k (omega arith)) (ap (cf (xs *P T)) {x = k} {y = s + (k - s)} (omega arith) ∙ coef-shift (K m) 𝟙 s (k - s) T ∙ ap (λ u. 𝟙 ⊗ u) (end (k - s) (omega arith)) ∙ mul-zer (K m) 𝟙)
-        ∙ K m .zer-add 𝟘
+  module _ (end : Below (K m) n (cf T)) where
+    -- all of T is there
+    pub build-is : {l : List Residue} {k : ℕ} → Built l k → n ≤ k → polL m l ≡ a +P xs *P T
+    build-is {l} {k} b over = b .is ∙ ap (λ j. a +P xs *P part (K m) j (cf T)) {x = k} {y = n} (omega (arith, b .within)) ∙ ap (λ u. a +P xs *P u) (part-all (K m) n T end)
 
-    module _ {l : List Residue} {k top : ℕ} (b : Built l k) (over : n ≤ k) (et : top ≡ max i (s + n)) where
-      sum-is : polL m l ≡ a +P xs *P T
-      sum-is = b .is ∙ ap (λ j. a +P xs *P part (K m) j (cf T)) {x = k} {y = n} (omega (arith, b .within)) ∙ ap (λ u. a +P xs *P u) (part-all (K m) n T end)
+    module _ (i : ℕ) (start : Below (K m) i (cf a)) where
+      sum-below : Below (K m) (max i (s + n)) (cf (a +P xs *P T))
+      sum-below k l = at (K m) (coef-add (K m) a (xs *P T)) k
+          ∙ ap₂ _⊕_ (start k (omega arith)) (ap (cf (xs *P T)) {x = k} {y = s + (k - s)} (omega arith) ∙ coef-shift (K m) 𝟙 s (k - s) T ∙ ap (λ u. 𝟙 ⊗ u) (end (k - s) (omega arith)) ∙ mul-zer (K m) 𝟙)
+          ∙ K m .zer-add 𝟘
 
-      pub build-held : i ≤ room → s + n ≤ room → Held m l top
-      build-held hi hs = record { len = omega arith; fill = b .fill; end = λ j h. ap (λ u. cf u j) sum-is ∙ sum-below j (omega arith) }
+      module _ {l : List Residue} {k top : ℕ} (b : Built l k) (over : n ≤ k) (et : top ≡ max i (s + n)) where
+        pub build-held : i ≤ room → s + n ≤ room → Held m l top
+        build-held hi hs = record { len = omega arith; fill = b .fill; end = λ j h. ap (λ u. cf u j) (build-is b over) ∙ sum-below j (omega arith) }
 
-      pub build-end : {w : Po} {r : ℕ} → top ≤ room → Size m l top r → a +P xs *P T ≡ w → Is m (record { c = l; n = r }) w (max i (s + n))
-      build-end hr z e = record { ok = record { len = omega (arith, z .within); fill = b .fill; size = z .size }; is = sum-is ∙ e; short = omega (arith, z .within) }
+        pub build-end : {w : Po} {r : ℕ} → top ≤ room → Size m l top r → a +P xs *P T ≡ w → Is m (record { c = l; n = r }) w (max i (s + n))
+        build-end hr z e = record { ok = record { len = omega (arith, z .within); fill = b .fill; size = z .size }; is = build-is b over ∙ e; short = omega (arith, z .within) }

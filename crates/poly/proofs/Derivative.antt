@@ -65,8 +65,8 @@ module _ (m : Modulus) (a : Poly) where
 
     module _ {l : List Residue} {i : Residue} {k : ℕ} (v : Deriving l i k) (over : a .n ≤ k + 1) where
       pub derive-held : Held m l k
-      derive-held = build-held m 0P D 0 (a .n - 1) 0 (λ j g. at (K m) (coef-zer (K m)) j) der-below (v .built) (omega arith) (omega (arith, v .built .within)) (omega arith) (omega (arith, h .len))
+      derive-held = build-held m 0P D 0 (a .n - 1) der-below 0 (λ j g. at (K m) (coef-zer (K m)) j) (v .built) (omega arith) (omega (arith, v .built .within)) (omega arith) (omega (arith, h .len))
 
       pub derive-end : {r : ℕ} → Size m l k r → Is m (record { c = l; n = r }) D (a .n - 1)
-      derive-end z = recast m (build-end m 0P D 0 (a .n - 1) 0 (λ j g. at (K m) (coef-zer (K m)) j) der-below (v .built) (omega arith) (omega (arith, v .built .within)) (omega (arith, v .built .within, h .len)) z
+      derive-end z = recast m (build-end m 0P D 0 (a .n - 1) der-below 0 (λ j g. at (K m) (coef-zer (K m)) j) (v .built) (omega arith) (omega (arith, v .built .within)) (omega (arith, v .built .within, h .len)) z
           (ap (λ t. 0P +P t *P D) (term-one (K m)) ∙ ring (P m) (D ∷ []) (search quote depth 40) refl)) refl (omega arith)

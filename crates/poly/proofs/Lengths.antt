@@ -8,7 +8,10 @@ use Rattle.algebra.proofs.ring.CRing.{CRing}
 use Rattle.algebra.proofs.poly.Bound.{Below}
 use Rattle.algebra.proofs.poly.Poly.{coef, coef-zer, poly-ext}
 use Rattle.algebra.proofs.poly.Term.{at}
+use Rattle.algebra.proofs.poly.Degree.{Degree}
 use Rattle.field.specs.declared.Modulus.{Modulus}
+use Rattle.field.specs.Residues.{Good}
+use Rattle.field.proofs.Laws.{residue-field}
 use Rattle.poly.specs.declared.Poly.{Poly}
 use Rattle.poly.specs.Polys.{K, P, pol, Ok, Is}
 use Rattle.poly.specs.Contracts.{IsDegree}
@@ -46,5 +49,8 @@ module _ (m : Modulus) where
   pub recast : {r : Poly} {v w : Po} {i n : ℕ} → Is m r v i → v ≡ w → i ≤ n → Is m r w n
   recast h e l = record { ok = h .ok; is = h .is ∙ e; short = omega (arith, h .short) }
 
+  pub degree-of : (g : Good m) (r : Poly) → Ok m r → 0 < r .n → Degree (residue-field m g) (r .n - 1) (pol m r)
+  degree-of g r h l = record { below = λ k i. h .size .end k (omega arith); top = h .size .top l }
+
 pub degree-is : (r : Poly) → 0 < r .n → IsDegree r (r .n - 1)
-degree-is r l = λ m h. record { below = λ k g. h .size .end k (omega arith); top = h .size .top l }
+degree-is r l = λ m h. degree-of m (h .fill .good) r h l

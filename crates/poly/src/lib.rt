@@ -167,17 +167,33 @@ impl Poly {
         Poly::zero(m).plus_row(x, 0, self, m)
     }
 
+    // Row by row, in place: two loops in one function, since a call for each row would copy the polynomial twice.
     pub fn mul(self, other: Poly, m: Modulus) -> Poly
         requires { ⌜ Product m self other ⌝ }
         ensures { λ r. ⌜ Is m r (P m .mul (pol m self) (pol m other)) (self .n + other .n - 1) ⌝ }
     {
         let mut r = Poly::zero(m);
         let n = self.n;
+        let l = other.n;
+        if n == 0 {
+            return r;
+        }
+        if l == 0 {
+            return r;
+        }
         let mut i: usize = 0;
-        while i < n {
-            r = r.plus_row(self.get(i), i, other, m);
+        'rows: while i < n {
+            let x = self.c[i];
+            let mut k: usize = 0;
+            while k < l {
+                let j = i + k;
+                let y = r.c[j].add(x.mul(other.c[k], m), m);
+                r.c[j] = y;
+                k += 1;
+            }
             i += 1;
         }
+        r.n = n + l - 1;
         r
     }
 

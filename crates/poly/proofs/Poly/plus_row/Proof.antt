@@ -1,21 +1,21 @@
 use borrow.Author.Needs.{needs}
-use mathlib.Core.Path.{_≡_}
+use mathlib.Core.Path.{_≡_, refl}
 use lib.ListN.{length}
 use Prim.Native.Nat.{_-_}
-use Rattle.poly.specs.Polys.{room}
+use Rattle.poly.specs.Polys.{room, pol}
 use Rattle.poly.proofs.Stored.{length-of}
 use Rattle.poly.proofs.Rows.{Rowing, row-begin, row-turn, row-held, row-end}
 use Rattle.poly.proofs.Poly.plus_row.Statement.{statement}
 use Rattle.poly.proofs.Poly.plus_row.Tie as tie
 
 abbrev Inv-loop : tie.InvT-loop
-Inv-loop self x s other m r₀ n k₀ r k = Rowing m self x s other (r .c) k
+Inv-loop self x s other m r₀ n k₀ r k = Rowing m (pol m self) x s other (r .c) k
 
 abbrev μ-loop : tie.MeasureT-loop
 μ-loop self x s other m r₀ n k₀ r k = n - k
 
 loop-holds : tie.Need-loop-holds Inv-loop μ-loop
-loop-holds c = let e : length (c .args .self .c) ≡ room = search (needs, length-of) in row-begin (c .args .m) (c .args .self) (c .args .x) (c .args .s) (c .args .other) (c .pre) e
+loop-holds c = let e : length (c .args .self .c) ≡ room = search (needs, length-of) in row-begin (c .args .m) (pol (c .args .m) (c .args .self)) (c .args .x) (c .args .s) (c .args .other) (c .pre .right) (c .pre .fits) e (c .pre .left .fill) refl
 
 add-j : tie.Need-add-j Inv-loop μ-loop
 add-j c = search needs
@@ -49,7 +49,7 @@ loop-again c =
     let s = c .before .before .before .before .before .before in
     let m = s .args .m in
     let i = c .before .before .before .before .before .loop in
-    row-turn m (s .args .self) (s .args .x) (s .args .s) (s .args .other) (s .pre) (i .inv) (c .before .before .before .before .loop-test .taken) (c .before .before .before .get .ensures m (i .inv .fill)) (c .before .before .get2 .ensures m (s .pre .right .fill)) (c .before .mul .ensures) (c .add .ensures)
+    row-turn m (pol m (s .args .self)) (s .args .x) (s .args .s) (s .args .other) (s .pre .right) (s .pre .fits) (i .inv) (c .before .before .before .before .loop-test .taken) (c .before .before .before .get .ensures m (i .inv .fill)) (c .before .before .get2 .ensures m (s .pre .right .fill)) (c .before .mul .ensures) (c .add .ensures)
 
 add-larger : tie.Need-add-larger Inv-loop μ-loop
 add-larger c = search needs
@@ -58,10 +58,10 @@ larger-requires : tie.Need-larger-requires Inv-loop μ-loop
 larger-requires c κs = search needs
 
 size-requires : tie.Need-size-requires Inv-loop μ-loop
-size-requires c κs = let s = c .before .before .before in row-held (s .args .m) (s .args .self) (s .args .x) (s .args .s) (s .args .other) (s .pre) (c .before .before .loop .inv) (c .before .loop-test .left) (c .larger .ensures)
+size-requires c κs = let s = c .before .before .before in row-held (s .args .m) (pol (s .args .m) (s .args .self)) (s .args .x) (s .args .s) (s .args .other) (s .pre .right) (s .pre .fits) (c .before .before .loop .inv) (c .before .loop-test .left) (s .pre .left .size .end) (c .larger .ensures) (s .pre .left .len)
 
 returns : tie.Need-returns Inv-loop μ-loop
-returns c = let s = c .before .before .before .before in row-end (s .args .m) (s .args .self) (s .args .x) (s .args .s) (s .args .other) (s .pre) (c .before .before .before .loop .inv) (c .before .before .loop-test .left) (c .before .larger .ensures) (c .size .ensures)
+returns c = let s = c .before .before .before .before in row-end (s .args .m) (pol (s .args .m) (s .args .self)) (s .args .x) (s .args .s) (s .args .other) (s .pre .right) (s .pre .fits) (c .before .before .before .loop .inv) (c .before .before .loop-test .left) (s .pre .left .size .end) (c .before .larger .ensures) (s .pre .left .len) (c .size .ensures)
 
 pub plus-row-spec : {M : Type 1} → statement M
 plus-row-spec =
