@@ -12,7 +12,7 @@ use Rattle.algebra.proofs.poly.Degree.{Degree, degree-mul}
 use Rattle.algebra.proofs.poly.Build.{part, part-all}
 use Rattle.field.specs.declared.Residue.{Residue}
 use Rattle.field.specs.declared.Modulus.{Modulus}
-use Rattle.field.specs.Residues.{Good, Stands}
+use Rattle.field.specs.Residues.{el, Good, Stands}
 use Rattle.field.proofs.Laws.{residue-field}
 use Rattle.poly.specs.declared.Poly.{Poly}
 use Rattle.poly.specs.Polys.{room, K, P, polL, pol, Filled, Is}
@@ -39,13 +39,19 @@ module _ (m : Modulus) (a b : Poly) where
   mul-begin h e = record { within = omega arith; long = e; fill = h .ok .fill; is = h .is ∙ ring (P m) (pol m b ∷ []) (search quote depth 40) refl }
 
   module _ (h : Product m a b) where
-    pub mul-turn : {l j : List Residue} {i k : ℕ} {x : Residue} → Multiplying l i → i < a .n → Stands m x (coef (K m) (pol m a) i) → Rowing m (polL m l) x i b j k → b .n ≤ k → Multiplying j (i + 1)
+    pub cell-in : {i k : ℕ} → i < a .n → k < b .n → i + k < room
+    cell-in l g = omega (arith, h .fits)
+
+    pub row-fits : {i : ℕ} → i < a .n → i + b .n ≤ room
+    row-fits l = omega (arith, h .fits)
+
+    pub mul-turn : {l j : List Residue} {i k : ℕ} {x : Residue} → Multiplying l i → i < a .n → Stands m x (coef (K m) (pol m a) i) → Rowing m (polL m l) (el m x) i b j k → b .n ≤ k → Multiplying j (i + 1)
     unfolding part
     mul-turn {l} {j} {i} {k} {x} v lt hx row over = record {
       within = omega arith;
       long = row .long;
       fill = row .fill;
-      is = row-is m (polL m l) x i b (h .right) (omega (arith, h .fits)) row over
+      is = row-is m (polL m l) (el m x) i b (h .right) (omega (arith, h .fits)) row over
           ∙ ap₂ (λ t u. t +P term (K m) u i *P pol m b) (v .is) (hx .is)
           ∙ ring (P m) (first i ∷ pol m b ∷ term (K m) (coef (K m) (pol m a) i) i ∷ []) (search quote depth 40) refl
           ∙ ap (λ n. first n *P pol m b) {x = suc i} {y = i + 1} (omega arith);
