@@ -197,7 +197,7 @@ impl Residue {
         Residue(rest)
     }
 
-    // a * y = x throughout, and x falls to p % x, which isn't 0 while 1 < x, until it is 1.
+    // a * y = x throughout, and x falls to p % x, which isn't 0 while 1 < x, until it is 1. So no new y is 0 modulo p, and y stays below p.
     pub fn inverse(self, m: Modulus) -> Residue
         requires { ⌜ Unit m self ⌝ }
         ensures { λ r. ⌜ Inverts m self r ⌝ }
@@ -208,7 +208,7 @@ impl Residue {
         let mut y: u64 = 1;
         while 1 < x {
             let q = p / x;
-            y = (p - q * y % p) % p;
+            y = p - q * y % p;
             x = p % x;
         }
         Residue(y)
