@@ -14,8 +14,8 @@ use Rattle.poly.specs.declared.Poly.{Poly}
 use Rattle.poly.specs.Polys.{K, P, pol, Ok, Is}
 use Rattle.poly.specs.Contracts.{Divided}
 use Rattle.euclid.specs.declared.Line.{Line}
-use Rattle.euclid.specs.Euclid.{OkL, Lessens, Taken, Less, Scaled, Xgcd}
-use Rattle.euclid.proofs.Common.{Euclid, euclid-begin, euclid-turn, euclid-end}
+use Rattle.euclid.specs.Euclid.{OkL, Lessens, Taken, Less, Scaled, Gcd, Xgcd}
+use Rattle.euclid.proofs.Common.{Euclid, euclid-begin, euclid-turn, euclid-end, euclid-stop}
 
 -- lengths: xr, yr of the two r, and xs, ys of their cofactors in one column
 pub record Column (B xr yr xs ys : ℕ) : Type 0 where
@@ -107,17 +107,25 @@ module _ (m : Modulus) where
         t = column-turn (v .t) (h .t) (d .short) (d .rest) (d .less);
       })
 
-  pub extended-end : {a b : Poly} {x y u : Line} → Extended a b x y → y .r .n ≡ 0 → Scaled m x u → Xgcd m a b u
-  extended-end {a} {b} {x} {y} {u} v e h = record {
-    gcd = euclid-end m (v .core) e (h .r);
+  -- z, one of the two lines, made monic
+  finish : {a b : Poly} {z u : Line} → Gcd m a b (u .r) → pol m (z .r) ≡ pol m (z .s) *P pol m a +P pol m (z .t) *P pol m b
+      → z .s .n ≤ max 1 (b .n - z .r .n) → z .t .n ≤ max 1 (a .n - z .r .n) → Scaled m z u → Xgcd m a b u
+  finish {a} {b} {z} {u} g e hs ht h = record {
+    gcd = g;
     ok-s = h .s .ok;
     ok-t = h .t .ok;
-    is = h .r .is ∙ ap (λ t. up *P t) (v .x-is)
-        ∙ ring (P m) (up ∷ pol m (x .s) ∷ pol m a ∷ pol m (x .t) ∷ pol m b ∷ []) (search quote depth 40) refl
+    is = h .r .is ∙ ap (λ t. up *P t) e
+        ∙ ring (P m) (up ∷ pol m (z .s) ∷ pol m a ∷ pol m (z .t) ∷ pol m b ∷ []) (search quote depth 40) refl
         ∙ sym (ap₂ (λ s t. s *P pol m a +P t *P pol m b) (h .s .is) (h .t .is));
-    short-s = omega (arith, h .r .same, h .s .short, v .s .x-end);
-    short-t = omega (arith, h .r .same, h .t .short, v .t .x-end);
+    short-s = omega (arith, h .r .same, h .s .short, hs);
+    short-t = omega (arith, h .r .same, h .t .short, ht);
   }
     where
       up : Po
       up = C (K m) (h .up)
+
+  pub extended-end : {a b : Poly} {x y u : Line} → Extended a b x y → y .r .n ≡ 0 → Scaled m x u → Xgcd m a b u
+  extended-end v e h = finish (euclid-end m (v .core) e (h .r)) (v .x-is) (v .s .x-end) (v .t .x-end) h
+
+  pub extended-stop : {a b : Poly} {x y u : Line} → Extended a b x y → y .r .n ≡ 1 → Scaled m y u → Xgcd m a b u
+  extended-stop v e h = finish (euclid-stop m (v .core) e (h .r)) (v .y-is) (v .s .y-end) (v .t .y-end) h

@@ -6,9 +6,8 @@ use native.Mathlib.Decide.{ℕ-discrete}
 use Rattle.algebra.proofs.ring.CRing.{CRing, mul-zer}
 use Rattle.algebra.proofs.ring.Divides.{Divides, divides-zer, divides-eq}
 use Rattle.algebra.proofs.ring.Field.{Field}
-use Rattle.algebra.proofs.poly.Series.{con}
-use Rattle.algebra.proofs.poly.Poly.{coef, poly-ext}
-use Rattle.algebra.proofs.poly.Term.{at, C, X, coef-C, coef-term, termS, termS-at, termS-off}
+use Rattle.algebra.proofs.poly.Poly.{coef}
+use Rattle.algebra.proofs.poly.Term.{at, X, coef-term, termS, termS-at, termS-off, term-one}
 use Rattle.algebra.proofs.poly.Degree.{Degree}
 use Rattle.algebra.proofs.poly.Common.{SharesNoFactor, constant-factor, shares-some}
 use Rattle.field.specs.declared.Modulus.{Modulus}
@@ -17,6 +16,7 @@ use Rattle.poly.specs.declared.Poly.{Poly}
 use Rattle.poly.specs.Polys.{K, P, pol}
 use Rattle.poly.proofs.Lengths.{none-is}
 use Rattle.euclid.specs.Euclid.{Gcd}
+use Rattle.euclid.proofs.Common.{monic-one}
 
 module _ (m : Modulus) {a b g : Poly} (h : Gcd m a b g) where
   open CRing (P m) using (El as Po, mul as _*P_, zer as 0P)
@@ -33,17 +33,8 @@ module _ (m : Modulus) {a b g : Poly} (h : Gcd m a b g) where
     pub less-one : ℕ
     pub degree : Degree F (suc less-one) factor
 
-  -- monic of degree 0 is 1
-  g-one : g .n ≡ 1 → pol m g ≡ C (K m) (K m .one)
-  unfolding con
-  g-one e = poly-ext (K m) (λ k. go k ∙ sym (at (K m) (coef-C (K m) (K m .one)) k))
-    where
-      go : (k : ℕ) → coef (K m) (pol m g) k ≡ con (K m) (K m .one) k
-      go zero = ap (coef (K m) (pol m g)) {x = 0} {y = g .n - 1} (omega arith) ∙ h .lead (omega arith) .lead
-      go (suc k) = h .ok .size .end (suc k) (omega arith)
-
   pub degree-zero : g .n ≡ 1 → SharesNoFactor (K m) (pol m a) (pol m b)
-  degree-zero e d da db = constant-factor F (K m .one) d (F .one-ne) (divides-eq (P m) (g-one e) (h .greatest d da db))
+  degree-zero e d da db = constant-factor F (K m .one) d (F .one-ne) (divides-eq (P m) (monic-one m (h .ok) e (h .lead (omega arith)) ∙ sym (term-one (K m))) (h .greatest d da db))
 
   zero-is : {v : Po} → g .n ≡ 0 → Divides (P m) (pol m g) v → 0P ≡ v
   zero-is e d = sym (d .is ∙ ap (λ t. d .factor *P t) (none-is m (h .ok) e) ∙ mul-zer (P m) (d .factor))

@@ -87,7 +87,7 @@ impl Line {
     }
 }
 
-// The gcd r with its cofactors: r = s * a + t * b.
+// The gcd r with its cofactors: r = s * a + t * b. A remainder that is a constant ends it: made monic it is 1, and no step more is needed.
 pub fn xgcd(a: Poly, b: Poly, m: Modulus) -> Line
     requires { ⌜ Ok m a × Ok m b ⌝ }
     ensures { λ x. ⌜ Xgcd m a b x ⌝ }
@@ -105,7 +105,7 @@ pub fn xgcd(a: Poly, b: Poly, m: Modulus) -> Line
         t: one,
     };
     let mut n = b.n;
-    while 0 < n {
+    while 1 < n {
         let r = x.r;
         let d = divide(r, y.r, m);
         let q = d.quotient;
@@ -115,7 +115,10 @@ pub fn xgcd(a: Poly, b: Poly, m: Modulus) -> Line
         y = z;
         n = e.n;
     }
-    x.monic(m)
+    if n == 0 {
+        return x.monic(m);
+    }
+    y.monic(m)
 }
 
 // Whether f and its derivative share no factor of degree 1 or more.

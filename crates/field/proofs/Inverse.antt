@@ -5,9 +5,9 @@ use mathlib.Core.Path.{_≡_, refl, sym, ap, _∙_}
 use mathlib.Core.List.{[], _∷_}
 use native.Mathlib.Omega.{arith}
 use native.Mathlib.Nat.{mod-lt, div-add-mod}
-use Rattle.algebra.proofs.ring.CRing.{CRing, mul-one}
+use Rattle.algebra.proofs.ring.CRing.{CRing, mul-one, mul-zer}
 use Rattle.algebra.proofs.ring.Quote.{ring, quote, by}
-use Rattle.algebra.proofs.zmod.Zmod.{zmod, emb, emb-add, emb-mul, emb-mod, emb-less, emb-p, emb-one, emb-zero}
+use Rattle.algebra.proofs.zmod.Zmod.{zmod, emb, emb-add, emb-mul, emb-mod, emb-less, emb-inj, emb-p, emb-one, emb-zero}
 use Rattle.field.specs.declared.Modulus.{Modulus}
 use Rattle.field.specs.Residues.{el, Good, Unit, Inverts}
 use Rattle.field.proofs.Laws.{positive}
@@ -42,20 +42,28 @@ module _ (m : Modulus) (a : ℕ) where
         nonzero : a ≡ 0 → ⊥
         nonzero e = u .nonzero (ap (emb p) e ∙ emb-zero p)
 
-    pub turn : {x y : ℕ} → Inverting x y → 1 < x → Inverting (p % x) ((p - p / x * y % p) % p)
-    turn {x} {y} v l = record {
-      left = good .prime .is .none x l (v .x-below);
-      x-below = omega (arith, mod-lt p {m = x} (omega arith), v .x-below);
-      y-below = mod-lt (p - t) (positive m good);
-      is = ap (λ s. emb p a ⊗ s) (emb-mod p (positive m good) (p - t) ∙ emb-less p (positive m good) t (omega (arith, mod-lt (p / x * y) {m = p} (positive m good))) ∙ ap ng (emb-mod p (positive m good) (p / x * y) ∙ emb-mul p (p / x) y))
-          ∙ by (zmod p) (ng (emb p (p / x))) (v .is) (by (zmod p) (ng 𝟙) whole (ring (zmod p) (emb p a ∷ emb p x ∷ emb p y ∷ emb p (p / x) ∷ emb p (p % x) ∷ []) (search quote depth 40) refl));
-    }
+    pub turn : {x y : ℕ} → Inverting x y → 1 < x → Inverting (p % x) (p - p / x * y % p)
+    turn {x} {y} v l = record { left = left; x-below = below; y-below = omega (arith, some); is = is }
       where
         t : ℕ
         t = p / x * y % p
 
+        left : 0 < p % x
+        left = good .prime .is .none x l (v .x-below)
+
+        below : p % x < p
+        below = omega (arith, mod-lt p {m = x} (omega arith), v .x-below)
+
         whole : emb p x ⊗ emb p (p / x) ⊕ emb p (p % x) ≡ 𝟘
         whole = ap (λ s. s ⊕ emb p (p % x)) (sym (emb-mul p x (p / x))) ∙ sym (emb-add p (x * (p / x)) (p % x)) ∙ ap (emb p) (div-add-mod p x) ∙ emb-p p (positive m good)
+
+        is : emb p a ⊗ emb p (p - t) ≡ emb p (p % x)
+        is = ap (λ s. emb p a ⊗ s) (emb-less p (positive m good) t (omega (arith, mod-lt (p / x * y) {m = p} (positive m good))) ∙ ap ng (emb-mod p (positive m good) (p / x * y) ∙ emb-mul p (p / x) y))
+            ∙ by (zmod p) (ng (emb p (p / x))) (v .is) (by (zmod p) (ng 𝟙) whole (ring (zmod p) (emb p a ∷ emb p x ∷ emb p y ∷ emb p (p / x) ∷ emb p (p % x) ∷ []) (search quote depth 40) refl))
+
+        -- else a · y would be 0, and p % x isn't
+        some : t ≡ 0 → ⊥
+        some e = let z : p % x ≡ 0 = emb-inj p (positive m good) (p % x) 0 below (positive m good) (sym is ∙ ap (λ s. emb p a ⊗ emb p s) {x = p - t} {y = p} (omega arith) ∙ ap (λ s. emb p a ⊗ s) (emb-p p (positive m good)) ∙ mul-zer (zmod p) (emb p a) ∙ sym (emb-zero p)) in omega (arith, left)
 
     pub end : {x y : ℕ} → Inverting x y → x ≤ 1 → Inverts m (record { 0 = a }) (record { 0 = y })
     unfolding el

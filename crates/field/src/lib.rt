@@ -161,21 +161,31 @@ impl Residue {
         requires { ⌜ Kept m self × Kept m other ⌝ }
         ensures { λ r. ⌜ Stands m r (zmod (m .p) .add (el m self) (el m other)) ⌝ }
     {
-        Residue((self.0 + other.0) % m.p)
+        let sum = self.0 + other.0;
+        if sum < m.p {
+            return Residue(sum);
+        }
+        Residue(sum - m.p)
     }
 
     pub fn sub(self, other: Residue, m: Modulus) -> Residue
         requires { ⌜ Kept m self × Kept m other ⌝ }
         ensures { λ r. ⌜ Stands m r (zmod (m .p) .add (el m self) (zmod (m .p) .neg (el m other))) ⌝ }
     {
-        Residue((self.0 + (m.p - other.0)) % m.p)
+        if self.0 < other.0 {
+            return Residue(m.p - other.0 + self.0);
+        }
+        Residue(self.0 - other.0)
     }
 
     pub fn neg(self, m: Modulus) -> Residue
         requires { ⌜ Kept m self ⌝ }
         ensures { λ r. ⌜ Stands m r (zmod (m .p) .neg (el m self)) ⌝ }
     {
-        Residue((m.p - self.0) % m.p)
+        if self.0 == 0 {
+            return self;
+        }
+        Residue(m.p - self.0)
     }
 
     pub fn mul(self, other: Residue, m: Modulus) -> Residue
@@ -187,7 +197,7 @@ impl Residue {
         Residue(rest)
     }
 
-    // a * y = x throughout, and x falls to p % x, which isn't 0 while 1 < x, until it is 1.
+    // a * y = x throughout, and x falls to p % x, which isn't 0 while 1 < x, until it is 1. So no new y is 0 modulo p, and y stays below p.
     pub fn inverse(self, m: Modulus) -> Residue
         requires { ⌜ Unit m self ⌝ }
         ensures { λ r. ⌜ Inverts m self r ⌝ }
@@ -198,7 +208,7 @@ impl Residue {
         let mut y: u64 = 1;
         while 1 < x {
             let q = p / x;
-            y = (p - q * y % p) % p;
+            y = p - q * y % p;
             x = p % x;
         }
         Residue(y)

@@ -6,12 +6,12 @@ use mathlib.Core.Path.{_≡_, refl, sym, ap, ap₂, _∙_}
 use mathlib.Core.List.{List, [], _∷_}
 use native.Mathlib.Omega.{arith}
 use lib.ListN.{set, length, length-set}
-use Rattle.algebra.proofs.ring.CRing.{CRing, mul-zer}
+use Rattle.algebra.proofs.ring.CRing.{CRing, add-zer, mul-zer}
 use Rattle.algebra.proofs.ring.Quote.{ring, quote}
 use Rattle.algebra.proofs.poly.Bound.{Below}
 use Rattle.algebra.proofs.poly.Poly.{coef, coef-add}
 use Rattle.algebra.proofs.poly.Term.{at, term, coef-shift, term-mul}
-use Rattle.algebra.proofs.poly.Build.{part, part-all}
+use Rattle.algebra.proofs.poly.Build.{part, part-all, part-below}
 use Rattle.field.specs.declared.Residue.{Residue}
 use Rattle.field.specs.declared.Modulus.{Modulus}
 use Rattle.field.specs.Residues.{Stands}
@@ -58,18 +58,25 @@ module _ (m : Modulus) (a T : P m .El) (s n : ℕ) where
       term-is : term (K m) (cf T k) j ≡ xs *P term (K m) (cf T k) k
       term-is = ap₂ (term (K m)) (sym (K m .one-mul (cf T k))) ej ∙ sym (term-mul (K m) 𝟙 (cf T k) s k)
 
-  module _ (i : ℕ) (start : Below (K m) i (cf a)) (end : Below (K m) n (cf T)) where
-    sum-below : Below (K m) (max i (s + n)) (cf (a +P xs *P T))
-    sum-below k l = at (K m) (coef-add (K m) a (xs *P T)) k
-        ∙ ap₂ _⊕_ (start k (omega arith)) (ap (cf (xs *P T)) {x = k} {y = s + (k - s)} (omega arith) ∙ coef-shift (K m) 𝟙 s (k - s) T ∙ ap (λ u. 𝟙 ⊗ u) (end (k - s) (omega arith)) ∙ mul-zer (K m) 𝟙)
-        ∙ K m .zer-add 𝟘
+  -- the next place holds what it held at first
+  pub build-next : {l : List Residue} {k : ℕ} → Built l k → cf (polL m l) (s + k) ≡ cf a (s + k)
+  build-next {l} {k} b = ap (λ u. cf u (s + k)) (b .is) ∙ at (K m) (coef-add (K m) a (xs *P part (K m) k (cf T))) (s + k)
+      ∙ ap (λ u. cf a (s + k) ⊕ u) (coef-shift (K m) 𝟙 s k (part (K m) k (cf T)) ∙ ap (λ u. 𝟙 ⊗ u) (part-below (K m) k (cf T) k (omega arith)) ∙ mul-zer (K m) 𝟙) ∙ add-zer (K m) (cf a (s + k))
 
-    module _ {l : List Residue} {k top : ℕ} (b : Built l k) (over : n ≤ k) (et : top ≡ max i (s + n)) where
-      sum-is : polL m l ≡ a +P xs *P T
-      sum-is = b .is ∙ ap (λ j. a +P xs *P part (K m) j (cf T)) {x = k} {y = n} (omega (arith, b .within)) ∙ ap (λ u. a +P xs *P u) (part-all (K m) n T end)
+  module _ (end : Below (K m) n (cf T)) where
+    -- all of T is there
+    pub build-is : {l : List Residue} {k : ℕ} → Built l k → n ≤ k → polL m l ≡ a +P xs *P T
+    build-is {l} {k} b over = b .is ∙ ap (λ j. a +P xs *P part (K m) j (cf T)) {x = k} {y = n} (omega (arith, b .within)) ∙ ap (λ u. a +P xs *P u) (part-all (K m) n T end)
 
-      pub build-held : i ≤ room → s + n ≤ room → Held m l top
-      build-held hi hs = record { len = omega arith; fill = b .fill; end = λ j h. ap (λ u. cf u j) sum-is ∙ sum-below j (omega arith) }
+    module _ (i : ℕ) (start : Below (K m) i (cf a)) where
+      pub sum-below : Below (K m) (max i (s + n)) (cf (a +P xs *P T))
+      sum-below k l = at (K m) (coef-add (K m) a (xs *P T)) k
+          ∙ ap₂ _⊕_ (start k (omega arith)) (ap (cf (xs *P T)) {x = k} {y = s + (k - s)} (omega arith) ∙ coef-shift (K m) 𝟙 s (k - s) T ∙ ap (λ u. 𝟙 ⊗ u) (end (k - s) (omega arith)) ∙ mul-zer (K m) 𝟙)
+          ∙ K m .zer-add 𝟘
 
-      pub build-end : {w : Po} {r : ℕ} → top ≤ room → Size m l top r → a +P xs *P T ≡ w → Is m (record { c = l; n = r }) w (max i (s + n))
-      build-end hr z e = record { ok = record { len = omega (arith, z .within); fill = b .fill; size = z .size }; is = sum-is ∙ e; short = omega (arith, z .within) }
+      module _ {l : List Residue} {k top : ℕ} (b : Built l k) (over : n ≤ k) (et : top ≡ max i (s + n)) where
+        pub build-held : i ≤ room → s + n ≤ room → Held m l top
+        build-held hi hs = record { len = omega arith; fill = b .fill; end = λ j h. ap (λ u. cf u j) (build-is b over) ∙ sum-below j (omega arith) }
+
+        pub build-end : {w : Po} {r : ℕ} → top ≤ room → Size m l top r → a +P xs *P T ≡ w → Is m (record { c = l; n = r }) w (max i (s + n))
+        build-end hr z e = record { ok = record { len = omega (arith, z .within); fill = b .fill; size = z .size }; is = build-is b over ∙ e; short = omega (arith, z .within) }

@@ -9,7 +9,6 @@ use Rattle.algebra.proofs.ring.Quote.{ring, quote}
 use Rattle.algebra.proofs.poly.Bound.{Below}
 use Rattle.algebra.proofs.poly.Poly.{coef, coef-zer}
 use Rattle.algebra.proofs.poly.Term.{at, term-one}
-use Rattle.algebra.proofs.poly.Build.{part, part-below}
 use Rattle.algebra.proofs.poly.Derivative.{derP, coef-der, der-zero, der-at, count}
 use Rattle.field.specs.declared.Residue.{Residue}
 use Rattle.field.specs.declared.Modulus.{Modulus}
@@ -18,7 +17,7 @@ use Rattle.field.proofs.Laws.{zero-settles, settles-stands}
 use Rattle.poly.specs.declared.Poly.{Poly}
 use Rattle.poly.specs.Polys.{room, K, P, polL, pol, Ok, Is}
 use Rattle.poly.specs.Contracts.{Held, Size}
-use Rattle.poly.proofs.Build.{Built, build-begin, build-turn, build-held, build-end}
+use Rattle.poly.proofs.Build.{Built, build-begin, build-turn, build-next, build-held, build-end}
 use Rattle.poly.proofs.Lengths.{recast}
 
 module _ (m : Modulus) (a : Poly) where
@@ -50,7 +49,7 @@ module _ (m : Modulus) (a : Poly) where
 
     -- the place to be stored at holds nothing yet
     fresh : {l : List Residue} {i : Residue} {k : ℕ} → Deriving l i k → cf (polL m l) k ≡ 𝟘
-    fresh {l} {i} {k} v = ap (λ t. cf t k) (v .built .is ∙ ap (λ t. 0P +P t *P part (K m) k (cf D)) (term-one (K m)) ∙ ring (P m) (part (K m) k (cf D) ∷ []) (search quote depth 40) refl) ∙ part-below (K m) k (cf D) k (omega arith)
+    fresh {l} {i} {k} v = ap (cf (polL m l)) {x = k} {y = 0 + k} (omega arith) ∙ build-next m 0P D 0 (a .n - 1) (v .built) ∙ at (K m) (coef-zer (K m)) (0 + k)
 
     pub derive-turn : {l : List Residue} {i o j c y : Residue} {k : ℕ} → Deriving l i k → k + 1 < a .n → Settles m o 𝟙 → Stands m j (el m i ⊕ el m o) → Stands m c (cf (pol m a) (k + 1)) → Stands m y (el m j ⊗ el m c) → Deriving (set l k y) j (k + 1)
     unfolding count
@@ -65,8 +64,8 @@ module _ (m : Modulus) (a : Poly) where
 
     module _ {l : List Residue} {i : Residue} {k : ℕ} (v : Deriving l i k) (over : a .n ≤ k + 1) where
       pub derive-held : Held m l k
-      derive-held = build-held m 0P D 0 (a .n - 1) 0 (λ j g. at (K m) (coef-zer (K m)) j) der-below (v .built) (omega arith) (omega (arith, v .built .within)) (omega arith) (omega (arith, h .len))
+      derive-held = build-held m 0P D 0 (a .n - 1) der-below 0 (λ j g. at (K m) (coef-zer (K m)) j) (v .built) (omega arith) (omega (arith, v .built .within)) (omega arith) (omega (arith, h .len))
 
       pub derive-end : {r : ℕ} → Size m l k r → Is m (record { c = l; n = r }) D (a .n - 1)
-      derive-end z = recast m (build-end m 0P D 0 (a .n - 1) 0 (λ j g. at (K m) (coef-zer (K m)) j) der-below (v .built) (omega arith) (omega (arith, v .built .within)) (omega (arith, v .built .within, h .len)) z
+      derive-end z = recast m (build-end m 0P D 0 (a .n - 1) der-below 0 (λ j g. at (K m) (coef-zer (K m)) j) (v .built) (omega arith) (omega (arith, v .built .within)) (omega (arith, v .built .within, h .len)) z
           (ap (λ t. 0P +P t *P D) (term-one (K m)) ∙ ring (P m) (D ∷ []) (search quote depth 40) refl)) refl (omega arith)

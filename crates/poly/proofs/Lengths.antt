@@ -1,6 +1,6 @@
 -- The length of a Poly and the degree of what it stands for. Gives: the scan for the length; that lengths are exact (`length-le`,
 -- `none-is`, `is-none`, `degree-is`); `recast`, the same value under another name and with a wider bound.
-use Prim.Native.Nat.{ℕ, _-_, _<_, _≤_}
+use Prim.Native.Nat.{ℕ, _+_, _-_, _<_, _≤_}
 use mathlib.Core.Path.{_≡_, sym, ap, _∙_}
 use native.Mathlib.Omega.{arith}
 use native.Mathlib.Decide.{ℕ-discrete, decLe}
@@ -8,10 +8,38 @@ use Rattle.algebra.proofs.ring.CRing.{CRing}
 use Rattle.algebra.proofs.poly.Bound.{Below}
 use Rattle.algebra.proofs.poly.Poly.{coef, coef-zer, poly-ext}
 use Rattle.algebra.proofs.poly.Term.{at}
+use Rattle.algebra.proofs.poly.Degree.{Degree}
 use Rattle.field.specs.declared.Modulus.{Modulus}
+use Rattle.field.specs.Residues.{Good}
+use Rattle.field.proofs.Laws.{residue-field}
 use Rattle.poly.specs.declared.Poly.{Poly}
 use Rattle.poly.specs.Polys.{K, P, pol, Ok, Is}
 use Rattle.poly.specs.Contracts.{IsDegree}
+
+-- the arithmetic of counts, apart from the records of a proof, where `omega` has less to read
+pub one-back : {k : ℕ} → 0 < k → k - 1 + 1 ≡ k
+one-back l = omega arith
+
+pub one-less : {k : ℕ} → 0 < k → k - 1 < k
+one-less l = omega arith
+
+pub one-on : {i n : ℕ} → i < n → i + 1 ≤ n
+one-on l = omega arith
+
+pub less-left : {i n : ℕ} → i < n → n - (i + 1) < n - i
+less-left l = omega arith
+
+pub within-one : {i n : ℕ} → i < n - 1 → i < n
+within-one l = omega arith
+
+pub last-in : {n r : ℕ} → 0 < n → n ≤ r → n - 1 < r
+last-in l h = omega arith
+
+pub all-in : {n d : ℕ} → d - 1 < n → d ≤ n
+all-in l = omega arith
+
+pub rest-of : (n d : ℕ) → 0 < d → n + 1 - d ≡ n - (d - 1)
+rest-of n d l = omega arith
 
 module _ (m : Modulus) where
   open CRing (K m) using (El as A, zer as 𝟘)
@@ -46,5 +74,8 @@ module _ (m : Modulus) where
   pub recast : {r : Poly} {v w : Po} {i n : ℕ} → Is m r v i → v ≡ w → i ≤ n → Is m r w n
   recast h e l = record { ok = h .ok; is = h .is ∙ e; short = omega (arith, h .short) }
 
+  pub degree-of : (g : Good m) (r : Poly) → Ok m r → 0 < r .n → Degree (residue-field m g) (r .n - 1) (pol m r)
+  degree-of g r h l = record { below = λ k i. h .size .end k (omega arith); top = h .size .top l }
+
 pub degree-is : (r : Poly) → 0 < r .n → IsDegree r (r .n - 1)
-degree-is r l = λ m h. record { below = λ k g. h .size .end k (omega arith); top = h .size .top l }
+degree-is r l = λ m h. degree-of m (h .fill .good) r h l

@@ -1,11 +1,13 @@
 -- From the residues stored to the polynomial they stand for. Gives: what stands at each place (`stored`, `past`), that a store is a
 -- term added (`set-is`), that stores keep the residues in range, the list of zeros, and what `get` and `size` promise.
-use Prim.Native.Nat.{ℕ, zero, suc, _+_, _-_, _<_, _≤_}
+use Prim.Native.Nat.{ℕ, zero, suc, _+_, _-_, _*_, _<_, _≤_}
 use mathlib.Core.Path.{_≡_, sym, ap, ap₂, _∙_, subst}
 use mathlib.Core.List.{List, [], _∷_, map}
 use native.Mathlib.Omega.{arith}
 use native.Mathlib.Decide.{ℕ-discrete, decLt}
 use lib.ListN.{set, getD, length, length-set, replicate, getD-replicate, length-replicate, length-map}
+use mir.Val.{Fits}
+use mir.Syntax.{w64}
 use lib.Seq.{getD-set-same, getD-set-other}
 use Rattle.algebra.proofs.ring.CRing.{CRing, add-zer}
 use Rattle.algebra.proofs.poly.Series.{con}
@@ -17,11 +19,24 @@ use Rattle.field.specs.declared.Residue.{Residue}
 use Rattle.field.specs.declared.Modulus.{Modulus}
 use Rattle.field.specs.Residues.{el, Good, Kept, Stands, Everywhere}
 use Rattle.field.proofs.Laws.{zero-settles, settles-stands}
-use Rattle.poly.specs.Polys.{K, P, polL, Filled, Is}
+use Rattle.poly.specs.Polys.{room, K, P, polL, Filled, Is}
 
 -- what the search lacks for an array of structs: its list is as long as the list that the logic keeps
 pub length-of : (S T : Type 0) (f : S → T) (l : List S) (n : ℕ) → length (map f l) ≡ n → length l ≡ n
 length-of S T f l n e = sym (length-map l f) ∙ e
+
+-- a place within the room, and its offset in bytes, fit a word
+pub place-fits : (j : ℕ) → j < room → Fits w64 j
+place-fits j l = record { fits = omega arith }
+
+pub next-fits : {j : ℕ} → j < room → Fits w64 (j + 1)
+next-fits l = record { fits = omega arith }
+
+pub offset-fits : (j : ℕ) → j < room → Fits w64 (j * 8)
+offset-fits j l = record { fits = omega arith }
+
+pub inside : {n j : ℕ} → n ≡ room → j < room → j < n
+inside e h = omega arith
 
 module _ (m : Modulus) where
   open CRing (K m) using (El as A, add as _⊕_, zer as 𝟘, zer-add)

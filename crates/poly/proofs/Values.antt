@@ -1,4 +1,4 @@
--- What the operations without a loop stand for: constant, one, opposite, multiple by a residue.
+-- What the operations without a loop stand for: constant, one, opposite.
 use Prim.Native.Nat.{_+_, max}
 use mathlib.Core.Path.{ap, _∙_}
 use native.Mathlib.Omega.{arith}
@@ -12,10 +12,9 @@ use Rattle.poly.specs.Polys.{K, P, pol, Is}
 use Rattle.poly.proofs.Lengths.{recast}
 
 module _ (m : Modulus) where
-  open CRing (P m) using (El as Po, add as _+P_, mul as _*P_, neg as negP, zer as 0P, one as 1P)
+  open CRing (P m) using (El as Po, add as _+P_, neg as negP, zer as 0P, one as 1P)
 
   infixl 65 _+P_
-  infixl 70 _*P_
   abbrev co : Residue → Po
   co x = C (K m) (el m x)
 
@@ -27,6 +26,3 @@ module _ (m : Modulus) where
 
   pub neg-is : (a : Poly) {z r : Poly} → Is m z 0P 0 → Is m r (pol m z +P negP (pol m a)) (max (z .n) (a .n)) → Is m r (negP (pol m a)) (a .n)
   neg-is a hz h = recast m h (ap (λ t. t +P negP (pol m a)) (hz .is) ∙ P m .zer-add (negP (pol m a))) (omega (arith, hz .short))
-
-  pub scale-is : (x : Residue) (a : Poly) {z r : Poly} → Is m z 0P 0 → Is m r (pol m z +P co x *P pol m a) (max (z .n) (0 + a .n)) → Is m r (co x *P pol m a) (a .n)
-  scale-is x a hz h = recast m h (ap (λ t. t +P co x *P pol m a) (hz .is) ∙ P m .zer-add (co x *P pol m a)) (omega (arith, hz .short))

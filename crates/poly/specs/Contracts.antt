@@ -34,13 +34,6 @@ pub record Put (m : Modulus) (a : Poly) (k : ℕ) (x : Residue) : Type 0 where
   pub fits : k < room
   pub term : Kept m x
 
--- what a + x · y^s · b asks
-pub record Row (m : Modulus) (a : Poly) (x : Residue) (s : ℕ) (b : Poly) : Type 0 where
-  pub left : Ok m a
-  pub factor : Kept m x
-  pub right : Ok m b
-  pub fits : s + b .n ≤ room
-
 pub record Product (m : Modulus) (a b : Poly) : Type 0 where
   pub left : Ok m a
   pub right : Ok m b

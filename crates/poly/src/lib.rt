@@ -1,6 +1,6 @@
 // Polynomials over the residues. A Poly in good order stands for an element of K[x], `pol m x`; coefficients are touched through the
 // methods of `field` alone. One contract serves nearly every operation: `Is m r v n`, that r is in good order, stands for v and has at
-// most n coefficients.
+// most n coefficients. Loops index the array themselves: `get` tests its index, which loops needn't.
 ghost use mathlib.Core.Path.{_≡_};
 ghost use Prim.Native.Nat.{_+_, _-_, _<_, max};
 ghost use Rattle.algebra.proofs.poly.Poly.{coef};
@@ -8,7 +8,7 @@ ghost use Rattle.algebra.proofs.poly.Term.{term, C};
 ghost use Rattle.algebra.proofs.poly.Derivative.{derP};
 ghost use Rattle.field.specs.Residues.{el, Good, Kept, Stands};
 ghost use Rattle.poly.specs.Polys.{K, P, pol, Ok, Is};
-ghost use Rattle.poly.specs.Contracts.{Gets, Held, Size, Row, Put, Product, Led, IsDegree, ToDivide, Divided, ToQuotient, Quotient, MadeMonic};
+ghost use Rattle.poly.specs.Contracts.{Gets, Held, Size, Put, Product, Led, IsDegree, ToDivide, Divided, ToQuotient, Quotient, MadeMonic};
 use field::Modulus;
 use field::Residue;
 
@@ -59,7 +59,7 @@ impl Poly {
     {
         let mut n = top;
         while 0 < n {
-            let x = self.get(n - 1);
+            let x = self.c[n - 1];
             if x.settle(m).is_zero(m) {
                 n -= 1;
             } else {
@@ -97,26 +97,6 @@ impl Poly {
         Poly::constant(Residue::one(m), m)
     }
 
-    // self + x * y^s * other: what products and division are made of.
-    pub fn plus_row(self, x: Residue, s: usize, other: Poly, m: Modulus) -> Poly
-        requires { ⌜ Row m self x s other ⌝ }
-        ensures { λ r. ⌜ Is m r (P m .add (pol m self) (P m .mul (term (K m) (el m x) s) (pol m other))) (max (self .n) (s + other .n)) ⌝ }
-    {
-        let mut r = self;
-        let n = other.n;
-        let mut k: usize = 0;
-        while k < n {
-            let j = s + k;
-            let y = r.get(j).add(x.mul(other.get(k), m), m);
-            r.c[j] = y;
-            k += 1;
-        }
-        let top = larger(self.n, s + n);
-        let size = r.size(top, m);
-        r.n = size;
-        r
-    }
-
     pub fn add(self, other: Poly, m: Modulus) -> Poly
         requires { ⌜ Ok m self × Ok m other ⌝ }
         ensures { λ r. ⌜ Is m r (P m .add (pol m self) (pol m other)) (max (self .n) (other .n)) ⌝ }
@@ -125,7 +105,7 @@ impl Poly {
         let n = other.n;
         let mut k: usize = 0;
         while k < n {
-            let y = r.get(k).add(other.get(k), m);
+            let y = r.c[k].add(other.c[k], m);
             r.c[k] = y;
             k += 1;
         }
@@ -143,7 +123,7 @@ impl Poly {
         let n = other.n;
         let mut k: usize = 0;
         while k < n {
-            let y = r.get(k).sub(other.get(k), m);
+            let y = r.c[k].sub(other.c[k], m);
             r.c[k] = y;
             k += 1;
         }
@@ -164,37 +144,84 @@ impl Poly {
         requires { ⌜ Ok m self × Kept m x ⌝ }
         ensures { λ r. ⌜ Is m r (P m .mul (C (K m) (el m x)) (pol m self)) (self .n) ⌝ }
     {
-        Poly::zero(m).plus_row(x, 0, self, m)
+        let mut r = Poly::zero(m);
+        let n = self.n;
+        let mut k: usize = 0;
+        while k < n {
+            let y = x.mul(self.c[k], m);
+            r.c[k] = y;
+            k += 1;
+        }
+        let size = r.size(n, m);
+        r.n = size;
+        r
     }
 
+    // Row by row, in place: two loops in one function, since a call for each row would copy the polynomial twice.
     pub fn mul(self, other: Poly, m: Modulus) -> Poly
         requires { ⌜ Product m self other ⌝ }
         ensures { λ r. ⌜ Is m r (P m .mul (pol m self) (pol m other)) (self .n + other .n - 1) ⌝ }
     {
         let mut r = Poly::zero(m);
         let n = self.n;
+        let l = other.n;
+        if n == 0 {
+            return r;
+        }
+        if l == 0 {
+            return r;
+        }
         let mut i: usize = 0;
-        while i < n {
-            r = r.plus_row(self.get(i), i, other, m);
+        'rows: while i < n {
+            let x = self.c[i];
+            let mut k: usize = 0;
+            while k < l {
+                let j = i + k;
+                let y = r.c[j].add(x.mul(other.c[k], m), m);
+                r.c[j] = y;
+                k += 1;
+            }
             i += 1;
         }
+        r.n = n + l - 1;
         r
     }
 
-    // Quotient and remainder by u, which has leading coefficient 1.
+    // Quotient and remainder by u, which has leading coefficient 1: the quotient's coefficients from the top, each with a row of u taken
+    // away in place, as in mul.
     pub fn div_rem(self, u: Poly, m: Modulus) -> DivRem
         requires { ⌜ ToDivide m self u ⌝ }
         ensures { λ r. ⌜ Divided m self u (r .quotient) (r .remainder) ⌝ }
     {
+        let zero = Residue::zero();
         let mut q = Poly::zero(m);
         let mut r = self;
-        let d = u.n;
-        while d <= r.n {
-            let n = r.n;
-            let x = r.get(n - 1);
-            q = q.put(n - d, x, m);
-            r = r.plus_row(x.neg(m), n - d, u, m);
+        let n = self.n;
+        let low = u.n - 1;
+        if n <= low {
+            return DivRem {
+                quotient: q,
+                remainder: r,
+            };
         }
+        let mut k: usize = n - low;
+        q.n = k;
+        'rows: while 0 < k {
+            k -= 1;
+            let top = k + low;
+            let x = r.c[top];
+            q.c[k] = x;
+            let mut i: usize = 0;
+            while i < low {
+                let j = k + i;
+                let y = r.c[j].sub(x.mul(u.c[i], m), m);
+                r.c[j] = y;
+                i += 1;
+            }
+            r.c[top] = zero;
+        }
+        let size = r.size(low, m);
+        r.n = size;
         DivRem {
             quotient: q,
             remainder: r,

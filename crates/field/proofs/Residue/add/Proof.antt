@@ -1,16 +1,16 @@
-use Rattle.field.proofs.Sums.{sum-is}
+use Rattle.field.proofs.Sums.{sum-below, sum-past}
 use borrow.Author.Needs.{needs}
 use Rattle.field.proofs.Residue.add.Statement.{statement}
 use Rattle.field.proofs.Residue.add.Tie as tie
 
-add-t4 : tie.Need-add-t4
-add-t4 c = search needs
-
-rem-t5 : tie.Need-rem-t5
-rem-t5 c = search needs
+add-sum : tie.Need-add-sum
+add-sum c = search needs
 
 returns : tie.Need-returns
-returns c = let s = c .before .before .before in sum-is (s .args .m) (s .args .self) (s .pre .0) (s .args .other) (s .pre .1)
+returns c = let s = c .before .before .before .before in sum-below (s .args .m) (s .args .self) (s .pre .0) (s .args .other) (s .pre .1) (c .if1 .taken)
+
+returns-2 : tie.Need-returns-2
+returns-2 c = let s = c .before .before .before .before .before in sum-past (s .args .m) (s .args .self) (s .pre .0) (s .args .other) (s .pre .1) (c .before .if1 .left)
 
 pub add-spec : {M : Type 1} → statement M
-add-spec = tie.close (tie.spec add-t4 rem-t5 returns)
+add-spec = tie.close (tie.spec add-sum returns returns-2)

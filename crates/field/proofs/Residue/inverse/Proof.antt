@@ -28,9 +28,6 @@ rem-y c = search needs
 sub-y : tie.Need-sub-y Inv-loop μ-loop
 sub-y c = let s = c .before .before in omega (arith, mod-lt (s .args .m .p / c .before .loop .x * c .before .loop .y) {m = s .args .m .p} (omega arith))
 
-rem-y-2 : tie.Need-rem-y-2 Inv-loop μ-loop
-rem-y-2 c = search needs
-
 rem-x : tie.Need-rem-x Inv-loop μ-loop
 rem-x c = search needs
 
@@ -54,7 +51,6 @@ inverse-spec =
     mul-y
     rem-y
     sub-y
-    rem-y-2
     rem-x
     loop-less
     loop-again

@@ -27,7 +27,7 @@ zero-requires-2 c κs = c .before .before .pre .fill .good
 loop-holds : tie.Need-loop-holds Inv-loop μ-loop
 loop-holds c =
     let s = c .before .before .before in
-    let e : length (c .zero2 .result .c) ≡ room = search (needs, length-of) in
+    let e : length (c .zero2 .result .c) ≡ room = search length-of in
     derive-begin (s .args .m) (s .args .self) (s .pre) (c .zero2 .ensures) e (c .before .zero .ensures)
 
 add-loop : tie.Need-add-loop Inv-loop μ-loop

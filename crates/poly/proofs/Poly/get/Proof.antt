@@ -17,10 +17,10 @@ zero-requires : tie.Need-zero-requires
 zero-requires c κs = search needs
 
 returns : tie.Need-returns
-returns c = let h : length (c .before .before .args .t1 .c) ≡ room = search (needs, length-of) in λ m f. read m (c .before .before .args .k) _ f (omega arith)
+returns c = let h : length (c .before .before .args .t1 .c) ≡ room = search length-of in λ m f. read m (c .before .before .args .k) _ f (omega arith)
 
 returns-2 : tie.Need-returns-2
-returns-2 c = let h : length (c .before .before .args .t1 .c) ≡ room = search (needs, length-of) in λ m f. read-past m (c .before .before .args .k) f (omega arith) (c .zero .ensures)
+returns-2 c = let h : length (c .before .before .args .t1 .c) ≡ room = search length-of in λ m f. read-past m (c .before .before .args .k) f (omega arith) (c .zero .ensures)
 
 pub get-spec : {M : Type 1} → statement M
 get-spec = tie.close (tie.spec mul-result element-copy-out-result zero-requires returns returns-2)

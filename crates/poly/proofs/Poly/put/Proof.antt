@@ -29,14 +29,14 @@ size-requires : tie.Need-size-requires
 size-requires c κs =
     let s = c .before .before .before in
     let m = s .args .m in
-    let e : length (s .args .self .c) ≡ room = search (needs, length-of) in
+    let e : length (s .args .self .c) ≡ room = search length-of in
     put-held m (s .args .self) (s .args .k) (s .args .x) (s .pre) e (c .before .before .get .ensures m (s .pre .left .fill)) (c .before .add .ensures) (c .larger .ensures)
 
 returns : tie.Need-returns
 returns c =
     let s = c .before .before .before .before in
     let m = s .args .m in
-    let e : length (s .args .self .c) ≡ room = search (needs, length-of) in
+    let e : length (s .args .self .c) ≡ room = search length-of in
     put-end m (s .args .self) (s .args .k) (s .args .x) (s .pre) e (c .before .before .before .get .ensures m (s .pre .left .fill)) (c .before .before .add .ensures) (c .before .larger .ensures) (c .size .ensures)
 
 pub put-spec : {M : Type 1} → statement M
