@@ -3,8 +3,8 @@ use native.Mathlib.Nat.{le-of-lt}
 use lib.Seq.{take-all}
 use mathlib.Core.Path.{sym}
 use borrow.Author.Needs.{needs}
-use Rattle.lines.proofs.front.Statement.{statement}
-use Rattle.lines.proofs.front.Tie as tie
+use Rattle.texts.proofs.front.Statement.{statement}
+use Rattle.texts.proofs.front.Tie as tie
 
 slice-aggregate-result : tie.Need-slice-aggregate-result
 slice-aggregate-result c = sym (length-take-le _ _ (le-of-lt (c .before .if1 .taken)))

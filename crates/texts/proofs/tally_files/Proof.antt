@@ -1,9 +1,10 @@
-use Rattle.lines.specs.Text.{text, text-of, with-file}
-use Rattle.lines.specs.Printed.{fileOf}
-use Rattle.lines.proofs.Tallies.{printed-as, no-file, long-file, whole-file}
+use Rattle.texts.specs.Text.{text, text-of, with-file}
+use Rattle.texts.specs.Read.{fileOf}
+use Rattle.lines.proofs.Printing.{printed-as}
+use Rattle.texts.proofs.Tallies.{no-file, long-file, whole-file}
 use borrow.Author.Needs.{needs}
-use Rattle.lines.proofs.tally_files.Statement.{statement}
-use Rattle.lines.proofs.tally_files.Tie as tie
+use Rattle.texts.proofs.tally_files.Statement.{statement}
+use Rattle.texts.proofs.tally_files.Tie as tie
 
 enum-told : tie.Need-enum-told
 enum-told c = search needs

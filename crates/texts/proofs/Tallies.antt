@@ -1,13 +1,12 @@
 -- The text by what its parts answer: the curve, the batch's total, its first repeat; then by what was read of the two files.
-use Prim.Native.Nat.{ℕ, _+_, _≤_, _<_}
-use mathlib.Core.Path.{_≡_, refl, sym, ap, ap₂, _∙_, subst}
+use Prim.Native.Nat.{ℕ, _≤_, _<_}
+use mathlib.Core.Path.{_≡_, sym, ap, _∙_, subst}
 use mathlib.Core.List.{List, _++_}
 use mathlib.Core.Bool.{Bool}
 use native.Mathlib.Omega.{arith}
 use borrow.Author.Tests.{lt-ltb, le-ltb}
 use lib.Dec.{ltb}
-use lib.ListN.{length, take, drop, length-append}
-use lib.Seq.{length-sets, sets-eq, take-at}
+use lib.ListN.{length, take, length-append}
 use Rattle.rules.specs.Pair.{neutral}
 use Rattle.rules.specs.Sum.{sum}
 use Rattle.rules.specs.Records.{Checked, CurveRecord, PairOf, choose, curve}
@@ -25,29 +24,18 @@ use Rattle.batches.specs.declared.TotalRead.{TotalRead}
 use Rattle.batches.specs.declared.TotalRead.the-variants.{Done, Refused}
 use Rattle.batches.specs.declared.RepeatAnswer.{RepeatAnswer}
 use Rattle.batches.specs.Batches.{TotalIs, repeatOf}
-use Rattle.lines.specs.declared.FileRead.{FileRead}
-use Rattle.lines.specs.declared.FileRead.the-variants.{Holds, Unreadable}
+use Rattle.texts.specs.declared.FileRead.{FileRead}
+use Rattle.texts.specs.declared.FileRead.the-variants.{Holds, Unreadable}
 use Rattle.lines.specs.declared.Places.{Places}
-use Rattle.lines.specs.Text.{holds, with-file, text-of, count-line, repeat-line, total-line, refused-line}
+use Rattle.lines.specs.Lines.{count-line, repeat-line, total-line, refused-line}
+use Rattle.texts.specs.Text.{holds, with-file, text-of}
 use Rattle.digits.specs.Put.{PutAt, Room}
-use Rattle.lines.specs.Printed.{Printed, fileOf, placesOf}
+use Rattle.lines.specs.Printed.{Printed, placesOf}
+use Rattle.texts.specs.Read.{fileOf}
 use Rattle.digits.proofs.Decimals.{Word}
 use Rattle.lines.proofs.Lengths.{count-short, repeat-short, total-short}
+use Rattle.lines.proofs.Printing.{printed}
 use Rattle.digits.proofs.Putting.{room-first, room-next, put-then}
-
--- a text from place 0 on
-pub printed : {out text o : List ℕ} {r : ℕ} → Room 0 text → PutAt out 0 text o r → Printed out text o r
-printed h k = record { all = omega (arith, k .next); front = k .put; room = omega (arith, k .next) }
-
--- what stands at the front is the text
-pub front-is : {out text o : List ℕ} {r : ℕ} → length out ≡ 256 → Printed out text o r → take r o ≡ text
-front-is {out} {text} {o} {r} e h = ap₂ take (h .all) (h .front ∙ sets-eq text out 0 (omega (arith, h .all, h .room))) ∙ take-at text (drop (0 + length text) out) (length text) refl
-
-pub printed-within : {out text o : List ℕ} {r : ℕ} → length out ≡ 256 → Printed out text o r → r ≤ length o
-printed-within {out} {text} {o} {r} e h = omega (arith, h .room, ap length (h .front) ∙ length-sets out 0 text)
-
-pub printed-as : {out x y o : List ℕ} {r : ℕ} → x ≡ y → Printed out x o r → Printed out y o r
-printed-as {out} {x} {y} {o} {r} e h = subst (λ (t : List ℕ). Printed out t o r) e h
 
 -- ---- three lines, and room for them
 module _ (n : ℕ) (q : Places) (m : Modulus) (d : Divisor) where

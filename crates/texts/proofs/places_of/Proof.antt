@@ -2,8 +2,8 @@ use mathlib.Core.Path.{sym, ap}
 use Rattle.batches.specs.declared.RepeatAnswer.{RepeatAnswer}
 use Rattle.batches.specs.Batches.{repeatOf}
 use borrow.Author.Needs.{needs}
-use Rattle.lines.proofs.places_of.Statement.{statement}
-use Rattle.lines.proofs.places_of.Tie as tie
+use Rattle.texts.proofs.places_of.Statement.{statement}
+use Rattle.texts.proofs.places_of.Tie as tie
 
 enum-known-r : tie.Need-enum-known-r
 enum-known-r c = search needs

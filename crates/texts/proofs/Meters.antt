@@ -12,7 +12,8 @@ use Rattle.rules.specs.Lists.{Batch, Repeat, batch, first-repeat}
 use Rattle.rules.specs.Calls.{Repeated, check, repeat-call}
 use Rattle.rules.proofs.calls.Batches.{pair-of, AllRecords, MadeOf, batch-records, batch-made}
 use Rattle.rules.proofs.calls.Repeats.{repeat-records}
-use Rattle.lines.specs.Text.{text-of, count-line, repeat-line, total-line, refused-line}
+use Rattle.lines.specs.Lines.{count-line, repeat-line, total-line, refused-line}
+use Rattle.texts.specs.Text.{text-of}
 
 module _ (s : List ℕ) {c : CurveRecord} (ec : read-curve s ≡ taken c) where
   abbrev pub lines-of : List (List ℕ) → List ℕ

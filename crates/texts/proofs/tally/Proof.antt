@@ -1,7 +1,8 @@
-use Rattle.lines.proofs.Tallies.{printed-as, no-curve, no-total, total-holds, three-lines, count-room, repeat-room, total-room, three-printed}
+use Rattle.lines.proofs.Printing.{printed-as}
+use Rattle.texts.proofs.Tallies.{no-curve, no-total, total-holds, three-lines, count-room, repeat-room, total-room, three-printed}
 use borrow.Author.Needs.{needs}
-use Rattle.lines.proofs.tally.Statement.{statement}
-use Rattle.lines.proofs.tally.Tie as tie
+use Rattle.texts.proofs.tally.Statement.{statement}
+use Rattle.texts.proofs.tally.Tie as tie
 
 read-curve-requires : tie.Need-read-curve-requires
 read-curve-requires c κs = search needs
