@@ -4,8 +4,8 @@ use mathlib.Core.List.{List}
 use lib.ListN.{length, take}
 use lib.Seq.{length-take-le}
 use borrow.Author.Needs.{needs}
-use Rattle.frames.proofs.lines.Statement.{statement}
-use Rattle.frames.proofs.lines.Tie as tie
+use Rattle.replay.proofs.lines.Statement.{statement}
+use Rattle.replay.proofs.lines.Tie as tie
 
 as-many : (n : ℕ) (l : List ℕ) → n ≤ length l → n ≡ length (take n l)
 as-many n l h = sym (length-take-le n l h)

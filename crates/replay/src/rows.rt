@@ -2,7 +2,7 @@
 // contracts say no more than safety asks.
 ghost use Prim.Native.Nat.{_<_};
 
-fn wide(x: u8) -> u64
+pub fn wide(x: u8) -> u64
     ensures { λ r. ⌜ r < 256 ⌝ }
 {
     x as u64
