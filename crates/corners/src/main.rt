@@ -6,6 +6,6 @@ fn main() {
     let mut text = io::large_buffer();
     let fd = os::open_read(b"corners");
     let n = io::read_full(fd, &mut data);
-    let k = frames::lines(&data[..n], &mut text);
+    let k = replay::lines(&data[..n], &mut text);
     io::write_all(STDOUT_FILENO, &text[..k]);
 }

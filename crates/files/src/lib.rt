@@ -3,7 +3,7 @@
 ghost use lib.ListN.{length};
 ghost use Rattle.files.specs.Files.{Within};
 use libc::STDOUT_FILENO;
-use lines::FileRead;
+use texts::FileRead;
 
 // Reads on until the end, a failed read or a full buffer. A read that fails, as of a directory, isn't the end of a file.
 fn read_open(fd: i32, buf: &mut [u8]) -> FileRead
@@ -37,7 +37,7 @@ pub fn read(path: &[u8], buf: &mut [u8]) -> FileRead
     r
 }
 
-// Writes to standard output what crate `lines` makes of the two files, and nothing else. The buffers have room for one byte more than a file
+// Writes to standard output what crate `texts` makes of the two files, and nothing else. The buffers have room for one byte more than a file
 // may have, so that a file that is too long shows.
 pub fn print(curve: &[u8], batch: &[u8]) {
     let mut s = [0u8; 65537];
@@ -45,6 +45,6 @@ pub fn print(curve: &[u8], batch: &[u8]) {
     let c = read(curve, &mut s);
     let b = read(batch, &mut t);
     let mut out = [0u8; 256];
-    let n = lines::tally_files(c, &s, b, &t, &mut out);
+    let n = texts::tally_files(c, &s, b, &t, &mut out);
     io::write_all(STDOUT_FILENO, &out[..n]);
 }

@@ -12,7 +12,7 @@ use Rattle.rules.specs.Pair.{Pair}
 use Rattle.rules.specs.Lists.{Repeat}
 use Rattle.rules.specs.Records.{choose, numbers}
 use Rattle.digits.specs.Digits.{letters, decimal, hex}
-use Rattle.lines.specs.Text.{two, places, spaced, count-line, repeat-line, total-line, refused-line}
+use Rattle.lines.specs.Lines.{two, places, spaced, count-line, repeat-line, total-line, refused-line}
 use Rattle.digits.proofs.Decimals.{length-hex, Word, decimal-short}
 
 -- ---- digits

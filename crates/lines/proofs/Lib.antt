@@ -1,5 +1,3 @@
 pub mod Lengths
 pub mod Lines
-pub mod Meters
-pub mod Shown
-pub mod Tallies
+pub mod Printing

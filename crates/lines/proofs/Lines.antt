@@ -14,7 +14,7 @@ use Rattle.divisor.specs.Divisors.{weightOf, pair}
 use Rattle.writes.specs.Write.{NumbersOf}
 use Rattle.writes.proofs.Written.{weight-is}
 use Rattle.digits.specs.Digits.{letters, hex}
-use Rattle.lines.specs.Text.{two, places, spaced, total-line}
+use Rattle.lines.specs.Lines.{two, places, spaced, total-line}
 use Rattle.digits.specs.Put.{PutAt, Room}
 use Rattle.digits.proofs.Decimals.{length-hex}
 use Rattle.lines.proofs.Lengths.{length-spaced}

@@ -2,12 +2,9 @@
 use Prim.Native.Nat.{ℕ, _≤_}
 use mathlib.Core.Path.{_≡_}
 use mathlib.Core.List.{List}
-use lib.ListN.{length, take}
+use lib.ListN.{length}
 use lib.Seq.{sets}
 use Rattle.rules.specs.Lists.{Repeat}
-use Rattle.lines.specs.Text.{File, unreadable, holds}
-use Rattle.lines.specs.declared.FileRead.{FileRead}
-use Rattle.lines.specs.declared.FileRead.the-variants.{Holds, Unreadable}
 use Rattle.lines.specs.declared.Places.{Places}
 
 -- a text at the front, all else as it was; r is its length
@@ -15,11 +12,6 @@ pub record Printed (out text o : List ℕ) (r : ℕ) : Type 0 where
   pub all : r ≡ length text
   pub front : o ≡ sets out 0 text
   pub room : r ≤ 256
-
--- what was read of a file whose bytes stand at the front of s
-abbrev pub fileOf : FileRead → List ℕ → File
-fileOf (Holds n) s = holds (take n s)
-fileOf Unreadable s = unreadable
 
 abbrev pub placesOf : Places → Repeat
 placesOf r = record { first = r .first; second = r .second }

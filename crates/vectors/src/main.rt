@@ -10,7 +10,7 @@ fn print_part(letter: u8) {
     let fd = os::open_read(&path);
     let n = io::read_full(fd, &mut data);
     libc::close(fd);
-    let k = frames::lines(&data[..n], &mut text);
+    let k = replay::lines(&data[..n], &mut text);
     io::write_all(STDOUT_FILENO, &text[..k]);
 }
 

@@ -1,6 +1,6 @@
 use mathlib.Core.Path.{refl, sym}
 use lib.Seq.{length-take-le}
-use Rattle.lines.proofs.Tallies.{printed-within}
+use Rattle.lines.proofs.Printing.{printed-within}
 use borrow.Author.Needs.{needs}
 use Rattle.files.proofs.print.Statement.{statement}
 use Rattle.files.proofs.print.Tie as tie

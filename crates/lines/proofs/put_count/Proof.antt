@@ -1,5 +1,5 @@
 use Rattle.digits.specs.Digits.{letters, decimal}
-use Rattle.lines.specs.Text.{count-line}
+use Rattle.lines.specs.Lines.{count-line}
 use Rattle.digits.proofs.Putting.{first-room, second-room, third-room, all-three}
 use borrow.Author.Needs.{needs}
 use Rattle.lines.proofs.put_count.Statement.{statement}

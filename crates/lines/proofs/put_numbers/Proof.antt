@@ -3,7 +3,7 @@ use borrow.Author.Needs.{needs}
 use mathlib.Core.Path.{ap}
 use Prim.Native.Nat.{ℕ, _≤_, _-_}
 use lib.ListN.{take}
-use Rattle.lines.specs.Text.{spaced}
+use Rattle.lines.specs.Lines.{spaced}
 use Rattle.digits.specs.Put.{PutAt}
 use Rattle.digits.proofs.Putting.{put-none, put-as}
 use Rattle.lines.proofs.Lines.{turn-room, hex-room, turn}

@@ -1,4 +1,4 @@
-use Rattle.lines.specs.Text.{repeat-line, places}
+use Rattle.lines.specs.Lines.{repeat-line, places}
 use Rattle.digits.specs.Digits.{letters}
 use Rattle.digits.proofs.Putting.{first-room, second-room, third-room, all-three}
 use borrow.Author.Needs.{needs}

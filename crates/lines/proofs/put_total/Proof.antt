@@ -5,7 +5,7 @@ use Prim.Native.Nat.{_*_}
 use lib.ListN.{take}
 use Rattle.divisor.proofs.Laws.{weight-le}
 use Rattle.digits.specs.Digits.{hex}
-use Rattle.lines.specs.Text.{spaced}
+use Rattle.lines.specs.Lines.{spaced}
 use Rattle.digits.proofs.Putting.{put-then, first-room, second-room, third-room}
 use Rattle.lines.proofs.Lines.{word-room, behind-room, total-put}
 use borrow.Author.Needs.{needs}

@@ -1,7 +1,7 @@
 use native.Mathlib.Omega.{arith}
 use mathlib.Core.List.{_∷_}
 use Rattle.digits.specs.Digits.{decimal}
-use Rattle.lines.specs.Text.{two}
+use Rattle.lines.specs.Lines.{two}
 use Rattle.digits.proofs.Putting.{room-first, room-next, put-then}
 use Rattle.lines.proofs.put_two.Statement.{statement}
 use Rattle.lines.proofs.put_two.Tie as tie

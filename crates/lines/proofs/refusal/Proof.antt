@@ -2,11 +2,11 @@ use native.Mathlib.Omega.{arith}
 use Prim.Native.Nat.{ℕ}
 use Rattle.digits.specs.Digits.{letters}
 use Rattle.digits.specs.Put.{Room}
-use Rattle.lines.specs.Text.{refused-line, two}
+use Rattle.lines.specs.Lines.{refused-line, two}
 use Rattle.lines.proofs.Lengths.{refused-short}
 use Rattle.digits.proofs.Decimals.{Word}
 use Rattle.digits.proofs.Putting.{second-room, third-room, all-three}
-use Rattle.lines.proofs.Tallies.{printed}
+use Rattle.lines.proofs.Printing.{printed}
 use borrow.Author.Needs.{needs}
 use Rattle.lines.proofs.refusal.Statement.{statement}
 use Rattle.lines.proofs.refusal.Tie as tie

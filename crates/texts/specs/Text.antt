@@ -1,0 +1,34 @@
+-- Document 01, "The pole's list": what the program prints, every byte of it, from what was read of the two files.
+use Prim.Native.Nat.{ℕ}
+use mathlib.Core.List.{List, _++_}
+use lib.Dec.{ltb}
+use lib.ListN.{length}
+use Rattle.rules.specs.Pair.{neutral}
+use Rattle.rules.specs.Sum.{sum}
+use Rattle.rules.specs.Records.{choose, curve, read-curve}
+use Rattle.rules.specs.Lists.{batch}
+use Rattle.rules.specs.Calls.{check, repeat-call}
+use Rattle.lines.specs.Lines.{count-line, repeat-line, total-line, refused-line}
+
+-- of the bytes of a curve and of a batch: three lines, or only the line of what refuses them
+unfoldable pub text-of : List ℕ → List ℕ → List ℕ
+unfolding count-line repeat-line total-line refused-line read-curve sum repeat-call
+text-of s records =
+    check (read-curve s) refused-line (λ c.
+    check (batch c (sum (curve c)) records neutral) refused-line (λ b.
+    count-line (b .count) ++ (repeat-line (repeat-call s records .repeat) ++ total-line (c .p) (b .result))))
+
+-- what a file can be: one that can't be opened or read, or its bytes
+pub data File : Type 0 where
+  unreadable : File
+  holds : List ℕ → File
+
+unfoldable pub with-file : File → (List ℕ → List ℕ) → List ℕ
+unfolding refused-line
+with-file unreadable go = refused-line 17 0
+with-file (holds s) go = choose (ltb 65536 (length s)) (refused-line 16 0) (go s)
+
+-- of the two files: 17 and 16 for the curve first, then for the batch, all before the records
+unfoldable pub text : File → File → List ℕ
+unfolding with-file text-of
+text curve batch = with-file curve (λ s. with-file batch (λ b. text-of s b))
