@@ -15,7 +15,8 @@ use Rattle.poly.specs.Contracts.{IsMonic}
 use Rattle.poly.proofs.Lengths.{none-is}
 use Rattle.poly.proofs.Monic.{monic-ne}
 use Rattle.euclid.specs.declared.Line.{Line}
-use Rattle.euclid.specs.Euclid.{Xgcd}
+use Rattle.euclid.specs.declared.Half.{Half}
+use Rattle.euclid.specs.Euclid.{Xgcd, HalfXgcd}
 use Rattle.cantor.specs.Composing.{ToCommon, Common}
 use Rattle.cantor.proofs.Cofactors.{one-of}
 
@@ -33,7 +34,7 @@ module _ (m : Modulus) where
       go (no n) = omega arith
 
   module _ (u1 u2 w : Poly) (to : ToCommon m u1 u2 w) where
-    module _ (e : Line) (he : Xgcd m u1 u2 e) where
+    module _ (e : Half) (he : HalfXgcd m u1 u2 e) where
       pub first-monic : IsMonic m (e .r)
       first-monic = he .gcd .lead (some-of (to .ok-1) (to .monic) (he .gcd .ok) (he .gcd .left))
 
@@ -44,9 +45,9 @@ module _ (m : Modulus) where
         ok-2 = he .ok-t;
         ok-3 = hz .ok;
         monic = first-monic;
-        s1 = pol m (e .s);
-        is = he .is ∙ ring (P m) (pol m (e .s) ∷ pol m u1 ∷ pol m (e .t) ∷ pol m u2 ∷ pol m w ∷ []) (search quote depth 40) refl
-            ∙ ap (λ t. pol m (e .s) *P pol m u1 +P pol m (e .t) *P pol m u2 +P t *P pol m w) (sym (hz .is));
+        s1 = he .s;
+        is = he .is ∙ ring (P m) (he .s ∷ pol m u1 ∷ pol m (e .t) ∷ pol m u2 ∷ pol m w ∷ []) (search quote depth 40) refl
+            ∙ ap (λ t. he .s *P pol m u1 +P pol m (e .t) *P pol m u2 +P t *P pol m w) (sym (hz .is));
         of-1 = he .gcd .left;
         of-2 = he .gcd .right;
         of-w = record { factor = pol m w; is = sym (ap (λ t. pol m w *P t) (one-of m (he .gcd .ok) first-monic l) ∙ mul-one (P m) (pol m w)) };
@@ -62,10 +63,10 @@ module _ (m : Modulus) where
         ok-2 = h2 .ok;
         ok-3 = hh .ok-t;
         monic = hh .gcd .lead (some-of (he .gcd .ok) first-monic (hh .gcd .ok) (hh .gcd .left));
-        s1 = pol m (h .s) *P pol m (e .s);
+        s1 = pol m (h .s) *P he .s;
         is = hh .is ∙ ap (λ t. pol m (h .s) *P t +P pol m (h .t) *P pol m w) (he .is)
-            ∙ ring (P m) (pol m (h .s) ∷ pol m (h .t) ∷ pol m (e .s) ∷ pol m (e .t) ∷ pol m u1 ∷ pol m u2 ∷ pol m w ∷ []) (search quote depth 40) refl
-            ∙ ap (λ t. pol m (h .s) *P pol m (e .s) *P pol m u1 +P t *P pol m u2 +P pol m (h .t) *P pol m w) (sym (h2 .is));
+            ∙ ring (P m) (pol m (h .s) ∷ pol m (h .t) ∷ he .s ∷ pol m (e .t) ∷ pol m u1 ∷ pol m u2 ∷ pol m w ∷ []) (search quote depth 40) refl
+            ∙ ap (λ t. pol m (h .s) *P he .s *P pol m u1 +P t *P pol m u2 +P pol m (h .t) *P pol m w) (sym (h2 .is));
         of-1 = divides-trans (P m) (hh .gcd .left) (he .gcd .left);
         of-2 = divides-trans (P m) (hh .gcd .left) (he .gcd .right);
         of-w = hh .gcd .right;
@@ -77,15 +78,15 @@ module _ (m : Modulus) where
       common-fits h hh = omega (arith, hh .short-s, he .short-t, to .n-1, to .n-w)
 
   -- both pairs are one
-  pub twice-is : (u w : Poly) (h : Line) (z : Poly) → ToCommon m u u w → Xgcd m u w h → Is m z 0P 0 → Common m u u w (record { d = h .r; s2 = z; s3 = h .t })
+  pub twice-is : (u w : Poly) (h : Half) (z : Poly) → ToCommon m u u w → HalfXgcd m u w h → Is m z 0P 0 → Common m u u w (record { d = h .r; s2 = z; s3 = h .t })
   twice-is u w h z to hh hz = record {
     ok-d = hh .gcd .ok;
     ok-2 = hz .ok;
     ok-3 = hh .ok-t;
     monic = hh .gcd .lead (some-of (to .ok-1) (to .monic) (hh .gcd .ok) (hh .gcd .left));
-    s1 = pol m (h .s);
-    is = hh .is ∙ ring (P m) (pol m (h .s) ∷ pol m (h .t) ∷ pol m u ∷ pol m w ∷ []) (search quote depth 40) refl
-        ∙ ap (λ t. pol m (h .s) *P pol m u +P t *P pol m u +P pol m (h .t) *P pol m w) (sym (hz .is));
+    s1 = hh .s;
+    is = hh .is ∙ ring (P m) (hh .s ∷ pol m (h .t) ∷ pol m u ∷ pol m w ∷ []) (search quote depth 40) refl
+        ∙ ap (λ t. hh .s *P pol m u +P t *P pol m u +P pol m (h .t) *P pol m w) (sym (hz .is));
     of-1 = hh .gcd .left;
     of-2 = hh .gcd .left;
     of-w = hh .gcd .right;

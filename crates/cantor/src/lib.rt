@@ -3,6 +3,7 @@
 ghost use Rattle.cantor.specs.Composing.{ToStrip, ToCommon, Common, ToSlope, Slope, ToLift, Lift, ToJoin, Composed, ToCompose};
 ghost use Rattle.cantor.specs.Reducing.{ToCofactor, Cofactor, ToStep, Stepped, ToReduce, Reduced, ToSum, Summed};
 ghost use Rattle.poly.specs.Contracts.{Quotient};
+use euclid::half_xgcd;
 use euclid::xgcd;
 use field::Modulus;
 use poly::Poly;
@@ -44,7 +45,7 @@ fn common(u1: Poly, u2: Poly, w: Poly, m: Modulus) -> Common3
     requires { ⌜ ToCommon m u1 u2 w ⌝ }
     ensures { λ r. ⌜ Common m u1 u2 w r ⌝ }
 {
-    let e = xgcd(u1, u2, m);
+    let e = half_xgcd(u1, u2, m);
     let first = e.r;
     let t = e.t;
     if first.n == 1 {
@@ -72,7 +73,7 @@ fn common_twice(u: Poly, w: Poly, m: Modulus) -> Common3
     requires { ⌜ ToCommon m u u w ⌝ }
     ensures { λ r. ⌜ Common m u u w r ⌝ }
 {
-    let h = xgcd(u, w, m);
+    let h = half_xgcd(u, w, m);
     let d = h.r;
     let s3 = h.t;
     let none = Poly::zero(m);

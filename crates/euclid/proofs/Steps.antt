@@ -16,7 +16,8 @@ use Rattle.poly.specs.Contracts.{ToDivide, Divided, MonicBy}
 use Rattle.poly.proofs.Lengths.{none-is, is-none}
 use Rattle.poly.proofs.Monic.{made-zero, made-monic}
 use Rattle.euclid.specs.declared.Line.{Line}
-use Rattle.euclid.specs.Euclid.{ToDivideBy, OkL, Taken, Scaled}
+use Rattle.euclid.specs.declared.Half.{Half}
+use Rattle.euclid.specs.Euclid.{ToDivideBy, OkL, OkH, Taken, Scaled, ScaledH}
 
 module _ (m : Modulus) where
   open CRing (K m) using (mul as _⊗_, one as 𝟙)
@@ -63,6 +64,12 @@ module _ (m : Modulus) where
   -- ---- a line made monic
   same : {a : Poly} → Ok m a → Is m a (C (K m) 𝟙 *P pol m a) (a .n)
   same {a} h = record { ok = h; is = sym (ap (λ t. t *P pol m a) (term-one (K m)) ∙ P m .one-mul (pol m a)); short = omega arith }
+
+  pub half-zero : {x : Half} → OkH m x → x .r .n ≡ 0 → ScaledH m x x
+  half-zero h e = record { up = 𝟙; r = made-zero m (h .r) e; t = same (h .t) }
+
+  pub half-scaled : {x y : Half} (c : Residue) → OkH m x → 0 < x .r .n → coef (K m) (pol m (x .r)) (x .r .n - 1) ⊗ el m c ≡ 𝟙 → Is m (y .r) (co c *P pol m (x .r)) (x .r .n) → Is m (y .t) (co c *P pol m (x .t)) (x .t .n) → ScaledH m x y
+  half-scaled c h l e hr ht = record { up = el m c; r = made-monic m c (record { ok = h .r; some = l }) e hr; t = ht }
 
   pub scaled-zero : {x : Line} → OkL m x → x .r .n ≡ 0 → Scaled m x x
   scaled-zero h e = record { up = 𝟙; r = made-zero m (h .r) e; s = same (h .s); t = same (h .t) }

@@ -9,6 +9,7 @@ use Rattle.poly.specs.declared.Poly.{Poly}
 use Rattle.poly.specs.Polys.{room, K, P, pol, Ok, Is}
 use Rattle.poly.specs.Contracts.{IsMonic, MonicBy}
 use Rattle.euclid.specs.declared.Line.{Line}
+use Rattle.euclid.specs.declared.Half.{Half}
 
 -- what division by any u but zero asks
 pub record ToDivideBy (m : Modulus) (a u : Poly) : Type 0 where
@@ -39,6 +40,18 @@ module _ (m : Modulus) where
     pub is : pol m (x .r) ≡ pol m (x .s) *P pol m a +P pol m (x .t) *P pol m b
     pub short-s : x .s .n ≤ max 1 (b .n - x .r .n)
     pub short-t : x .t .n ≤ max 1 (a .n - x .r .n)
+
+  -- .. with t alone, for some s
+  pub record HalfXgcd (a b : Poly) (x : Half) : Type 0 where
+    pub gcd : Gcd a b (x .r)
+    pub ok-t : Ok m (x .t)
+    pub s : Po
+    pub is : pol m (x .r) ≡ s *P pol m a +P pol m (x .t) *P pol m b
+    pub short-t : x .t .n ≤ max 1 (a .n - x .r .n)
+
+  pub record OkH (x : Half) : Type 0 where
+    pub r : Ok m (x .r)
+    pub t : Ok m (x .t)
 
   pub record OkL (x : Line) : Type 0 where
     pub r : Ok m (x .r)
@@ -72,4 +85,9 @@ module _ (m : Modulus) where
     pub up : A
     pub r : MonicBy m up (x .r) (y .r)
     pub s : Is m (y .s) (C (K m) up *P pol m (x .s)) (x .s .n)
+    pub t : Is m (y .t) (C (K m) up *P pol m (x .t)) (x .t .n)
+
+  pub record ScaledH (x y : Half) : Type 0 where
+    pub up : A
+    pub r : MonicBy m up (x .r) (y .r)
     pub t : Is m (y .t) (C (K m) up *P pol m (x .t)) (x .t .n)

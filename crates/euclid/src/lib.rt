@@ -6,7 +6,7 @@ ghost use Rattle.algebra.proofs.poly.Derivative.{derP};
 ghost use Rattle.field.specs.Primes.{Decides};
 ghost use Rattle.poly.specs.Polys.{K, pol, Ok};
 ghost use Rattle.poly.specs.Contracts.{Divided};
-ghost use Rattle.euclid.specs.Euclid.{ToDivideBy, OkL, Lessens, Less, Scaled, Gcd, Xgcd};
+ghost use Rattle.euclid.specs.Euclid.{ToDivideBy, OkL, OkH, Lessens, Less, Scaled, ScaledH, Gcd, Xgcd, HalfXgcd};
 use field::Modulus;
 use poly::DivRem;
 use poly::Poly;
@@ -15,6 +15,12 @@ use poly::Poly;
 pub struct Line {
     pub r: Poly,
     pub s: Poly,
+    pub t: Poly,
+}
+
+// A line whose s nobody asks for.
+pub struct Half {
+    pub r: Poly,
     pub t: Poly,
 }
 
@@ -116,6 +122,51 @@ pub fn xgcd(a: Poly, b: Poly, m: Modulus) -> Line
         n = e.n;
     }
     if n == 0 {
+        return x.monic(m);
+    }
+    y.monic(m)
+}
+
+impl Half {
+    // The same with r monic; as it is where r is zero.
+    fn monic(self, m: Modulus) -> Half
+        requires { ⌜ OkH m self ⌝ }
+        ensures { λ y. ⌜ ScaledH m self y ⌝ }
+    {
+        let g = self.r;
+        if g.n == 0 {
+            return self;
+        }
+        let t = self.t;
+        let x = g.unlead(m);
+        let r1 = g.scale(x, m);
+        let t1 = t.scale(x, m);
+        Half { r: r1, t: t1 }
+    }
+}
+
+// The gcd r with the cofactor of b alone: r = s * a + t * b for some s. It goes as xgcd does.
+pub fn half_xgcd(a: Poly, b: Poly, m: Modulus) -> Half
+    requires { ⌜ Ok m a × Ok m b ⌝ }
+    ensures { λ x. ⌜ HalfXgcd m a b x ⌝ }
+{
+    let one = Poly::one(m);
+    let zero = Poly::zero(m);
+    let mut x = Half { r: a, t: zero };
+    let mut y = Half { r: b, t: one };
+    let mut size = b.n;
+    while 1 < size {
+        let r = x.r;
+        let t = x.t;
+        let d = divide(r, y.r, m);
+        let q = d.quotient;
+        let e = d.remainder;
+        let w = t.sub(q.mul(y.t, m), m);
+        x = y;
+        y = Half { r: e, t: w };
+        size = e.n;
+    }
+    if size == 0 {
         return x.monic(m);
     }
     y.monic(m)

@@ -2,7 +2,7 @@ use native.Mathlib.Omega.{arith}
 use mathlib.Core.Path.{_≡_, refl, sym, ap}
 use Rattle.poly.specs.declared.Poly.{Poly}
 use Rattle.euclid.proofs.Common.{to-divide-by}
-use Rattle.euclid.proofs.Cofactors.{Extended, extended-begin, turn-fits, turn-is, extended-end, extended-stop}
+use Rattle.euclid.proofs.Cofactors.{Extended, first-ok, second-ok, extended-begin, turn-fits, turn-is, extended-end, extended-stop}
 use Rattle.euclid.proofs.xgcd.Statement.{statement}
 use Rattle.euclid.proofs.xgcd.Tie as tie
 
@@ -22,7 +22,7 @@ loop-holds : tie.Need-loop-holds Inv-loop μ-loop
 loop-holds c = (extended-begin (c .before .before .args .m) (c .before .before .pre .0) (c .before .before .pre .1) (c .before .one .ensures) (c .zero .ensures), refl)
 
 divide-requires : tie.Need-divide-requires Inv-loop μ-loop
-divide-requires c κs = to-divide-by (c .before .before .before .before .before .args .m) (c .before .before .loop .inv .0 .core) (omega (arith, c .before .loop-test .taken, c .before .before .loop .inv .1))
+divide-requires c κs = to-divide-by (c .before .before .before .before .before .args .m) (c .before .before .loop .inv .0 .half .core) (omega (arith, c .before .loop-test .taken, c .before .before .loop .inv .1))
 
 less-requires : tie.Need-less-requires Inv-loop μ-loop
 less-requires c κs = turn-fits (c .before .before .before .before .before .before .before .before .args .m) (c .before .before .before .before .before .before .before .before .pre .0) (c .before .before .before .before .before .before .before .before .pre .1) (c .before .before .before .before .before .loop .inv .0) (omega (arith, c .before .before .before .before .loop-test .taken, c .before .before .before .before .before .loop .inv .1)) (c .before .before .divide .ensures)
@@ -36,13 +36,13 @@ loop-again c =
     (turn-is (s .args .m) (s .pre .0) (s .pre .1) (c .before .before .before .before .before .before .loop .inv .0) (omega (arith, c .before .before .before .before .before .loop-test .taken, c .before .before .before .before .before .before .loop .inv .1)) (c .before .before .before .divide .ensures) (c .less .ensures), ap (λ (e : Poly). e .n) (sym (c .less .ensures .r-is)))
 
 monic-requires : tie.Need-monic-requires Inv-loop μ-loop
-monic-requires c κs = c .before .before .loop .inv .0 .ok-x
+monic-requires c κs = first-ok (c .before .before .before .before .before .args .m) (c .before .before .loop .inv .0)
 
 returns : tie.Need-returns Inv-loop μ-loop
 returns c = let v = c .before .before .before .loop in extended-end (c .before .before .before .before .before .before .args .m) (v .inv .0) (omega (arith, c .before .if1 .taken, v .inv .1)) (c .monic .ensures)
 
 monic-requires-2 : tie.Need-monic-requires-2 Inv-loop μ-loop
-monic-requires-2 c κs = c .before .before .loop .inv .0 .ok-y
+monic-requires-2 c κs = second-ok (c .before .before .before .before .before .args .m) (c .before .before .loop .inv .0)
 
 returns-2 : tie.Need-returns-2 Inv-loop μ-loop
 returns-2 c = let v = c .before .before .before .loop in extended-stop (c .before .before .before .before .before .before .args .m) (v .inv .0) (omega (arith, c .before .if1 .left, c .before .before .loop-test .left, v .inv .1)) (c .monic2 .ensures)
