@@ -28,8 +28,8 @@
  *   A smaller output does where the result is shorter: 1 + 16w bytes for weight w.
  *
  * STACK
- *   yubi_first_repeat keeps up to 4096 divisors on the stack, about 600 KB: leave it 1 MB, and don't call it on a thread
- *   with a small stack. The other calls keep no batch in memory.
+ *   yubi_first_repeat keeps 4096 divisors of 56 bytes and a copy of them on the stack, 459 KB: leave it 1 MB, and don't
+ *   call it on a thread with a small stack. The other calls keep no batch in memory.
  *
  * ANSWERS
  *   Each call answers a number, a place and a length. On number 0 the result stands in the first `length` bytes of the
