@@ -1,0 +1,27 @@
+#!/usr/bin/env bash
+# The tests of bindings/, outside the gate:
+#
+#     bash tools/bindings.sh
+#
+# builds the proved library and runs the tests of the Rust wrappers, of the header's declarations, of the plain implementation
+# and of the judge.
+set -eu
+cd "$(dirname "$0")/.."
+. tools/foreign.sh
+want_rust
+cargo=cargo
+# A compiler of Debian's goes with Debian's cargo.
+[ "$rust" = rustc ] || cargo=/usr/bin/cargo
+want "$cargo" cargo
+library
+
+arguments=()
+if [ ${#emulator[@]} != 0 ]; then
+    arguments=(--target x86_64-unknown-linux-gnu)
+    export CARGO_TARGET_X86_64_UNKNOWN_LINUX_GNU_LINKER=x86_64-linux-gnu-gcc
+    export CARGO_TARGET_X86_64_UNKNOWN_LINUX_GNU_RUNNER=${emulator[0]}
+    export RUSTFLAGS="-C target-feature=+crt-static"
+fi
+export RUSTC=$rust CARGO_TARGET_DIR=$PWD/target/foreign/cargo
+say "testing, with $("$cargo" --version)"
+"$cargo" test --release --offline "${arguments[@]}" --manifest-path bindings/Cargo.toml
