@@ -1,10 +1,10 @@
 #!/usr/bin/env python3
-"""corners.py: makes the input and the expected output of the program `corners`: every street corner of document 01,
-with a star or without, run through the calls, one line each: a label and the answer.
+"""corners.py: makes the last part of what the program `vectors` reads, data/corners, and of what it prints: every street corner
+of document 01, with a star or without, run through the calls, one line each: a label and the answer.
 
-    python3 tools/corners.py             writes both files
-    python3 tools/corners.py --check     writes nothing: both files must be what it would write
-    --input PATH, --expected PATH        other files than crates/corners/data/corners and crates/corners/stdout
+    python3 tools/corners.py             writes the data; vectors.py writes the expected text, which ends with the corners'
+    python3 tools/corners.py --check     writes nothing: the data must be what it would write, and the expected text end so
+    --input PATH, --expected PATH        other files than crates/vectors/data/corners and crates/vectors/stdout
 
 The format is frames.py's, with a label before each frame. What document 01 says of a corner stands in corner_table.py;
 reference.py's answer must agree with it or nothing is written.
@@ -172,28 +172,37 @@ def put_slips():
         assert found == 3
 
 
+def made():
+    """The data and the text that the corners are answered by."""
+    if not frames:
+        for put in (put_sums, put_curves, put_bounds, put_case_p, put_slips):
+            put()
+    data = b"".join(map(encoded, frames))
+    return data, "".join(map(text_of, decoded(data)))
+
+
 def main():
     parser = argparse.ArgumentParser(description="makes or checks the street corners", epilog="see the head of the file")
     parser.add_argument("--check", action="store_true")
-    root = os.path.join(os.path.dirname(os.path.abspath(__file__)), "..", "crates", "corners")
+    root = os.path.join(os.path.dirname(os.path.abspath(__file__)), "..", "crates", "vectors")
     parser.add_argument("--input", default=os.path.normpath(os.path.join(root, "data", "corners")))
     parser.add_argument("--expected", default=os.path.normpath(os.path.join(root, "stdout")))
     options = parser.parse_args()
-    for put in (put_sums, put_curves, put_bounds, put_case_p, put_slips):
-        put()
-    data = b"".join(map(encoded, frames))
-    text = "".join(map(text_of, decoded(data))).encode("ascii")
+    data, text = made()
     wrong = 0
-    for path, content in ((options.input, data), (options.expected, text)):
-        if options.check:
-            with open(path, "rb") as file:
-                if file.read() != content:
-                    print("%s isn't what it should be" % path)
-                    wrong = 1
-        else:
-            os.makedirs(os.path.dirname(os.path.abspath(path)), exist_ok=True)
-            with open(path, "wb") as file:
-                file.write(content)
+    if options.check:
+        with open(options.input, "rb") as file:
+            if file.read() != data:
+                print("%s isn't what it should be" % options.input)
+                wrong = 1
+        with open(options.expected, encoding="ascii") as file:
+            if not file.read().endswith("\n" + text):
+                print("%s doesn't end as it should" % options.expected)
+                wrong = 1
+    else:
+        os.makedirs(os.path.dirname(os.path.abspath(options.input)), exist_ok=True)
+        with open(options.input, "wb") as file:
+            file.write(data)
     print("%d corners, %d bytes of input, %d bytes of expected text" % (len(labels), len(data), len(text)))
     return wrong
 

@@ -1,4 +1,4 @@
-"""frames.py: the file format that the programs `vectors` and `corners` read, and the lines they print.
+"""frames.py: the file format that the program `vectors` reads, and the lines it prints.
 
 A file is a sequence of frames. A frame is
 

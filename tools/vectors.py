@@ -1,5 +1,6 @@
 #!/usr/bin/env python3
-"""vectors.py: makes the input and the expected output of the program `vectors`, and counts what they cover.
+"""vectors.py: makes the input and the expected output of the program `vectors`, and counts what they cover. The expected output
+ends with the lines of the street corners, whose input corners.py makes.
 
     python3 tools/vectors.py SEED             writes both files and prints the census
     python3 tools/vectors.py SEED --check     writes nothing: reads both files again, answers every frame again, sums
@@ -17,6 +18,7 @@ import os
 import sys
 from collections import Counter
 
+import corners
 import ideals
 import reference as r
 from frames import (
@@ -1061,12 +1063,12 @@ def main():
     if options.check:
         if given != data:
             short.append("the input isn't what seed %s makes" % options.seed)
-        if expected != text:
+        if expected != text + corners.made()[1]:
             short.append("the expected text isn't what the frames answer")
         print("%d sums and doubles agree with ideals.py" % sums_by_ideals(census.frames))
     else:
         parts = in_parts(collection.frames)
-        files = list(zip(part_paths(options.input, len(parts)), parts)) + [(options.expected, text.encode("ascii"))]
+        files = list(zip(part_paths(options.input, len(parts)), parts)) + [(options.expected, (text + corners.made()[1]).encode("ascii"))]
         for path, content in files:
             os.makedirs(os.path.dirname(os.path.abspath(path)), exist_ok=True)
             with open(path, "wb") as file:

@@ -1,23 +1,87 @@
-// Prints the lines of the files `vectors.a`, `vectors.b` and on, each at most 65,536 bytes. Their frames and the expected text are made by
-// tools/vectors.py, which shares no code with the product.
+// Prints the line of each frame in the files `vectors.a`, `vectors.b` and on, then of those in `corners`, each at most 65,536 bytes. The files
+// and the expected text are made by tools/vectors.py and tools/corners.py, which share no code with the product. tools/README.md has the form
+// of both. For tests: the contracts say no more than safety asks.
+ghost use mathlib.Core.Path.{_≡_};
+ghost use Prim.Native.Nat.{_≤_};
+ghost use lib.ListN.{length, take};
+ghost use Rattle.frames.specs.Frames.{InOrder};
+use frames::Frame;
 use libc::STDOUT_FILENO;
 
-// A part that isn't there has no lines.
-fn print_part(letter: u8) {
+mod calls;
+
+// What each byte of an output holds before a call, and the longest output.
+const GUARD: u8 = 165;
+
+const MOST_OUTPUT: usize = 128;
+
+// The line of the frame at the front of s, put at the front of the text; answers its length, 0 where the frame is malformed.
+fn line(s: &[u8], f: Frame, text: &mut [u8]) -> usize
+    requires { ⌜ InOrder f × (f .end ≤ length (now s)) ⌝ }
+{
+    let a = f.first;
+    let b = f.second;
+    let c = f.total;
+    let e = f.end;
+    let n = f.output;
+    if MOST_OUTPUT < n {
+        return 0;
+    }
+    let mut out = [GUARD; MOST_OUTPUT];
+    calls::line(
+        s[0],
+        &s[21..a],
+        &s[a..b],
+        &s[b..c],
+        &mut out[0..n],
+        &s[c..e],
+        text,
+    )
+}
+
+// The lines of all frames, one after the other, at the front of the text; answers their length. They end at a malformed frame, so that the
+// comparison fails.
+fn lines(s: &[u8], text: &mut [u8]) -> usize
+    ensures { λ r. ⌜ r ≤ length (now (text .exit)) ⌝ }
+{
+    let mut at: usize = 0;
+    let mut end: usize = 0;
+    while at < s.len() {
+        let f = frames::cut(&s[at..]);
+        let n = f.end;
+        if s.len() - at < n {
+            return end;
+        }
+        let k = line(&s[at..], f, &mut text[end..]);
+        if k == 0 {
+            return end;
+        }
+        if text.len() - end < k {
+            return end;
+        }
+        at += n;
+        end += k;
+    }
+    end
+}
+
+// A file that isn't there has no lines.
+fn print_file(path: &[u8]) {
     let mut data = io::large_buffer();
     let mut text = io::large_buffer();
-    let path = [b'v', b'e', b'c', b't', b'o', b'r', b's', b'.', letter];
-    let fd = os::open_read(&path);
+    let fd = os::open_read(path);
     let n = io::read_full(fd, &mut data);
     libc::close(fd);
-    let k = replay::lines(&data[..n], &mut text);
+    let k = lines(&data[..n], &mut text);
     io::write_all(STDOUT_FILENO, &text[..k]);
 }
 
 fn main() {
     let mut k: u8 = 0;
     while k < 26 {
-        print_part(b'a' + k);
+        let part = [b'v', b'e', b'c', b't', b'o', b'r', b's', b'.', b'a' + k];
+        print_file(&part);
         k += 1;
     }
+    print_file(b"corners");
 }

@@ -11,7 +11,7 @@ pub fn wide(x: u8) -> u64
     x as u64
 }
 
-fn read32(s: &[u8], a: usize) -> u64
+pub fn read32(s: &[u8], a: usize) -> u64
     requires { ⌜ a + 4 ≤ length (now s) ⌝ }
     ensures within { λ r. ⌜ r < 4294967296 ⌝ }
     ensures word { λ r. ⌜ r ≡ word32 (now (s .entry)) a ⌝ }

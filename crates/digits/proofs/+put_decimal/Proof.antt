@@ -25,85 +25,33 @@ abbrev put-decimal-below : ℕ → In 1 put-decimal-kinds.ps
 put-decimal-below t =
     and 1 put-decimal-kinds.ps (falls 1 put-decimal-kinds.ps _<_ μ-put-decimal t) put-decimal.Pre
 
-put-decimal-letter-requires : (t : ℕ) → put-decimal-lts.Need-letter-requires (
-  letter-reads.Asked,
-  letter-reads.Learnt,
-  put-byte-reads.Asked,
-  put-byte-reads.Learnt,
-  put-decimal-below t,
-  put-decimal.Post,
-) (put-decimal-at t) put-decimal.Post
+put-decimal-letter-requires : (t : ℕ) → put-decimal-lts.Need-letter-requires (claims t) (put-decimal-at t) put-decimal.Post
 put-decimal-letter-requires t c κs = omega (arith, c .before .if1 .taken)
 
-put-decimal-put-byte-requires : (t : ℕ) → put-decimal-lts.Need-put-byte-requires (
-  letter-reads.Asked,
-  letter-reads.Learnt,
-  put-byte-reads.Asked,
-  put-byte-reads.Learnt,
-  put-decimal-below t,
-  put-decimal.Post,
-) (put-decimal-at t) put-decimal.Post
+put-decimal-put-byte-requires : (t : ℕ) → put-decimal-lts.Need-put-byte-requires (claims t) (put-decimal-at t) put-decimal.Post
 put-decimal-put-byte-requires t c κs = let s = c .before .before .before in room-last [] _ (decimal-small (s .args .n) (c .before .before .if1 .taken)) (s .args .a) (s .pre .1) (put-none (s .args .out .now) (s .args .a))
 
-put-decimal-returns : (t : ℕ) → put-decimal-lts.Need-returns (
-  letter-reads.Asked,
-  letter-reads.Learnt,
-  put-byte-reads.Asked,
-  put-byte-reads.Learnt,
-  put-decimal-below t,
-  put-decimal.Post,
-) (put-decimal-at t) put-decimal.Post
+-- what the proof knows of each call, the one to itself below t
+abbrev claims : ℕ → put-decimal-lts.Claims
+claims t = (letter-reads.Asked, letter-reads.Learnt, put-byte-reads.Asked, put-byte-reads.Learnt, put-decimal-below t, put-decimal.Post)
+
+put-decimal-returns : (t : ℕ) → put-decimal-lts.Need-returns (claims t) (put-decimal-at t) put-decimal.Post
 put-decimal-returns t c = let s = c .before .before .before .before in put-last [] _ (decimal-small (s .args .n) (c .before .before .before .if1 .taken)) (s .args .a) (s .pre .1) (put-none (s .args .out .now) (s .args .a)) (c .before .letter .ensures) (c .put-byte .ensures)
 
-put-decimal-put-decimal-requires : (t : ℕ) → put-decimal-lts.Need-put-decimal-requires (
-  letter-reads.Asked,
-  letter-reads.Learnt,
-  put-byte-reads.Asked,
-  put-byte-reads.Learnt,
-  put-decimal-below t,
-  put-decimal.Post,
-) (put-decimal-at t) put-decimal.Post
+put-decimal-put-decimal-requires : (t : ℕ) → put-decimal-lts.Need-put-decimal-requires (claims t) (put-decimal-at t) put-decimal.Post
 put-decimal-put-decimal-requires t c κs = let s = c .before .before in (omega (arith, s .pre .0, c .before .if1 .left), room-front (decimal (s .args .n / 10)) _ (decimal-large (s .args .n) (c .before .if1 .left)) (s .args .a) (s .pre .1))
 
-put-decimal-letter-requires-2 : (t : ℕ) → put-decimal-lts.Need-letter-requires-2 (
-  letter-reads.Asked,
-  letter-reads.Learnt,
-  put-byte-reads.Asked,
-  put-byte-reads.Learnt,
-  put-decimal-below t,
-  put-decimal.Post,
-) (put-decimal-at t) put-decimal.Post
+put-decimal-letter-requires-2 : (t : ℕ) → put-decimal-lts.Need-letter-requires-2 (claims t) (put-decimal-at t) put-decimal.Post
 put-decimal-letter-requires-2 t c κs = omega arith
 
-put-decimal-put-byte-requires-2 : (t : ℕ) → put-decimal-lts.Need-put-byte-requires-2 (
-  letter-reads.Asked,
-  letter-reads.Learnt,
-  put-byte-reads.Asked,
-  put-byte-reads.Learnt,
-  put-decimal-below t,
-  put-decimal.Post,
-) (put-decimal-at t) put-decimal.Post
+put-decimal-put-byte-requires-2 : (t : ℕ) → put-decimal-lts.Need-put-byte-requires-2 (claims t) (put-decimal-at t) put-decimal.Post
 put-decimal-put-byte-requires-2 t c κs = let s = c .before .before .before .before .before in room-last (decimal (s .args .n / 10)) _ (decimal-large (s .args .n) (c .before .before .before .before .if1 .left)) (s .args .a) (s .pre .1) (c .before .before .put-decimal .ensures)
 
-put-decimal-returns-2 : (t : ℕ) → put-decimal-lts.Need-returns-2 (
-  letter-reads.Asked,
-  letter-reads.Learnt,
-  put-byte-reads.Asked,
-  put-byte-reads.Learnt,
-  put-decimal-below t,
-  put-decimal.Post,
-) (put-decimal-at t) put-decimal.Post
+put-decimal-returns-2 : (t : ℕ) → put-decimal-lts.Need-returns-2 (claims t) (put-decimal-at t) put-decimal.Post
 put-decimal-returns-2 t c = let s = c .before .before .before .before .before .before in put-last (decimal (s .args .n / 10)) _ (decimal-large (s .args .n) (c .before .before .before .before .before .if1 .left)) (s .args .a) (s .pre .1) (c .before .before .before .put-decimal .ensures) (c .before .letter2 .ensures) (c .put-byte2 .ensures)
 
 pub +put-decimal-spec : {M : Type 1} → statement M
-+put-decimal-spec = close μ-put-decimal λ t. put-decimal-lts.spec (
-  letter-reads.Asked,
-  letter-reads.Learnt,
-  put-byte-reads.Asked,
-  put-byte-reads.Learnt,
-  put-decimal-below t,
-  put-decimal.Post,
-)
++put-decimal-spec = close μ-put-decimal λ t. put-decimal-lts.spec (claims t)
     (put-decimal-at t)
     put-decimal.Post
     (put-decimal-letter-requires t)

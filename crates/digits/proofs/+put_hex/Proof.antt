@@ -23,75 +23,30 @@ put-hex-at t = and 1 put-hex-kinds.ps (is 1 put-hex-kinds.ps μ-put-hex t) put-h
 abbrev put-hex-below : ℕ → In 1 put-hex-kinds.ps
 put-hex-below t = and 1 put-hex-kinds.ps (falls 1 put-hex-kinds.ps _<_ μ-put-hex t) put-hex.Pre
 
-put-hex-returns : (t : ℕ) → put-hex-lts.Need-returns (
-  put-hex-below t,
-  put-hex.Post,
-  letter-reads.Asked,
-  letter-reads.Learnt,
-  put-byte-reads.Asked,
-  put-byte-reads.Learnt,
-) (put-hex-at t) put-hex.Post
+-- what the proof knows of each call, the one to itself below t
+abbrev claims : ℕ → put-hex-lts.Claims
+claims t = (put-hex-below t, put-hex.Post, letter-reads.Asked, letter-reads.Learnt, put-byte-reads.Asked, put-byte-reads.Learnt)
+
+put-hex-returns : (t : ℕ) → put-hex-lts.Need-returns (claims t) (put-hex-at t) put-hex.Post
 put-hex-returns t c = let s = c .before in put-as (sym (hex-none (s .args .k) (s .args .x) (c .if1 .taken))) (put-none (s .args .out .now) (s .args .a))
 
-put-hex-sub-put-hex : (t : ℕ) → put-hex-lts.Need-sub-put-hex (
-  put-hex-below t,
-  put-hex.Post,
-  letter-reads.Asked,
-  letter-reads.Learnt,
-  put-byte-reads.Asked,
-  put-byte-reads.Learnt,
-) (put-hex-at t) put-hex.Post
+put-hex-sub-put-hex : (t : ℕ) → put-hex-lts.Need-sub-put-hex (claims t) (put-hex-at t) put-hex.Post
 put-hex-sub-put-hex t c = omega (arith, c .before .if1 .left)
 
-put-hex-put-hex-requires : (t : ℕ) → put-hex-lts.Need-put-hex-requires (
-  put-hex-below t,
-  put-hex.Post,
-  letter-reads.Asked,
-  letter-reads.Learnt,
-  put-byte-reads.Asked,
-  put-byte-reads.Learnt,
-) (put-hex-at t) put-hex.Post
+put-hex-put-hex-requires : (t : ℕ) → put-hex-lts.Need-put-hex-requires (claims t) (put-hex-at t) put-hex.Post
 put-hex-put-hex-requires t c κs = let s = c .before .before in (omega (arith, s .pre .0, c .before .if1 .left), room-front (hex (s .args .k - 1) (s .args .x / 16)) _ (hex-more (s .args .k) (s .args .x) (c .before .if1 .left)) (s .args .a) (s .pre .1))
 
-put-hex-letter-requires : (t : ℕ) → put-hex-lts.Need-letter-requires (
-  put-hex-below t,
-  put-hex.Post,
-  letter-reads.Asked,
-  letter-reads.Learnt,
-  put-byte-reads.Asked,
-  put-byte-reads.Learnt,
-) (put-hex-at t) put-hex.Post
+put-hex-letter-requires : (t : ℕ) → put-hex-lts.Need-letter-requires (claims t) (put-hex-at t) put-hex.Post
 put-hex-letter-requires t c κs = omega arith
 
-put-hex-put-byte-requires : (t : ℕ) → put-hex-lts.Need-put-byte-requires (
-  put-hex-below t,
-  put-hex.Post,
-  letter-reads.Asked,
-  letter-reads.Learnt,
-  put-byte-reads.Asked,
-  put-byte-reads.Learnt,
-) (put-hex-at t) put-hex.Post
+put-hex-put-byte-requires : (t : ℕ) → put-hex-lts.Need-put-byte-requires (claims t) (put-hex-at t) put-hex.Post
 put-hex-put-byte-requires t c κs = let s = c .before .before .before .before .before in room-last (hex (s .args .k - 1) (s .args .x / 16)) _ (hex-more (s .args .k) (s .args .x) (c .before .before .before .before .if1 .left)) (s .args .a) (s .pre .1) (c .before .before .put-hex .ensures)
 
-put-hex-returns-2 : (t : ℕ) → put-hex-lts.Need-returns-2 (
-  put-hex-below t,
-  put-hex.Post,
-  letter-reads.Asked,
-  letter-reads.Learnt,
-  put-byte-reads.Asked,
-  put-byte-reads.Learnt,
-) (put-hex-at t) put-hex.Post
+put-hex-returns-2 : (t : ℕ) → put-hex-lts.Need-returns-2 (claims t) (put-hex-at t) put-hex.Post
 put-hex-returns-2 t c = let s = c .before .before .before .before .before .before in put-last (hex (s .args .k - 1) (s .args .x / 16)) _ (hex-more (s .args .k) (s .args .x) (c .before .before .before .before .before .if1 .left)) (s .args .a) (s .pre .1) (c .before .before .before .put-hex .ensures) (c .before .letter .ensures) (c .put-byte .ensures)
 
 pub +put-hex-spec : {M : Type 1} → statement M
-+put-hex-spec = close μ-put-hex λ t. put-hex-lts.spec (
-  put-hex-below t,
-  put-hex.Post,
-  letter-reads.Asked,
-  letter-reads.Learnt,
-  put-byte-reads.Asked,
-  put-byte-reads.Learnt,
-)
++put-hex-spec = close μ-put-hex λ t. put-hex-lts.spec (claims t)
     (put-hex-at t)
     put-hex.Post
     (put-hex-returns t)

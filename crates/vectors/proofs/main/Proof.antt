@@ -4,19 +4,22 @@ use Rattle.vectors.proofs.main.Statement.{statement}
 use Rattle.vectors.proofs.main.Tie as tie
 
 abbrev Inv-loop : tie.InvT-loop
-Inv-loop k₀ k = k ≤ 26
+Inv-loop k₀ t3 k = k ≤ 26
 
 abbrev μ-loop : tie.MeasureT-loop
-μ-loop k₀ k = 26 - k
+μ-loop k₀ t3 k = 26 - k
 
 loop-holds : tie.Need-loop-holds Inv-loop μ-loop
 loop-holds c = search needs
 
-add-print-part : tie.Need-add-print-part Inv-loop μ-loop
-add-print-part c = search needs
+add-t5 : tie.Need-add-t5 Inv-loop μ-loop
+add-t5 c = search needs
 
-print-part-requires : tie.Need-print-part-requires Inv-loop μ-loop
-print-part-requires c κs = search needs
+slice-aggregate-print-file : tie.Need-slice-aggregate-print-file Inv-loop μ-loop
+slice-aggregate-print-file c = search needs
+
+print-file-requires : tie.Need-print-file-requires Inv-loop μ-loop
+print-file-requires c κs = search needs
 
 add-k : tie.Need-add-k Inv-loop μ-loop
 add-k c = search needs
@@ -26,6 +29,12 @@ loop-less c = search needs
 
 loop-again : tie.Need-loop-again Inv-loop μ-loop
 loop-again c = search needs
+
+slice-aggregate-print-file-2 : tie.Need-slice-aggregate-print-file-2 Inv-loop μ-loop
+slice-aggregate-print-file-2 c = search needs
+
+print-file-requires-2 : tie.Need-print-file-requires-2 Inv-loop μ-loop
+print-file-requires-2 c κs = search needs
 
 returns : tie.Need-returns Inv-loop μ-loop
 returns c = search needs
@@ -37,9 +46,12 @@ main-spec =
     Inv-loop
     μ-loop
     loop-holds
-    add-print-part
-    print-part-requires
+    add-t5
+    slice-aggregate-print-file
+    print-file-requires
     add-k
     loop-less
     loop-again
+    slice-aggregate-print-file-2
+    print-file-requires-2
     returns)

@@ -2,8 +2,8 @@ use mathlib.Core.Path.{_≡_}
 use Prim.Native.Nat.{_-_}
 use lib.ListN.{length}
 use borrow.Author.Needs.{needs}
-use Rattle.replay.proofs.rows.bytes.Statement.{statement}
-use Rattle.replay.proofs.rows.bytes.Tie as tie
+use Rattle.prints.proofs.bytes.Statement.{statement}
+use Rattle.prints.proofs.bytes.Tie as tie
 
 abbrev Inv-loop : tie.InvT-loop
 Inv-loop text₀ at s in-hex end₀ k₀ text end k = length text ≡ length text₀

@@ -2,12 +2,6 @@
 // contracts say no more than safety asks.
 ghost use Prim.Native.Nat.{_<_};
 
-pub fn wide(x: u8) -> u64
-    ensures { λ r. ⌜ r < 256 ⌝ }
-{
-    x as u64
-}
-
 fn put(text: &mut [u8], at: usize, b: u8) -> usize {
     if at < text.len() {
         text[at] = b;
@@ -48,7 +42,7 @@ fn hex_digit(text: &mut [u8], at: usize, d: u64) -> usize
 // A byte as two digits, or as it is.
 fn byte(text: &mut [u8], at: usize, b: u8, in_hex: bool) -> usize {
     if in_hex {
-        let x = wide(b);
+        let x = words::wide(b);
         let next = hex_digit(text, at, x / 16);
         return hex_digit(text, next, x % 16);
     }

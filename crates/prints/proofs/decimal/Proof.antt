@@ -1,8 +1,8 @@
 use mathlib.Core.Path.{_≡_}
 use lib.ListN.{length}
 use borrow.Author.Needs.{needs}
-use Rattle.replay.proofs.rows.decimal.Statement.{statement}
-use Rattle.replay.proofs.rows.decimal.Tie as tie
+use Rattle.prints.proofs.decimal.Statement.{statement}
+use Rattle.prints.proofs.decimal.Tie as tie
 
 abbrev Inv-loop : tie.InvT-loop
 Inv-loop text₀ at n unit₀ end₀ text unit end = length text ≡ length text₀

@@ -1,7 +1,7 @@
 // A frame's call, run through the exported calls, and its line of text: what tools/README.md says of both. For tests: the contracts
 // say no more than safety asks.
-ghost use Prim.Native.Nat.{_<_};
-use super::rows;
+ghost use mathlib.Core.Path.{_≡_};
+ghost use lib.ListN.{length};
 use flats::YubiRunning;
 use flats::YubiScanned;
 use structs::YubiAnswer;
@@ -9,50 +9,29 @@ use structs::YubiMultiple;
 use structs::YubiRepeat;
 use structs::YubiTotal;
 
-// Four bytes, big-endian; 0 past the end.
-pub fn word(s: &[u8], at: usize) -> u64
-    ensures { λ r. ⌜ r < 4294967296 ⌝ }
-{
-    if s.len() < 4 {
-        return 0;
-    }
-    if s.len() - 4 < at {
-        return 0;
-    }
-    ((rows::wide(s[at]) * 256 + rows::wide(s[at + 1])) * 256 + rows::wide(s[at + 2])) * 256
-        + rows::wide(s[at + 3])
-}
-
-// The k-th of eight bytes each.
-fn number(s: &[u8], k: usize) -> u64
-    requires { ⌜ k < 8 ⌝ }
-{
-    word(s, 8 * k) * 4294967296 + word(s, 8 * k + 4)
-}
-
 fn checked(text: &mut [u8], a: YubiAnswer) -> usize {
     let values = [a.number, a.place, a.length];
-    rows::plain(text, &values)
+    prints::plain(text, &values)
 }
 
 fn written(text: &mut [u8], a: YubiAnswer, out: &[u8]) -> usize {
     let values = [a.number, a.place, a.length];
-    rows::with_output(text, &values, out)
+    prints::with_output(text, &values, out)
 }
 
 fn multiplied(text: &mut [u8], a: YubiMultiple, out: &[u8]) -> usize {
     let values = [a.number, a.place, a.length, a.doublings, a.additions];
-    rows::with_output(text, &values, out)
+    prints::with_output(text, &values, out)
 }
 
 fn totalled(text: &mut [u8], a: YubiTotal, out: &[u8]) -> usize {
     let values = [a.number, a.place, a.length, a.count];
-    rows::with_output(text, &values, out)
+    prints::with_output(text, &values, out)
 }
 
 fn repeated(text: &mut [u8], a: YubiRepeat) -> usize {
     let values = [a.number, a.place, a.length, a.first, a.second];
-    rows::plain(text, &values)
+    prints::plain(text, &values)
 }
 
 fn scanned(text: &mut [u8], a: YubiScanned) -> usize {
@@ -70,19 +49,21 @@ fn scanned(text: &mut [u8], a: YubiScanned) -> usize {
         t.v2,
         t.count,
     ];
-    rows::plain(text, &values)
+    prints::plain(text, &values)
 }
 
-fn running(s: &[u8]) -> YubiRunning {
+fn running(s: &[u8]) -> YubiRunning
+    requires { ⌜ length (now s) ≡ 64 ⌝ }
+{
     YubiRunning {
-        weight: number(s, 0),
-        u0: number(s, 1),
-        u1: number(s, 2),
-        u2: number(s, 3),
-        v0: number(s, 4),
-        v1: number(s, 5),
-        v2: number(s, 6),
-        count: number(s, 7),
+        weight: words::read64(s, 0),
+        u0: words::read64(s, 8),
+        u1: words::read64(s, 16),
+        u2: words::read64(s, 24),
+        v0: words::read64(s, 32),
+        v1: words::read64(s, 40),
+        v2: words::read64(s, 48),
+        count: words::read64(s, 56),
     }
 }
 
@@ -116,7 +97,7 @@ pub fn line(
     text: &mut [u8],
 ) -> usize {
     match operation {
-        0 => rows::label(text, curve),
+        0 => prints::label(text, curve),
         1 => checked(text, tablet::yubi_check_curve(curve)),
         2 => checked(text, tablet::yubi_check_divisor(curve, first)),
         3..=7 => {

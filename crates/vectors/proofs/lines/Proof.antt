@@ -1,14 +1,9 @@
-use Prim.Native.Nat.{ℕ, _-_, _≤_}
-use mathlib.Core.Path.{_≡_, sym}
-use mathlib.Core.List.{List}
-use lib.ListN.{length, take}
-use lib.Seq.{length-take-le}
+use Prim.Native.Nat.{_-_, _≤_}
+use mathlib.Core.Path.{_≡_}
+use lib.ListN.{length}
 use borrow.Author.Needs.{needs}
-use Rattle.replay.proofs.lines.Statement.{statement}
-use Rattle.replay.proofs.lines.Tie as tie
-
-as-many : (n : ℕ) (l : List ℕ) → n ≤ length l → n ≡ length (take n l)
-as-many n l h = sym (length-take-le n l h)
+use Rattle.vectors.proofs.lines.Statement.{statement}
+use Rattle.vectors.proofs.lines.Tie as tie
 
 abbrev Inv-loop : tie.InvT-loop
 Inv-loop s text₀ at₀ end₀ text at end = (length text ≡ length text₀) × (end ≤ length text)
@@ -19,17 +14,17 @@ abbrev μ-loop : tie.MeasureT-loop
 loop-holds : tie.Need-loop-holds Inv-loop μ-loop
 loop-holds c = search needs
 
-sub-frame-length : tie.Need-sub-frame-length Inv-loop μ-loop
-sub-frame-length c = search needs
+sub-cut : tie.Need-sub-cut Inv-loop μ-loop
+sub-cut c = search needs
 
-part-frame-length-start : tie.Need-part-frame-length-start Inv-loop μ-loop
-part-frame-length-start c = search needs
+part-cut-start : tie.Need-part-cut-start Inv-loop μ-loop
+part-cut-start c = search needs
 
-part-frame-length-end : tie.Need-part-frame-length-end Inv-loop μ-loop
-part-frame-length-end c = search needs
+part-cut-end : tie.Need-part-cut-end Inv-loop μ-loop
+part-cut-end c = search needs
 
-frame-length-requires : tie.Need-frame-length-requires Inv-loop μ-loop
-frame-length-requires c κs = search needs
+cut-requires : tie.Need-cut-requires Inv-loop μ-loop
+cut-requires c κs = search needs
 
 sub-if1 : tie.Need-sub-if1 Inv-loop μ-loop
 sub-if1 c = search needs
@@ -38,10 +33,7 @@ same-length : tie.Need-same-length Inv-loop μ-loop
 same-length c = search needs
 
 returns : tie.Need-returns Inv-loop μ-loop
-returns c = search (needs, as-many)
-
-add-line : tie.Need-add-line Inv-loop μ-loop
-add-line c = search needs
+returns c = search needs
 
 sub-line : tie.Need-sub-line Inv-loop μ-loop
 sub-line c = search needs
@@ -68,7 +60,7 @@ same-length-2 : tie.Need-same-length-2 Inv-loop μ-loop
 same-length-2 c = search needs
 
 returns-2 : tie.Need-returns-2 Inv-loop μ-loop
-returns-2 c = (search needs, as-many _ _ (search needs))
+returns-2 c = search needs
 
 sub-if3 : tie.Need-sub-if3 Inv-loop μ-loop
 sub-if3 c = search needs
@@ -77,7 +69,7 @@ same-length-3 : tie.Need-same-length-3 Inv-loop μ-loop
 same-length-3 c = search needs
 
 returns-3 : tie.Need-returns-3 Inv-loop μ-loop
-returns-3 c = (search needs, as-many _ _ (search needs))
+returns-3 c = search needs
 
 add-at : tie.Need-add-at Inv-loop μ-loop
 add-at c = search needs
@@ -95,7 +87,7 @@ same-length-4 : tie.Need-same-length-4 Inv-loop μ-loop
 same-length-4 c = search needs
 
 returns-4 : tie.Need-returns-4 Inv-loop μ-loop
-returns-4 c = search (needs, as-many)
+returns-4 c = search needs
 
 pub lines-spec : {M : Type 1} → statement M
 lines-spec =
@@ -104,14 +96,13 @@ lines-spec =
     Inv-loop
     μ-loop
     loop-holds
-    sub-frame-length
-    part-frame-length-start
-    part-frame-length-end
-    frame-length-requires
+    sub-cut
+    part-cut-start
+    part-cut-end
+    cut-requires
     sub-if1
     same-length
     returns
-    add-line
     sub-line
     part-line-start
     part-line-end
