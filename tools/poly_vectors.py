@@ -127,7 +127,7 @@ def main():
     for p, a, b in pairs(seed):
         a, b = trim(a), trim(b)
         if what == "in":
-            print(" ".join("%08x" % n for n in [p, len(a)] + a + [len(b)] + b))
+            sys.stdout.buffer.write(b"".join(n.to_bytes(4, "big") for n in [p, len(a)] + a + [len(b)] + b))
         else:
             answers(p, a, b)
 

@@ -1,6 +1,6 @@
 // Reads pairs of polynomials from standard input and prints their sums, products, divisions, gcds with cofactors, derivatives and
 // whether they are square-free. Input and expected text are made by tools/poly_vectors.py, which shares no code with this.
-// A number is 8 hexadecimal digits and one byte that ends it. A pair is p, then each polynomial: its length, its coefficients.
+// A number is 4 bytes, the highest first. A pair is p, then each polynomial: its length, its coefficients.
 ghost use Prim.Native.Nat.{_+_, _<_, _≤_};
 ghost use Rattle.field.specs.Residues.{Good, Kept};
 ghost use Rattle.poly.specs.Polys.{Ok};
@@ -15,45 +15,15 @@ const OUT: i32 = 1;
 // The longest text that is read.
 const MOST: usize = 65536;
 
-fn wide(x: u8) -> u64 {
-    x as u64
-}
-
-fn digit(x: u64) -> u64
-    ensures { λ r. ⌜ r < 16 ⌝ }
-{
-    if x < 48 {
-        return 0;
-    }
-    if x < 58 {
-        return x - 48;
-    }
-    if x < 97 {
-        return 0;
-    }
-    if x < 103 {
-        return x - 87;
-    }
-    0
-}
-
-fn two(a: u8, b: u8) -> u64
-    ensures { λ r. ⌜ r < 256 ⌝ }
-{
-    digit(wide(a)) * 16 + digit(wide(b))
-}
-
-// The number written at at; 0 past the end.
+// The number at at; 0 past the end.
 fn number(s: &[u8], at: usize) -> u64 {
-    if s.len() < 8 {
+    if s.len() < 4 {
         return 0;
     }
-    if s.len() - 8 < at {
+    if s.len() - 4 < at {
         return 0;
     }
-    let high = two(s[at], s[at + 1]) * 256 + two(s[at + 2], s[at + 3]);
-    let low = two(s[at + 4], s[at + 5]) * 256 + two(s[at + 6], s[at + 7]);
-    high * 65536 + low
+    words::read32(s, at)
 }
 
 fn length(s: &[u8], at: usize) -> usize
@@ -84,7 +54,7 @@ fn read_poly(s: &[u8], at: usize, m: Modulus) -> Poly
     let mut r = Poly::zero(m);
     let mut k: usize = 0;
     while k < n {
-        let x = residue(number(s, at + 9 * (k + 1)), m);
+        let x = residue(number(s, at + 4 * (k + 1)), m);
         r = r.put(k, x, m);
         k += 1;
     }
@@ -194,15 +164,15 @@ fn modulo(s: &[u8], at: usize, next: usize, m: Modulus)
 // One pair, and where the next one stands.
 fn case(s: &[u8], at: usize) -> usize
     requires { ⌜ at < 65536 ⌝ }
-    ensures { λ r. ⌜ (at < r) × (r ≤ at + 207) ⌝ }
+    ensures { λ r. ⌜ (at < r) × (r ≤ at + 92) ⌝ }
 {
-    let first = at + 9;
-    let second = first + 9 * (length(s, first) + 1);
+    let first = at + 4;
+    let second = first + 4 * (length(s, first) + 1);
     match Modulus::read(number(s, at)) {
         ModulusRead::Modulo(m) => modulo(s, first, second, m),
         ModulusRead::NoPrime => {}
     }
-    second + 9 * (length(s, second) + 1)
+    second + 4 * (length(s, second) + 1)
 }
 
 fn run(s: &[u8]) {
