@@ -1,5 +1,4 @@
--- Numbers as digits. Gives: a decimal digit by digit, whatever bound on its digits it was made by; how many digits a number has; and that
--- digits say the number they were made of.
+-- Numbers as digits. Gives: a decimal and a hexadecimal number digit by digit, whatever bound on its digits it was made by, and how many digits they have.
 use Prim.Native.Nat.{ℕ, zero, suc, _+_, _-_, _/_, _%_, _^_, _≤_, _<_}
 use mathlib.Core.Path.{_≡_, refl, sym, ap, _∙_}
 use mathlib.Core.List.{List, [], _∷_, _++_}

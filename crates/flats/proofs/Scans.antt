@@ -14,7 +14,7 @@ use Rattle.scans.specs.declared.ScanAnswer.the-variants.{Done, Refused}
 use Rattle.scans.specs.Scans.{runningOf, scannedOf}
 use Rattle.flats.specs.declared.YubiRunning.{YubiRunning}
 use Rattle.flats.specs.declared.YubiScanned.{YubiScanned}
-use Rattle.flats.specs.Flats.{flat-running, unflat, Flattened, Cut, flat-refused, flat-scanned, FlatScanIs}
+use Rattle.flats.specs.Flats.{flat-running, unflat, Flattened, Cut, scanned-as, flat-scanned, FlatScanIs}
 
 abbrev is-taken : Checked CurveRecord → Bool
 is-taken (taken c) = true
@@ -24,9 +24,9 @@ module _ (t : YubiRunning) (s a : List ℕ) (r : CurveRead) (h : CurveIs s r) wh
   -- the answer by what the curve was read as
   abbrev by : Checked CurveRecord → YubiScanned
   by (taken c) = flat-scanned (scan-on c (unflat t) a)
-  by (refused n k) = flat-refused t n k
+  by (refused n k) = scanned-as n k 0 t
 
-  pub no-curve : (r .number ≡ 0 → ⊥) → FlatScanIs t s a (flat-refused t (r .number) 0)
+  pub no-curve : (r .number ≡ 0 → ⊥) → FlatScanIs t s a (scanned-as (r .number) 0 0 t)
   no-curve z = record {
     no-curve = λ n k e. ap by (sym (h .refuses z) ∙ e);
     not-flat = λ c e. absurd (false≢true (ap is-taken (sym (h .refuses z) ∙ e)));
@@ -37,7 +37,7 @@ module _ (t : YubiRunning) (s a : List ℕ) (r : CurveRead) (h : CurveIs s r) wh
     refused-not : {A : Type 0} (n k : ℕ) → read-curve s ≡ refused n k → A
     refused-not n k e = absurd (false≢true (ap is-taken (sym e ∙ h .takes z)))
 
-    pub not-flat : (Flattened t → ⊥) → FlatScanIs t s a (flat-refused t 15 0)
+    pub not-flat : (Flattened t → ⊥) → FlatScanIs t s a (scanned-as 15 0 0 t)
     not-flat f = record {
       no-curve = λ n k e. refused-not n k e;
       not-flat = λ c e g. refl;
@@ -59,7 +59,7 @@ module _ (t : YubiRunning) (s a : List ℕ) (r : CurveRead) (h : CurveIs s r) wh
       held-is = λ i. record { u = cut .u i; v = cut .v i; count = t .count }
 
       module _ (x-is : x ≡ flat-running (runningOf held)) where
-        pub unlike : (x ≡ t → ⊥) → FlatScanIs t s a (flat-refused t 15 0)
+        pub unlike : (x ≡ t → ⊥) → FlatScanIs t s a (scanned-as 15 0 0 t)
         unlike f = not-flat (λ g. f (x-is ∙ ap flat-running held-is ∙ g))
 
         module _ (same : x ≡ t) (b : ScanAnswer) (b-is : scannedOf held b ≡ scan-on (recordOf (r .curve)) (runningOf held) a) where
@@ -72,5 +72,5 @@ module _ (t : YubiRunning) (s a : List ℕ) (r : CurveRead) (h : CurveIs s r) wh
           pub done : (q : Running) → b ≡ Done q → (y : YubiRunning) → y ≡ flat-running (runningOf q) → FlatScanIs t s a (record { number = 0; place = 0; length = 0; total = y })
           done q e y y-is = on-curve (record { number = 0; place = 0; length = 0; total = y }) flattened (ap (λ (z : YubiRunning). record { number = 0; place = 0; length = 0; total = z }) y-is ∙ rule (Done q) e)
 
-          pub stopped : (n k : ℕ) → b ≡ Refused n k → FlatScanIs t s a (flat-refused t n k)
-          stopped n k e = on-curve (flat-refused t n k) flattened (ap (λ (z : YubiRunning). flat-refused z n k) (sym same ∙ x-is) ∙ rule (Refused n k) e)
+          pub stopped : (n k : ℕ) → b ≡ Refused n k → FlatScanIs t s a (scanned-as n k 0 t)
+          stopped n k e = on-curve (scanned-as n k 0 t) flattened (ap (λ (z : YubiRunning). scanned-as n k 0 z) (sym same ∙ x-is) ∙ rule (Refused n k) e)

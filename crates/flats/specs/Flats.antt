@@ -36,14 +36,15 @@ pub record Cut (t : YubiRunning) (d : Divisor) : Type 0 where
   pub u : map raw (us d) ≡ first-u t
   pub v : map raw (vs d) ≡ first-v t
 
-abbrev pub flat-refused : YubiRunning → ℕ → ℕ → YubiScanned
-flat-refused t n k = record { number = n; place = k; length = 0; total = t }
+-- number, place and length of a scan, beside the total that it left
+abbrev pub scanned-as : ℕ → ℕ → ℕ → YubiRunning → YubiScanned
+scanned-as n k l t = record { number = n; place = k; length = l; total = t }
 
 abbrev pub flat-scanned : Scanned → YubiScanned
-flat-scanned x = record { number = x .answer .number; place = x .answer .place; length = x .answer .length; total = flat-running (x .total) }
+flat-scanned x = scanned-as (x .answer .number) (x .answer .place) (x .answer .length) (flat-running (x .total))
 
 -- the curve first, then the total's form, then the scan
 pub record FlatScanIs (t : YubiRunning) (s a : List ℕ) (r : YubiScanned) : Type 0 where
-  pub no-curve : (n k : ℕ) → read-curve s ≡ refused n k → r ≡ flat-refused t n k
-  pub not-flat : (c : CurveRecord) → read-curve s ≡ taken c → (Flattened t → ⊥) → r ≡ flat-refused t 15 0
+  pub no-curve : (n k : ℕ) → read-curve s ≡ refused n k → r ≡ scanned-as n k 0 t
+  pub not-flat : (c : CurveRecord) → read-curve s ≡ taken c → (Flattened t → ⊥) → r ≡ scanned-as 15 0 0 t
   pub scans : (c : CurveRecord) → read-curve s ≡ taken c → Flattened t → r ≡ flat-scanned (scan-on c (unflat t) a)

@@ -14,7 +14,7 @@ use Rattle.running.specs.Totals.{Fresh}
 use Rattle.scans.specs.Scans.{runningOf}
 use Rattle.flats.specs.declared.YubiRunning.{YubiRunning}
 use Rattle.flats.specs.declared.YubiScanned.{YubiScanned}
-use Rattle.flats.specs.Flats.{flat-running, unflat, Flattened, FlatScanIs}
+use Rattle.flats.specs.Flats.{flat-running, unflat, Flattened, scanned-as, FlatScanIs}
 use Rattle.lent.specs.declared.Report.{Report}
 use Rattle.lent.specs.Lent.{ScanIs}
 use Rattle.lent.proofs.Sequences.{Scan, AllScans, last-total, took, sequence-total}
@@ -22,10 +22,6 @@ use Rattle.lent.proofs.FlatScans as flat
 
 fresh-is : (t : Running) → Fresh t → runningOf t ≡ fresh
 fresh-is t f = λ i. record { u = map raw (us (f .neutral i)); v = map raw (vs (f .neutral i)); count = f .none i }
-
--- an answer, beside the total that a scan left
-abbrev pub flat-left : Answer → YubiRunning → YubiScanned
-flat-left r after = record { number = r .number; place = r .place; length = r .length; total = after }
 
 module _ (s : List ℕ) {c : CurveRecord} (ec : read-curve s ≡ taken c) where
   abbrev pub LentScan : Running → List ℕ → Report → Running → Type 0
@@ -39,11 +35,11 @@ module _ (s : List ℕ) {c : CurveRecord} (ec : read-curve s ≡ taken c) where
       ec t tt (fresh-is t f)
 
   abbrev pub FlatScan : YubiRunning → List ℕ → Answer → YubiRunning → Type 0
-  FlatScan t a r after = FlatScanIs t s a (flat-left r after)
+  FlatScan t a r after = FlatScanIs t s a (scanned-as (r .number) (r .place) (r .length) after)
 
   pub flat-is-batch-total : (xs later : List (Scan YubiRunning Answer)) → AllScans FlatScan (flat-running fresh) (xs ++ later)
       → (out : List ℕ) → total-call s (flatten (took (λ (r : Answer). r .number) xs)) out ≡ totalled (write out (running-bytes (unflat (last-total (flat-running fresh) xs)))) (last-total (flat-running fresh) xs .count)
   flat-is-batch-total =
       sequence-total (λ (r : Answer). r .number) FlatScan s unflat Flattened
-      (λ t a r after f h. record { fine = flat.fine s ec t a (flat-left r after) f h; answers = ap (λ (x : YubiScanned). x .number) (flat.scan-is s ec t a (flat-left r after) f h); leaves = flat.leaves s ec t a (flat-left r after) f h })
+      (λ t a r after f h. record { fine = flat.fine s ec t a (scanned-as (r .number) (r .place) (r .length) after) f h; answers = ap (λ (x : YubiScanned). x .number) (flat.scan-is s ec t a (scanned-as (r .number) (r .place) (r .length) after) f h); leaves = flat.leaves s ec t a (scanned-as (r .number) (r .place) (r .length) after) f h })
       ec (flat-running fresh) refl refl

@@ -1,16 +1,16 @@
 -- How long the digits and the lines are: a number of 64 bits has at most 20 decimal digits, so that every text fits 256 bytes.
-use Prim.Native.Nat.{ℕ, suc, _+_, _*_, _≤_}
-use mathlib.Core.Path.{_≡_, refl, ap}
+use Prim.Native.Nat.{ℕ, _+_, _*_, _≤_}
+use mathlib.Core.Path.{_≡_, refl}
 use mathlib.Core.List.{List, [], _∷_, _++_}
 use mathlib.Core.Bool.{Bool, true, false}
 use native.Mathlib.Omega.{arith}
 use lib.Dec.{eqb}
 use lib.ListN.{length, length-append}
 use Rattle.algebra.proofs.zmod.PrimeField.{modulo}
-use Rattle.algebra.proofs.zmod.Zmod.{zmod}
 use Rattle.rules.specs.Pair.{Pair}
 use Rattle.rules.specs.Lists.{Repeat}
 use Rattle.rules.specs.Records.{choose, numbers}
+use Rattle.rules.proofs.calls.Elements.{length-numbers}
 use Rattle.digits.specs.Digits.{letters, decimal, hex}
 use Rattle.lines.specs.Lines.{two, places, spaced, count-line, repeat-line, total-line, refused-line}
 use Rattle.digits.proofs.Decimals.{length-hex, Word, decimal-short}
@@ -45,11 +45,6 @@ places-short i j h k = go (eqb i 0)
 pub repeat-short : (r : Repeat) → Word (r .first) → Word (r .second) → length (repeat-line r) ≤ 49
 unfolding repeat-line
 repeat-short r h k = omega (arith, length-append (places (r .first) (r .second)) (10 ∷ []), places-short (r .first) (r .second) h k)
-
-length-numbers : (p : ℕ) (l : List (zmod p .El)) → length (numbers p l) ≡ length l
-unfolding numbers
-length-numbers p [] = refl
-length-numbers p (x ∷ l) = ap suc (length-numbers p l)
 
 pub total-short : (p : ℕ) (d : Pair (modulo p)) → length (d .u) ≤ 3 → length (d .v) ≤ 3 → length (total-line p d) ≤ 111
 unfolding total-line

@@ -7,8 +7,6 @@ use Rattle.sums.specs.declared.MultipleAnswer.{MultipleAnswer}
 use Rattle.sums.specs.Multiples.{multipleOf}
 use Rattle.batches.specs.declared.TotalAnswer.{TotalAnswer}
 use Rattle.batches.specs.Batches.{totalOf}
-use Rattle.flats.specs.declared.YubiRunning.{YubiRunning}
-use Rattle.flats.specs.declared.YubiScanned.{YubiScanned}
 use Rattle.structs.specs.declared.YubiAnswer.{YubiAnswer}
 use Rattle.structs.specs.declared.YubiTotal.{YubiTotal}
 use Rattle.structs.specs.declared.YubiRepeat.{YubiRepeat}
@@ -32,7 +30,3 @@ FlatTotal a r = (out : List ℕ) → r ≡ flat-total (totalOf a out)
 
 abbrev pub flat-repeat : Repeated → YubiRepeat
 flat-repeat r = record { number = r .answer .number; place = r .answer .place; length = r .answer .length; first = r .repeat .first; second = r .repeat .second }
-
--- an answer, beside the total that the scan left
-abbrev pub scanned-with : YubiAnswer → YubiRunning → YubiScanned
-scanned-with a total = record { number = a .number; place = a .place; length = a .length; total = total }

@@ -3,8 +3,8 @@
 ghost use mathlib.Core.Path.{_≡_};
 ghost use Rattle.rules.specs.Calls.{check-curve, check-divisor, rewrite-curve, rewrite-divisor, add-call, double-call, opposite-call, multiply-call, total-call, repeat-call};
 ghost use Rattle.rules.specs.Calls.{fresh};
-ghost use Rattle.flats.specs.Flats.{flat-running, FlatScanIs};
-ghost use Rattle.structs.specs.Flat.{flat, flat-multiple, flat-total, flat-repeat, scanned-with};
+ghost use Rattle.flats.specs.Flats.{flat-running, scanned-as, FlatScanIs};
+ghost use Rattle.structs.specs.Flat.{flat, flat-multiple, flat-total, flat-repeat};
 use flats::YubiRunning;
 use flats::YubiScanned;
 use running::Running;
@@ -117,7 +117,7 @@ struct LentStep {
 
 // The work of the lent scan, by value.
 fn lent_by_value(total: YubiRunning, curve: &[u8], record: &[u8]) -> LentStep
-    ensures { λ r. ⌜ FlatScanIs total (now (curve .entry)) (now («record» .entry)) (scanned-with (r .answer) (r .total)) ⌝ }
+    ensures { λ r. ⌜ FlatScanIs total (now (curve .entry)) (now («record» .entry)) (scanned-as (r .answer .number) (r .answer .place) (r .answer .length) (r .total)) ⌝ }
 {
     let s = flats::scan(total, curve, record);
     let after = s.total;
@@ -134,7 +134,7 @@ fn lent_by_value(total: YubiRunning, curve: &[u8], record: &[u8]) -> LentStep
 // The total is lent, and changed in place.
 #[no_mangle]
 pub extern "C" fn yubi_scan_lent(total: &mut YubiRunning, curve: &[u8], record: &[u8]) -> YubiAnswer
-    ensures { λ r. ⌜ FlatScanIs (now (total .entry)) (now (curve .entry)) (now («record» .entry)) (scanned-with r (now (total .exit))) ⌝ }
+    ensures { λ r. ⌜ FlatScanIs (now (total .entry)) (now (curve .entry)) (now («record» .entry)) (scanned-as (r .number) (r .place) (r .length) (now (total .exit))) ⌝ }
 {
     let s = lent_by_value(*total, curve, record);
     *total = s.total;

@@ -25,15 +25,15 @@ abbrev put-decimal-below : ℕ → In 1 put-decimal-kinds.ps
 put-decimal-below t =
     and 1 put-decimal-kinds.ps (falls 1 put-decimal-kinds.ps _<_ μ-put-decimal t) put-decimal.Pre
 
+-- what the proof knows of each call, the one to itself below t
+abbrev claims : ℕ → put-decimal-lts.Claims
+claims t = (letter-reads.Asked, letter-reads.Learnt, put-byte-reads.Asked, put-byte-reads.Learnt, put-decimal-below t, put-decimal.Post)
+
 put-decimal-letter-requires : (t : ℕ) → put-decimal-lts.Need-letter-requires (claims t) (put-decimal-at t) put-decimal.Post
 put-decimal-letter-requires t c κs = omega (arith, c .before .if1 .taken)
 
 put-decimal-put-byte-requires : (t : ℕ) → put-decimal-lts.Need-put-byte-requires (claims t) (put-decimal-at t) put-decimal.Post
 put-decimal-put-byte-requires t c κs = let s = c .before .before .before in room-last [] _ (decimal-small (s .args .n) (c .before .before .if1 .taken)) (s .args .a) (s .pre .1) (put-none (s .args .out .now) (s .args .a))
-
--- what the proof knows of each call, the one to itself below t
-abbrev claims : ℕ → put-decimal-lts.Claims
-claims t = (letter-reads.Asked, letter-reads.Learnt, put-byte-reads.Asked, put-byte-reads.Learnt, put-decimal-below t, put-decimal.Post)
 
 put-decimal-returns : (t : ℕ) → put-decimal-lts.Need-returns (claims t) (put-decimal-at t) put-decimal.Post
 put-decimal-returns t c = let s = c .before .before .before .before in put-last [] _ (decimal-small (s .args .n) (c .before .before .before .if1 .taken)) (s .args .a) (s .pre .1) (put-none (s .args .out .now) (s .args .a)) (c .before .letter .ensures) (c .put-byte .ensures)

@@ -39,8 +39,7 @@ use denote.Triple.Spec.{Meets, tripleOf}
 use denote.Triple.Table.{entered, cited}
 use denote.Triple.Walked.{says, Stays, stay-ref, stay-none-slice, walkOf, AllGo, goes-none-slice, goes-ref, Walks, ends-at, walked, walk-meets}
 use denote.Exit.{yes}
-use Rattle.flats.specs.Flats.{FlatScanIs}
-use Rattle.structs.specs.Flat.{scanned-with}
+use Rattle.flats.specs.Flats.{scanned-as, FlatScanIs}
 use Rattle.flats.specs.declared.YubiRunning.{YubiRunning}
 use Rattle.tablet.specs.declared.LentStep.{LentStep}
 use Rattle.structs.specs.declared.YubiAnswer.{YubiAnswer}
@@ -96,7 +95,7 @@ module _ {M : Type 1} (𝓤 : URA M) (H : Heap 𝓤) (A : Atoms 𝓤) (W : Given
   Own₂ = ShrSlice (named 2) κ₂ u8 .own s₂ (v₂ ∷ [])
 
   abbrev Said : LentStep → Type 0
-  Said r = FlatScanIs h (now s₁) (now s₂) (scanned-with (r .answer) (r .total))
+  Said r = FlatScanIs h (now s₁) (now s₂) (scanned-as (r .answer .number) (r .answer .place) (r .answer .length) (r .total))
 
   abbrev Post : Val → SProp 𝓤
   Post = walkOf 𝓤 H A scan.ended stayed (scan.clauses 𝓤 H A at-mem run) .post (((κ, (κ₁, (κ₂, tt))), (q, (q₁, (q₂, tt))), tt, x, at), tt)
