@@ -14,7 +14,7 @@ use Rattle.divisor.specs.Divisors.{weightOf, us, vs, pair}
 use Rattle.divisor.proofs.Laws.{length-us, length-vs, length-elements, weight-le}
 use Rattle.curve.specs.declared.Curve.{Curve}
 use Rattle.curve.specs.Curves.{Sound}
-use Rattle.records.specs.Read.{recordOf}
+use Rattle.curve.specs.Record.{recordOf}
 use Rattle.writes.specs.Write.{NumbersOf, CurveNumbersOf}
 use Rattle.words.proofs.Writing.{all-append}
 
