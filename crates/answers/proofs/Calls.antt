@@ -6,7 +6,7 @@ use Rattle.rules.specs.Records.{CurveRecord, PairOf, divisor-bytes}
 use Rattle.rules.specs.Calls.{Written, left-as-is, write, from-one}
 use Rattle.divisor.specs.declared.Divisor.{Divisor}
 use Rattle.divisor.specs.Divisors.{pair}
-use Rattle.records.specs.Read.{recordOf}
+use Rattle.curve.specs.Record.{recordOf}
 use Rattle.answers.specs.declared.Answer.{Answer}
 use Rattle.answers.specs.declared.Answer.the-variants.{Refused}
 use Rattle.answers.specs.declared.One.{One}

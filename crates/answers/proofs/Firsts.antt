@@ -12,9 +12,11 @@ use Rattle.rules.specs.Tests.{on-curve?}
 use Rattle.rules.specs.Records.{Checked, refused, taken, choose, both as both?, fits, below?, elements, CurveRecord, curve, PairOf, read-curve, read-divisor, divisor-at}
 use Rattle.rules.specs.Calls.{check}
 use Rattle.divisor.specs.declared.Divisor.{Divisor}
-use Rattle.records.specs.declared.CurveRead.{CurveRead}
-use Rattle.records.specs.declared.DivisorRead.the-variants.{Taken, Refused}
-use Rattle.records.specs.Read.{recordOf, CurveIs, DivisorIs}
+use Rattle.curve_read.specs.declared.CurveRead.{CurveRead}
+use Rattle.divisor_read.specs.declared.DivisorRead.the-variants.{Taken, Refused}
+use Rattle.curve.specs.Record.{recordOf}
+use Rattle.curve_read.specs.Read.{CurveIs}
+use Rattle.divisor_read.specs.Read.{DivisorIs}
 use Rattle.answers.specs.declared.One.{One}
 use Rattle.answers.specs.Answers.{FirstRead, one-rule, OneIs}
 

@@ -17,7 +17,7 @@ use Rattle.divisor.specs.Divisors.{weightOf, pair}
 use Rattle.field.specs.declared.Modulus.{Modulus}
 use Rattle.poly.specs.Polys.{pol}
 use Rattle.curve.specs.declared.Curve.{Curve}
-use Rattle.records.specs.Read.{recordOf}
+use Rattle.curve.specs.Record.{recordOf}
 use Rattle.words.proofs.Writing.{length-all}
 use Rattle.writes.proofs.Written.{weight-is, weight-is-v}
 use Rattle.answers.specs.declared.Answer.{Answer}

@@ -9,7 +9,7 @@ use Rattle.rules.specs.Records.{Checked, refused, taken, CurveRecord, PairOf, r
 use Rattle.rules.specs.Calls.{Answer as RuleAnswer, Written, refusal, done, check}
 use Rattle.divisor.specs.Divisors.{pair}
 use Rattle.curve.specs.Curves.{Sound, Holds}
-use Rattle.records.specs.Read.{recordOf}
+use Rattle.curve.specs.Record.{recordOf}
 use Rattle.answers.specs.declared.Answer.{Answer}
 use Rattle.answers.specs.declared.Answer.the-variants.{Done, Refused}
 use Rattle.answers.specs.declared.One.{One}

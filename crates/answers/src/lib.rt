@@ -7,8 +7,8 @@ ghost use Rattle.divisor.specs.Divisors.{pair, Held};
 ghost use Rattle.answers.specs.Answers.{answerOf, OneIs, PutIs, Wrote};
 use curve::Curve;
 use divisor::Divisor;
+use divisor_read::DivisorRead;
 use field::Modulus;
-use records::DivisorRead;
 
 // Done, with the length written, or a number and its place.
 pub enum Answer {
@@ -27,7 +27,7 @@ pub struct One {
 pub fn read_one(curve: &[u8], a: &[u8]) -> One
     ensures { λ r. ⌜ OneIs (now (curve .entry)) (now (a .entry)) r ⌝ }
 {
-    let read = records::read_curve(curve);
+    let read = curve_read::read_curve(curve);
     let c = read.curve;
     let number = read.number;
     if number != 0 {
@@ -38,7 +38,7 @@ pub fn read_one(curve: &[u8], a: &[u8]) -> One
             divisor: Divisor::Neutral,
         };
     }
-    match records::divisor_at(c, true, a, 0) {
+    match divisor_read::divisor_at(c, true, a, 0) {
         DivisorRead::Taken(d) => One {
             number: 0,
             place: 0,
@@ -82,7 +82,7 @@ pub fn write_answer(d: Divisor, m: Modulus, out: &mut [u8]) -> Answer
 pub fn check_curve(curve: &[u8]) -> Answer
     ensures { λ r. ⌜ answerOf r ≡ check-curve (now (curve .entry)) ⌝ }
 {
-    let read = records::read_curve(curve);
+    let read = curve_read::read_curve(curve);
     let number = read.number;
     if number != 0 {
         return Answer::Refused(number, 0);
@@ -103,7 +103,7 @@ pub fn check_divisor(curve: &[u8], a: &[u8]) -> Answer
 pub fn rewrite_curve(curve: &[u8], out: &mut [u8]) -> Answer
     ensures { λ r. ⌜ Wrote r (now (out .exit)) (rewrite-curve (now (curve .entry)) (now (out .entry))) ⌝ }
 {
-    let read = records::read_curve(curve);
+    let read = curve_read::read_curve(curve);
     let c = read.curve;
     let number = read.number;
     if number != 0 {

@@ -19,9 +19,10 @@ use Rattle.divisor.specs.declared.Divisor.the-variants.{Neutral}
 use Rattle.divisor.specs.Divisors.{pair, Held}
 use Rattle.divisor.proofs.Laws.{neutral-is, pair-inj}
 use Rattle.curve.specs.declared.Curve.{Curve}
-use Rattle.records.specs.declared.DivisorRead.{DivisorRead}
-use Rattle.records.specs.declared.DivisorRead.the-variants.{Taken, Refused}
-use Rattle.records.specs.Read.{recordOf, DivisorIs}
+use Rattle.divisor_read.specs.declared.DivisorRead.{DivisorRead}
+use Rattle.divisor_read.specs.declared.DivisorRead.the-variants.{Taken, Refused}
+use Rattle.curve.specs.Record.{recordOf}
+use Rattle.divisor_read.specs.Read.{DivisorIs}
 use Rattle.repeat.specs.declared.Repeat.{Repeat as Found}
 use Rattle.repeat.specs.declared.Repeat.the-variants.{Pair as FoundPair, Nothing as FoundNothing}
 use Rattle.repeat.specs.First.{at, AllHeld, Clear, FirstAt, FirstIs}

@@ -5,8 +5,9 @@ use mathlib.Core.List.{List, [], _∷_, _++_}
 use Rattle.rules.specs.Records.{CurveRecord}
 use Rattle.rules.specs.Lists.{batch, first-repeat}
 use Rattle.rules.specs.Calls.{Repeated, check, done, no-repeat, repeat-call}
-use Rattle.records.specs.declared.CurveRead.{CurveRead}
-use Rattle.records.specs.Read.{recordOf, CurveIs}
+use Rattle.curve_read.specs.declared.CurveRead.{CurveRead}
+use Rattle.curve.specs.Record.{recordOf}
+use Rattle.curve_read.specs.Read.{CurveIs}
 use Rattle.answers.proofs.Firsts.{curve-stops, curve-goes}
 use Rattle.batches.specs.declared.RepeatAnswer.the-variants.{Refused}
 use Rattle.batches.specs.Batches.{repeat-rule, repeatOf}

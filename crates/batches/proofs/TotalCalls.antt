@@ -10,8 +10,9 @@ use Rattle.rules.specs.Calls.{Written, Totalled, check, write, not-totalled, to
 use Rattle.divisor.specs.declared.Divisor.{Divisor}
 use Rattle.divisor.specs.Divisors.{pair}
 use Rattle.curve.specs.Curves.{Holds}
-use Rattle.records.specs.declared.CurveRead.{CurveRead}
-use Rattle.records.specs.Read.{recordOf, CurveIs}
+use Rattle.curve_read.specs.declared.CurveRead.{CurveRead}
+use Rattle.curve.specs.Record.{recordOf}
+use Rattle.curve_read.specs.Read.{CurveIs}
 use Rattle.answers.specs.Answers.{PutIs}
 use Rattle.answers.proofs.Written.{write-none, write-all}
 use Rattle.answers.proofs.Firsts.{curve-stops, curve-goes}

@@ -15,9 +15,10 @@ use Rattle.divisor.proofs.Laws.{neutral-is}
 use Rattle.curve.specs.declared.Curve.{Curve}
 use Rattle.curve.specs.Curves.{curveOf, Sound, Holds, Gives}
 use Rattle.curve.proofs.Carry.{neutral-holds}
-use Rattle.records.specs.declared.DivisorRead.{DivisorRead}
-use Rattle.records.specs.declared.DivisorRead.the-variants.{Taken, Refused}
-use Rattle.records.specs.Read.{recordOf, DivisorIs}
+use Rattle.divisor_read.specs.declared.DivisorRead.{DivisorRead}
+use Rattle.divisor_read.specs.declared.DivisorRead.the-variants.{Taken, Refused}
+use Rattle.curve.specs.Record.{recordOf}
+use Rattle.divisor_read.specs.Read.{DivisorIs}
 use Rattle.batches.specs.declared.TotalRead.the-variants.{Done, Refused as RefusedTotal}
 use Rattle.batches.specs.Batches.{total-rule, TotalIs}
 use Rattle.batches.proofs.Turns.{ends, full, refuses, turns}

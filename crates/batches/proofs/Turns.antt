@@ -13,9 +13,10 @@ use Rattle.divisor.specs.declared.Divisor.{Divisor}
 use Rattle.divisor.specs.Divisors.{pair}
 use Rattle.curve.specs.declared.Curve.{Curve}
 use Rattle.curve.specs.Curves.{Holds}
-use Rattle.records.specs.declared.DivisorRead.{DivisorRead}
-use Rattle.records.specs.declared.DivisorRead.the-variants.{Taken, Refused}
-use Rattle.records.specs.Read.{recordOf, DivisorIs}
+use Rattle.divisor_read.specs.declared.DivisorRead.{DivisorRead}
+use Rattle.divisor_read.specs.declared.DivisorRead.the-variants.{Taken, Refused}
+use Rattle.curve.specs.Record.{recordOf}
+use Rattle.divisor_read.specs.Read.{DivisorIs}
 use Rattle.batches.proofs.Steps.{at-end, too-many, stops, goes-on}
 
 -- ---- what a read record says, by its case

@@ -10,7 +10,7 @@ use Rattle.rules.specs.Calls.{Totalled, Repeated, refusal, done, check, no-repe
 use Rattle.divisor.specs.Divisors.{pair}
 use Rattle.curve.specs.declared.Curve.{Curve}
 use Rattle.curve.specs.Curves.{curveOf, Holds}
-use Rattle.records.specs.Read.{recordOf}
+use Rattle.curve.specs.Record.{recordOf}
 use Rattle.batches.specs.declared.TotalRead.{TotalRead}
 use Rattle.batches.specs.declared.TotalRead.the-variants.{Done, Refused}
 use Rattle.batches.specs.declared.TotalAnswer.{TotalAnswer}

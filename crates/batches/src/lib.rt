@@ -7,7 +7,7 @@ ghost use Rattle.curve.specs.Curves.{Sound};
 ghost use Rattle.batches.specs.Batches.{TotalIs, TotalAnswerIs, repeat-rule, repeatOf};
 use curve::Curve;
 use divisor::Divisor;
-use records::DivisorRead;
+use divisor_read::DivisorRead;
 use repeat::Repeat;
 
 // The total of a batch and how many records it has, or a number and its place.
@@ -46,7 +46,7 @@ pub fn total_of(c: Curve, s: &[u8]) -> TotalRead
         if k == 4096 {
             return TotalRead::Refused(14, 0);
         }
-        match records::divisor_at(c, false, s, a) {
+        match divisor_read::divisor_at(c, false, s, a) {
             DivisorRead::Taken(d) => {
                 t = c.sum(t, d);
             }
@@ -63,7 +63,7 @@ pub fn total_of(c: Curve, s: &[u8]) -> TotalRead
 pub fn total_batch(curve: &[u8], batch: &[u8], out: &mut [u8]) -> TotalAnswer
     ensures { λ r. ⌜ TotalAnswerIs r (now (out .exit)) (total-call (now (curve .entry)) (now (batch .entry)) (now (out .entry))) ⌝ }
 {
-    let read = records::read_curve(curve);
+    let read = curve_read::read_curve(curve);
     let c = read.curve;
     let number = read.number;
     if number != 0 {
@@ -94,7 +94,7 @@ fn repeat_of(c: Curve, s: &[u8]) -> RepeatAnswer
         if n == 4096 {
             return RepeatAnswer::Refused(14, 0);
         }
-        match records::divisor_at(c, false, s, a) {
+        match divisor_read::divisor_at(c, false, s, a) {
             DivisorRead::Taken(x) => {
                 d[n] = x;
             }
@@ -114,7 +114,7 @@ fn repeat_of(c: Curve, s: &[u8]) -> RepeatAnswer
 pub fn first_repeat(curve: &[u8], batch: &[u8]) -> RepeatAnswer
     ensures { λ r. ⌜ repeatOf r ≡ repeat-call (now (curve .entry)) (now (batch .entry)) ⌝ }
 {
-    let read = records::read_curve(curve);
+    let read = curve_read::read_curve(curve);
     let c = read.curve;
     let number = read.number;
     if number != 0 {

@@ -1,5 +1,6 @@
--- Answers of tests. Gives: an answer to A is an answer to any B that holds just where A does; what a test's arm says.
-use mathlib.Core.Path.{_≡_, subst}
+-- Answers of tests. Gives: an answer to A is an answer to any B that holds just where A does; what a test's arm says; a test that isn't true is
+-- false.
+use mathlib.Core.Path.{_≡_, refl, subst}
 use mathlib.Core.Bool.{Bool, true, false}
 use Rattle.field.specs.Primes.{Decides}
 
@@ -12,3 +13,7 @@ decided-yes {A} e h = subst (λ (b : Bool). Decides b A) e h
 
 pub decided-no : {A : Type 0} {b : Bool} → b ≡ false → Decides b A → A → ⊥
 decided-no {A} e h = subst (λ (b : Bool). Decides b A) e h
+
+pub otherwise : (b : Bool) → (b ≡ true → ⊥) → b ≡ false
+otherwise true n = absurd (n refl)
+otherwise false n = refl

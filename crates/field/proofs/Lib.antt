@@ -3,3 +3,4 @@ pub mod Sums
 pub mod Inverse
 pub mod Trial
 pub mod Decide
+pub mod Read

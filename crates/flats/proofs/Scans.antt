@@ -7,8 +7,9 @@ use Rattle.rules.specs.Records.{Checked, CurveRecord, taken, refused, read-curv
 use Rattle.rules.specs.Calls.{scan-on}
 use Rattle.divisor.specs.declared.Divisor.{Divisor}
 use Rattle.running.specs.declared.Running.{Running}
-use Rattle.records.specs.declared.CurveRead.{CurveRead}
-use Rattle.records.specs.Read.{recordOf, CurveIs}
+use Rattle.curve_read.specs.declared.CurveRead.{CurveRead}
+use Rattle.curve.specs.Record.{recordOf}
+use Rattle.curve_read.specs.Read.{CurveIs}
 use Rattle.scans.specs.declared.ScanAnswer.{ScanAnswer}
 use Rattle.scans.specs.declared.ScanAnswer.the-variants.{Done, Refused}
 use Rattle.scans.specs.Scans.{runningOf, scannedOf}

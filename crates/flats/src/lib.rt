@@ -150,7 +150,7 @@ fn same(a: YubiRunning, b: YubiRunning) -> bool
 pub fn scan(t: YubiRunning, curve: &[u8], record: &[u8]) -> YubiScanned
     ensures { λ r. ⌜ FlatScanIs t (now (curve .entry)) (now («record» .entry)) r ⌝ }
 {
-    let read = records::read_curve(curve);
+    let read = curve_read::read_curve(curve);
     let c = read.curve;
     let number = read.number;
     if number != 0 {

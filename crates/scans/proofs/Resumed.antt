@@ -19,7 +19,7 @@ use Rattle.divisor.proofs.Laws.{weight-is, weight-is-v}
 use Rattle.curve.specs.declared.Curve.{Curve}
 use Rattle.curve.specs.Curves.{curveOf, Divided}
 use Rattle.running.specs.declared.Running.{Running}
-use Rattle.records.specs.Read.{recordOf}
+use Rattle.curve.specs.Record.{recordOf}
 use Rattle.scans.specs.Scans.{runningOf, AllIn, ResumeIs}
 use Rattle.scans.proofs.Ranges.{no, all-below, not-below, held-of, read-as, one-length, length-raw}
 

@@ -13,10 +13,12 @@ use Rattle.curve.specs.declared.Curve.{Curve}
 use Rattle.curve.specs.Curves.{curveOf, Sound}
 use Rattle.running.specs.declared.Running.{Running}
 use Rattle.running.specs.Totals.{ToTake, Taken}
-use Rattle.records.specs.declared.CurveRead.{CurveRead}
-use Rattle.records.specs.declared.DivisorRead.{DivisorRead}
-use Rattle.records.specs.declared.DivisorRead.the-variants.{Taken as Read, Refused as NotRead}
-use Rattle.records.specs.Read.{recordOf, CurveIs, DivisorIs}
+use Rattle.curve_read.specs.declared.CurveRead.{CurveRead}
+use Rattle.divisor_read.specs.declared.DivisorRead.{DivisorRead}
+use Rattle.divisor_read.specs.declared.DivisorRead.the-variants.{Taken as Read, Refused as NotRead}
+use Rattle.curve.specs.Record.{recordOf}
+use Rattle.curve_read.specs.Read.{CurveIs}
+use Rattle.divisor_read.specs.Read.{DivisorIs}
 use Rattle.scans.specs.declared.ScanAnswer.{ScanAnswer}
 use Rattle.scans.specs.declared.ScanAnswer.the-variants.{Done, Refused}
 use Rattle.scans.specs.Scans.{runningOf, scannedOf, ResumeIs}

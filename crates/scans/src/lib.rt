@@ -3,12 +3,12 @@ ghost use mathlib.Core.Path.{_≡_};
 ghost use Rattle.rules.specs.Calls.{scan-call, scan-on};
 ghost use Rattle.field.specs.Primes.{Decides};
 ghost use Rattle.curve.specs.Curves.{Sound};
-ghost use Rattle.records.specs.Read.{recordOf};
+ghost use Rattle.curve.specs.Record.{recordOf};
 ghost use Rattle.scans.specs.Scans.{AllIn, ResumeIs, runningOf, scannedOf};
 use curve::Curve;
 use divisor::Divisor;
+use divisor_read::DivisorRead;
 use field::Modulus;
-use records::DivisorRead;
 use running::Running;
 
 pub enum ScanAnswer {
@@ -66,7 +66,7 @@ pub fn scan_on(c: Curve, t: Running, record: &[u8]) -> ScanAnswer
     if number != 0 {
         return ScanAnswer::Refused(number, 0);
     }
-    match records::divisor_at(c, true, record, 0) {
+    match divisor_read::divisor_at(c, true, record, 0) {
         DivisorRead::Taken(d) => ScanAnswer::Done(t.take(c, d)),
         DivisorRead::Refused(n) => ScanAnswer::Refused(n, 1),
     }
@@ -75,7 +75,7 @@ pub fn scan_on(c: Curve, t: Running, record: &[u8]) -> ScanAnswer
 pub fn scan(t: Running, curve: &[u8], record: &[u8]) -> ScanAnswer
     ensures { λ r. ⌜ scannedOf t r ≡ scan-call (runningOf t) (now (curve .entry)) (now («record» .entry)) ⌝ }
 {
-    let read = records::read_curve(curve);
+    let read = curve_read::read_curve(curve);
     let c = read.curve;
     let number = read.number;
     if number != 0 {

@@ -16,8 +16,9 @@ use Rattle.divisor.specs.Divisors.{pair}
 use Rattle.curve.specs.Curves.{curveOf, Gives}
 use Rattle.multiple.specs.declared.Multiple.{Multiple}
 use Rattle.multiple.specs.Contracts.{Multiplied as IsMultiple}
-use Rattle.records.specs.declared.DivisorRead.the-variants.{Taken, Refused}
-use Rattle.records.specs.Read.{recordOf, DivisorIs}
+use Rattle.divisor_read.specs.declared.DivisorRead.the-variants.{Taken, Refused}
+use Rattle.curve.specs.Record.{recordOf}
+use Rattle.divisor_read.specs.Read.{DivisorIs}
 use Rattle.answers.specs.declared.Answer.{Answer}
 use Rattle.answers.specs.declared.Answer.the-variants.{Refused as RefusedAnswer}
 use Rattle.answers.specs.declared.One.{One}

@@ -4,8 +4,8 @@ ghost use Rattle.rules.specs.Calls.{double-call, opposite-call, add-call, multi
 ghost use Rattle.answers.specs.Answers.{Wrote};
 ghost use Rattle.sums.specs.Multiples.{MultipleIs};
 use answers::Answer;
+use divisor_read::DivisorRead;
 use multiple::Multiple;
-use records::DivisorRead;
 
 // Done, with the length and the two counts.
 pub enum MultipleAnswer {
@@ -46,7 +46,7 @@ pub fn add(curve: &[u8], a: &[u8], b: &[u8], out: &mut [u8]) -> Answer
     }
     let c = x.curve;
     let d = x.divisor;
-    match records::divisor_at(c, true, b, 0) {
+    match divisor_read::divisor_at(c, true, b, 0) {
         DivisorRead::Taken(y) => answers::write_answer(c.sum(d, y), c.m, out),
         DivisorRead::Refused(n) => Answer::Refused(n, 2),
     }

@@ -17,8 +17,9 @@ use Rattle.divisor.specs.declared.Divisor.{Divisor}
 use Rattle.divisor.specs.Divisors.{pair}
 use Rattle.divisor.proofs.Laws.{weight-le}
 use Rattle.curve.specs.Curves.{Holds as OnCurve}
-use Rattle.records.specs.declared.CurveRead.{CurveRead}
-use Rattle.records.specs.Read.{recordOf, CurveIs}
+use Rattle.curve_read.specs.declared.CurveRead.{CurveRead}
+use Rattle.curve.specs.Record.{recordOf}
+use Rattle.curve_read.specs.Read.{CurveIs}
 use Rattle.writes.proofs.Written.{weight-is, weight-is-v}
 use Rattle.batches.specs.declared.TotalRead.{TotalRead}
 use Rattle.batches.specs.declared.TotalRead.the-variants.{Done, Refused}

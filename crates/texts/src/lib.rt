@@ -49,7 +49,7 @@ fn front(s: &[u8], n: usize) -> &[u8]
 pub fn tally(curve: &[u8], batch: &[u8], out: &mut [u8; 256]) -> usize
     ensures { λ r. ⌜ Printed (now (out .entry)) (text-of (now (curve .entry)) (now (batch .entry))) (now (out .exit)) r ⌝ }
 {
-    let read = records::read_curve(curve);
+    let read = curve_read::read_curve(curve);
     let c = read.curve;
     let number = read.number;
     if number != 0 {

@@ -15,7 +15,7 @@ use Rattle.divisor.proofs.Laws.{weight-le}
 pub use Rattle.divisor.proofs.Laws.{weight-is, weight-is-v}
 use Rattle.curve.specs.declared.Curve.{Curve}
 use Rattle.curve.specs.Curves.{Sound}
-use Rattle.records.specs.Read.{recordOf}
+use Rattle.curve.specs.Record.{recordOf}
 use Rattle.writes.specs.Write.{NumbersOf, CurveNumbersOf}
 use Rattle.words.proofs.Writing.{all-append}
 

@@ -8,7 +8,7 @@ use Rattle.field.specs.declared.Modulus.{Modulus}
 use Rattle.divisor.specs.declared.Divisor.{Divisor}
 use Rattle.divisor.specs.Divisors.{weightOf, pair}
 use Rattle.curve.specs.declared.Curve.{Curve}
-use Rattle.records.specs.Read.{recordOf}
+use Rattle.curve.specs.Record.{recordOf}
 
 pub record NumbersOf (m : Modulus) (d : Divisor) (x : List ℕ) : Type 0 where
   pub is : take (2 * weightOf d) x ≡ numbers (m .p) (pair m d .u) ++ numbers (m .p) (pair m d .v)

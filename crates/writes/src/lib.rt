@@ -6,7 +6,7 @@ ghost use lib.Seq.{sets};
 ghost use Rattle.rules.specs.Records.{curve-bytes, divisor-bytes};
 ghost use Rattle.divisor.specs.Divisors.{pair, Held, weightOf};
 ghost use Rattle.curve.specs.Curves.{Sound};
-ghost use Rattle.records.specs.Read.{recordOf};
+ghost use Rattle.curve.specs.Record.{recordOf};
 ghost use Rattle.writes.specs.Write.{NumbersOf, CurveNumbersOf};
 use curve::Curve;
 use divisor::Divisor;

@@ -1,8 +1,8 @@
 use mathlib.Core.Bool.{true}
 use native.Mathlib.Omega.{arith}
 use mathlib.Core.Path.{refl, subst}
-use Rattle.records.specs.declared.DivisorRead.{DivisorRead}
-use Rattle.records.specs.Read.{DivisorIs}
+use Rattle.divisor_read.specs.declared.DivisorRead.{DivisorRead}
+use Rattle.divisor_read.specs.Read.{DivisorIs}
 use Rattle.answers.proofs.Firsts.{one-none, one-taken, one-refused}
 use borrow.Author.Needs.{needs}
 use Rattle.answers.proofs.read_one.Statement.{statement}

@@ -2,7 +2,7 @@ use mathlib.Core.Path.{refl}
 use native.Mathlib.Omega.{arith}
 use Rattle.rules.specs.Records.{curve-bytes}
 use Rattle.rules.specs.Calls.{rewrite-curve, left-as-is, write}
-use Rattle.records.specs.Read.{recordOf}
+use Rattle.curve.specs.Record.{recordOf}
 use Rattle.answers.proofs.Firsts.{curve-stops, curve-goes}
 use Rattle.answers.proofs.Written.{curve-length, put-none, put-all, wrote-none, wrote-all, refused-as, goes-on}
 use borrow.Author.Needs.{needs}

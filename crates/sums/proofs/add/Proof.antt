@@ -1,8 +1,8 @@
 use native.Mathlib.Omega.{arith}
 use mathlib.Core.Bool.{true}
 use mathlib.Core.Path.{subst}
-use Rattle.records.specs.declared.DivisorRead.{DivisorRead}
-use Rattle.records.specs.Read.{DivisorIs}
+use Rattle.divisor_read.specs.declared.DivisorRead.{DivisorRead}
+use Rattle.divisor_read.specs.Read.{DivisorIs}
 use Rattle.sums.proofs.Calls.{add-refused, add-second, add-done}
 use borrow.Author.Needs.{needs}
 use Rattle.sums.proofs.add.Statement.{statement}

@@ -1,0 +1,3 @@
+pub mod Primes
+pub mod Low
+pub mod Whole

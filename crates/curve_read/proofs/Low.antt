@@ -1,0 +1,181 @@
+-- What stands behind p in a curve record: refusals 6 and 7. Gives: the loop over f_0 up to f_2g; the curve that is built is sound, and its
+-- record is the rule's.
+use Prim.Native.Nat.{ℕ, zero, suc, _+_, _*_, _≤_, _<_, max}
+use mathlib.Core.Path.{_≡_, refl, sym, ap, ap₂, _∙_, subst}
+use mathlib.Core.List.{List, [], _∷_, _++_}
+use mathlib.Core.Bool.{Bool, true, false, false≢true}
+use native.Mathlib.Omega.{arith}
+use borrow.Author.Count.{below-more}
+use lib.ListN.{getD, length}
+use Rattle.algebra.proofs.ring.CRing.{CRing}
+use Rattle.algebra.proofs.zmod.Zmod.{zmod, emb}
+use Rattle.algebra.proofs.poly.Bound.{Monic}
+use Rattle.algebra.proofs.poly.Poly.{coef}
+use Rattle.algebra.proofs.poly.Term.{term}
+use Rattle.algebra.proofs.poly.Derivative.{derP}
+use Rattle.algebra.proofs.poly.Common.{SharesNoFactor}
+use Rattle.algebra.proofs.list.Ops.{whole}
+use Rattle.algebra.proofs.list.Value.{pol as list-pol, mon, pol-nil, mon-monic, mon-inj}
+use Rattle.algebra.proofs.list.Coefs.{coefs, length-coefs, mon-coefs}
+use Rattle.rules.specs.Bytes.{word64, words}
+use Rattle.rules.specs.Curve.{SquareFree}
+use Rattle.rules.specs.Tests.{square-free?}
+use Rattle.rules.specs.Records.{choose, refused, taken, CurveRecord, curve, below?, elements, read-curve}
+use Rattle.rules.proofs.Demand3.{square-free-test}
+use Rattle.field.specs.declared.Modulus.{Modulus}
+use Rattle.field.specs.declared.Residue.{Residue}
+use Rattle.field.specs.Primes.{OddPrime}
+use Rattle.field.specs.Residues.{el, Settles}
+use Rattle.field.proofs.Decide.{otherwise}
+use Rattle.field.proofs.Laws.{settled-kept}
+use Rattle.poly.specs.declared.Poly.{Poly}
+use Rattle.poly.specs.Polys.{K, P, pol, Is}
+use Rattle.poly.specs.Contracts.{Put}
+use Rattle.poly.proofs.Monic.{exact, monic-at}
+use Rattle.curve.specs.declared.Curve.{Curve}
+use Rattle.curve.specs.Curves.{Sound}
+use Rattle.curve.specs.Record.{recordOf}
+use Rattle.curve.proofs.Few.{next-term}
+use Rattle.words.proofs.Rows.{all-below, one-above, elements-snoc, length-row}
+use Rattle.heads.specs.Heads.{Headed}
+use Rattle.heads.proofs.Head.{low-rule, behind}
+use Rattle.curve_read.specs.declared.LowRead.{LowRead}
+use Rattle.curve_read.specs.Read.{ToLow, LowsIs, LowIs}
+use Rattle.curve_read.proofs.Primes.{odd-prime-yes}
+
+-- ---- the loop: the first k coefficients are below p, and f has them
+pub record Lows (s : List ℕ) (g : ℕ) (m : Modulus) (f : Poly) (k : ℕ) : Type 0 where
+  pub within : k ≤ suc (g + g)
+  pub below : (j : ℕ) → j < k → word64 s (14 + 8 * j) < m .p
+  pub is : Is m f (list-pol (K m) (elements (m .p) (words s 14 k))) k
+
+module _ (s : List ℕ) (g : ℕ) (m : Modulus) where
+  pub lows-begin : (f : Poly) → Is m f (P m .zer) 0 → Lows s g m f 0
+  unfolding words elements
+  lows-begin f h = record { within = omega arith; below = λ j l. absurd (omega arith); is = record { ok = h .ok; is = h .is ∙ sym (pol-nil (K m)); short = h .short } }
+
+  abbrev row : ℕ → List (zmod (m .p) .El)
+  row k = elements (m .p) (words s 14 k)
+
+  pub lows-turn : (f r : Poly) (k : ℕ) (x : Residue) → Lows s g m f k → k < suc (g + g) → (word64 s (14 + 8 * k) < m .p) × Settles m x (emb (m .p) (word64 s (14 + 8 * k)))
+      → Is m r (P m .add (pol m f) (term (K m) (el m x) k)) (max (f .n) (k + 1)) → Lows s g m r (k + 1)
+  lows-turn f r k x h l v p = record {
+    within = omega arith;
+    below = below-more (λ j. word64 s (14 + 8 * j) < m .p) k (h .below) (v .0);
+    is = subst (λ n. Is m r (list-pol (K m) (elements (m .p) (words s 14 n))) n) {x = suc k} {y = k + 1} (omega arith) more;
+  }
+    where
+      long : k ≡ length (row k)
+      long = sym (length-row s (m .p) 14 k)
+
+      next : Is m r (list-pol (K m) (row k ++ (emb (m .p) (word64 s (14 + 8 * k)) ∷ []))) (length (row k) + 1)
+      next = next-term m (row k) {x = f} {r = r} (emb (m .p) (word64 s (14 + 8 * k))) (subst (Is m f (list-pol (K m) (row k))) long (h .is))
+          (subst (λ n. Is m r (P m .add (pol m f) (term (K m) (emb (m .p) (word64 s (14 + 8 * k))) n)) (max (f .n) (n + 1))) long (subst (λ t. Is m r (P m .add (pol m f) (term (K m) t k)) (max (f .n) (k + 1))) (v .1 .is) p))
+
+      more : Is m r (list-pol (K m) (elements (m .p) (words s 14 (suc k)))) (suc k)
+      more = record { ok = next .ok; is = next .is ∙ ap (list-pol (K m)) (sym (elements-snoc s (m .p) 14 k)); short = omega (arith, next .short, long) }
+
+  pub lows-put : (f : Poly) (k : ℕ) (x : Residue) → ToLow s g m → Lows s g m f k → k < suc (g + g) → (word64 s (14 + 8 * k) < m .p) × Settles m x (emb (m .p) (word64 s (14 + 8 * k))) → Put m f k x
+  lows-put f k x t h l v = record { left = h .is .ok; fits = omega (arith, t .most); term = settled-kept m (v .1 .settled) }
+
+  pub lows-stop : (f : Poly) (k : ℕ) → Lows s g m f k → k < suc (g + g) → m .p ≤ word64 s (14 + 8 * k) → LowsIs s g m (record { below = false; f = f })
+  lows-stop f k h l v = record { below = sym (one-above s (m .p) 14 (suc (g + g)) k l v); ok = h .is .ok; held = λ e. absurd (false≢true e) }
+
+  pub lows-end : (f : Poly) (k : ℕ) → Lows s g m f k → suc (g + g) ≤ k → LowsIs s g m (record { below = true; f = f })
+  lows-end f k h l = record {
+    below = sym (all-below s (m .p) 14 (suc (g + g)) (λ j i. h .below j (omega (arith, h .within))));
+    ok = h .is .ok;
+    held = λ e. subst (λ n. Is m f (list-pol (K m) (elements (m .p) (words s 14 n))) n) {x = k} {y = suc (g + g)} (omega (arith, h .within)) (h .is);
+  }
+
+-- ---- the curve that is built
+module _ (s : List ℕ) (g : ℕ) (m : Modulus) (h : ToLow s g m) where
+  open CRing (K m) using (one as 𝟙)
+
+  abbrev low : List (zmod (m .p) .El)
+  low = elements (m .p) (words s 14 (suc (g + g)))
+
+  abbrev rule : CurveRecord
+  rule = record { p = m .p; g = g; low = low }
+
+  long : length low ≡ suc (g + g)
+  long = length-row s (m .p) 14 (suc (g + g))
+
+  -- what the rule comes to, and by the two tests
+  here : Headed s → g ≡ getD s 5 0 → m .p ≡ word64 s 6 → read-curve s ≡ low-rule s g (m .p)
+  here hd g-is p-is = behind s hd ∙ ap (λ b. choose b (low-rule s (getD s 5 0) (word64 s 6)) (refused 5 0)) (odd-prime-yes (word64 s 6) (subst OddPrime p-is (h .good .prime)))
+      ∙ ap₂ (low-rule s) (sym g-is) (sym p-is)
+
+  by-below : {b : Bool} → below? (m .p) (words s 14 (suc (g + g))) ≡ b → low-rule s g (m .p) ≡ choose b (choose (square-free? (curve rule)) (taken rule) (refused 7 0)) (refused 6 0)
+  by-below e = ap (λ b. choose b (choose (square-free? (curve rule)) (taken rule) (refused 7 0)) (refused 6 0)) e
+
+  by-free : {b : Bool} → square-free? (curve rule) ≡ b → choose (square-free? (curve rule)) (taken rule) (refused 7 0) ≡ choose b (taken rule) (refused 7 0)
+  by-free e = ap (λ b. choose b (taken rule) (refused 7 0)) e
+
+  pub too-large : (r : LowRead) → LowsIs s g m r → r .below ≡ false → (c : Curve) → LowIs s g m (record { number = 6; curve = c })
+  too-large r k e c = λ hd g-is p-is. record { sound = λ z. absurd (omega arith); takes = λ z. absurd (omega arith); refuses = λ z. here hd g-is p-is ∙ by-below (sym (k .below) ∙ e) }
+
+  module _ (r : LowRead) (hr : LowsIs s g m r) (all : r .below ≡ true) (o : Residue) (ho : Settles m o 𝟙)
+      (f : Poly) (hf : Is m f (P m .add (pol m (r .f)) (term (K m) (el m o) (g + g + 1))) (max (r .f .n) (g + g + 1 + 1))) where
+    below : below? (m .p) (words s 14 (suc (g + g))) ≡ true
+    below = sym (hr .below) ∙ all
+
+    f-is : Is m f (mon (K m) low) (suc (suc (g + g)))
+    unfolding mon whole
+    f-is = let k = next-term m low {x = r .f} {r = f} (el m o) (subst (Is m (r .f) (list-pol (K m) low)) (sym long) (hr .held all))
+        (subst (λ n. Is m f (P m .add (pol m (r .f)) (term (K m) (el m o) n)) (max (r .f .n) (n + 1))) {x = g + g + 1} {y = length low} (omega (arith, long)) hf) in
+        record { ok = k .ok; is = k .is ∙ ap (λ t. list-pol (K m) (low ++ (t ∷ []))) (ho .is); short = omega (arith, k .short, long) }
+
+    monic : Monic (K m) (suc (g + g)) (coef (K m) (mon (K m) low))
+    monic = subst (λ n. Monic (K m) n (coef (K m) (mon (K m) low))) long (mon-monic (K m) low)
+
+    top : coef (K m) (pol m f) (suc (g + g)) ≡ 𝟙
+    top = ap (λ t. coef (K m) t (suc (g + g))) (f-is .is) ∙ monic .top
+
+    abbrev built : Curve
+    built = record { m = m; g = g; f = f }
+
+    low-is : coefs (K m) (suc (g + g)) (coef (K m) (pol m f)) ≡ low
+    low-is = ap (λ t. coefs (K m) (suc (g + g)) (coef (K m) t)) (f-is .is)
+        ∙ mon-inj (K m) (coefs (K m) (suc (g + g)) (coef (K m) (mon (K m) low))) low (length-coefs (K m) (suc (g + g)) (coef (K m) (mon (K m) low)) ∙ sym long) (mon-coefs (K m) (suc (g + g)) (mon (K m) low) monic)
+
+    record-is : recordOf built ≡ rule
+    record-is = ap (λ (t : List (zmod (m .p) .El)). record { p = m .p; g = g; low = t }) low-is
+
+    -- what the code decided is what the rule asks
+    abbrev Free : Type 0
+    Free = SharesNoFactor (K m) (pol m f) (derP (K m) (pol m f))
+
+    free : Free → SquareFree (curve rule)
+    free a d x y k i = go k i (subst (λ t. SharesNoFactor (K m) t (derP (K m) t)) (f-is .is) a d x y)
+      where
+        go : (k : ℕ) → 1 ≤ k → ((n : ℕ) → coef (K m) d (suc n) ≡ K m .zer) → coef (K m) d k ≡ K m .zer
+        go zero i z = absurd (omega arith)
+        go (suc n) i z = z n
+
+    free-back : SquareFree (curve rule) → Free
+    free-back a = subst (λ t. SharesNoFactor (K m) t (derP (K m) t)) (sym (f-is .is)) (λ d x y n. a d x y (suc n) (omega arith))
+
+    pub sound : Free → Sound built
+    sound a = record {
+      ok = f-is .ok;
+      least = h .least;
+      most = h .most;
+      odd = exact m {r = f} {n = suc (g + g)} (f-is .ok) (f-is .short) top ∙ omega arith;
+      monic = monic-at m {r = f} {n = suc (g + g)} (f-is .ok) (f-is .short) top;
+      square-free = subst (λ r. SquareFree (curve r)) (sym record-is) (free a);
+    }
+
+    pub built-curve : Free → LowIs s g m (record { number = 0; curve = built })
+    built-curve a = λ hd g-is p-is. record {
+      sound = λ z. sound a;
+      takes = λ z. here hd g-is p-is ∙ by-below below ∙ by-free (square-free-test (m .p) (h .good .prime .is) g low .1 (free a)) ∙ ap taken (sym record-is);
+      refuses = λ z. absurd (z refl);
+    }
+
+    pub repeated : (Free → ⊥) → LowIs s g m (record { number = 7; curve = built })
+    repeated n = λ hd g-is p-is. record {
+      sound = λ z. absurd (omega arith);
+      takes = λ z. absurd (omega arith);
+      refuses = λ z. here hd g-is p-is ∙ by-below below ∙ by-free (otherwise (square-free? (curve rule)) (λ e. n (free-back (square-free-test (m .p) (h .good .prime .is) g low .0 e))));
+    }

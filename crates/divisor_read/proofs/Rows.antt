@@ -1,0 +1,103 @@
+-- The numbers of a divisor record as residues. Gives: the loop over them, the divisor built of them, and its elements of Z/p.
+use Prim.Native.Nat.{ℕ, zero, suc, _+_, _*_, _≤_, _<_}
+use mathlib.Core.Path.{_≡_, refl, sym, ap, ap₂, _∙_, subst}
+use mathlib.Core.List.{List, [], _∷_}
+use mathlib.Core.Bool.{true, false, false≢true}
+use native.Mathlib.Omega.{arith}
+use borrow.Author.Count.{below-more}
+use lib.ListN.{getD, length, take, drop, set, length-set}
+use lib.Seq.{getD-set-same, getD-set-other, getD-drop, drop-cons}
+use Rattle.algebra.proofs.zmod.Zmod.{emb}
+use Rattle.rules.specs.Bytes.{word64, words}
+use Rattle.rules.specs.Records.{elements}
+use Rattle.field.specs.declared.Modulus.{Modulus}
+use Rattle.field.specs.declared.Residue.{Residue}
+use Rattle.field.specs.Residues.{Settles}
+use Rattle.divisor.specs.declared.Divisor.{Divisor}
+use Rattle.divisor.specs.declared.Divisor.the-variants.{Neutral, One, Two, Three}
+use Rattle.divisor.specs.Divisors.{us, vs, elements as values, AllSettled}
+use Rattle.words.proofs.Rows.{all-below, one-above}
+use Rattle.divisor_read.specs.Read.{ResiduesIs, BuiltOf}
+
+-- ---- the loop: the first k numbers are below p, and r holds them
+pub record Filled (s : List ℕ) (a n : ℕ) (m : Modulus) (r : List Residue) (k : ℕ) : Type 0 where
+  pub within : k ≤ n
+  pub long : length r ≡ 6
+  pub below : (j : ℕ) → j < k → word64 s (a + 8 * j) < m .p
+  pub held : (j : ℕ) → j < k → (z : Residue) → Settles m (getD r j z) (emb (m .p) (word64 s (a + 8 * j)))
+
+module _ (s : List ℕ) (a n : ℕ) (m : Modulus) where
+  pub fill-begin : (r : List Residue) → length r ≡ 6 → Filled s a n m r 0
+  fill-begin r l = record { within = omega arith; long = l; below = λ j i. absurd (omega arith); held = λ j i. absurd (omega arith) }
+
+  pub fill-turn : (r : List Residue) (k : ℕ) (x : Residue) → n ≤ 6 → Filled s a n m r k → k < n → (word64 s (a + 8 * k) < m .p) × Settles m x (emb (m .p) (word64 s (a + 8 * k))) → Filled s a n m (set r k x) (k + 1)
+  fill-turn r k x room h l v = record {
+    within = omega arith;
+    long = length-set r k x ∙ h .long;
+    below = below-more (λ j. word64 s (a + 8 * j) < m .p) k (h .below) (v .0);
+    held = below-more (λ j. (z : Residue) → Settles m (getD (set r k x) j z) (emb (m .p) (word64 s (a + 8 * j)))) k
+        (λ j i z. subst (λ t. Settles m t (emb (m .p) (word64 s (a + 8 * j)))) (sym (getD-set-other r k j x z (λ e. omega arith))) (h .held j i z))
+        (λ z. subst (λ t. Settles m t (emb (m .p) (word64 s (a + 8 * k)))) (sym (getD-set-same r k x z (omega (arith, h .long)))) (v .1));
+  }
+
+  pub fill-stop : (r : List Residue) (k : ℕ) → Filled s a n m r k → k < n → m .p ≤ word64 s (a + 8 * k) → ResiduesIs s a n m (record { below = false; r = r })
+  fill-stop r k h l v = record { long = h .long; below = sym (one-above s (m .p) a n k l v); held = λ e. absurd (false≢true e) }
+
+  pub fill-end : (r : List Residue) (k : ℕ) → Filled s a n m r k → n ≤ k → ResiduesIs s a n m (record { below = true; r = r })
+  fill-end r k h l = record { long = h .long; below = sym (all-below s (m .p) a n (λ j i. h .below j (omega arith))); held = λ e j z i. h .held j (omega arith) z }
+
+-- ---- the divisor of a row
+module _ (r : List Residue) where
+  -- n of them from place a on, one after the other
+  abbrev cells : Residue → ℕ → ℕ → List Residue
+  cells y a zero = []
+  cells y a (suc n) = getD r a y ∷ cells y (suc a) n
+
+  cells-are : (y : Residue) (a n : ℕ) → a + n ≤ length r → cells y a n ≡ take n (drop a r)
+  cells-are y a zero l = refl
+  cells-are y a (suc n) l = ap (λ t. getD r a y ∷ t) (cells-are y (suc a) n (omega arith)) ∙ sym (ap (take (suc n)) (drop-cons r a y (omega arith)))
+
+  pub built-none : (w : ℕ) → w ≡ 0 → BuiltOf w r Neutral
+  built-none w e = subst (λ (k : ℕ). BuiltOf k r Neutral) (sym e) (refl, refl)
+
+  module _ (w : ℕ) (y : Residue) (long : length r ≡ 6) where
+    built : (d : Divisor) (n : ℕ) → n ≤ 3 → w ≡ n → us d ≡ cells y 0 n → vs d ≡ cells y n n → BuiltOf w r d
+    built d n l e hu hv = subst (λ (k : ℕ). BuiltOf k r d) (sym e) (hu ∙ cells-are y 0 n (omega arith), hv ∙ cells-are y n n (omega arith))
+
+    pub built-one : w ≡ 1 → BuiltOf w r (One (record { u0 = getD r 0 y; v0 = getD r 1 y }))
+    built-one e = built (One (record { u0 = getD r 0 y; v0 = getD r 1 y })) 1 (omega arith) e refl refl
+
+    pub built-two : w ≡ 2 → BuiltOf w r (Two (record { u0 = getD r 0 y; u1 = getD r 1 y; v0 = getD r 2 y; v1 = getD r 3 y }))
+    built-two e = built (Two (record { u0 = getD r 0 y; u1 = getD r 1 y; v0 = getD r 2 y; v1 = getD r 3 y })) 2 (omega arith) e refl refl
+
+    pub built-three : w ≡ 3 → BuiltOf w r (Three (record { u0 = getD r 0 y; u1 = getD r 1 y; u2 = getD r 2 y; v0 = getD r 3 y; v1 = getD r 4 y; v2 = getD r 5 y }))
+    built-three e = built (Three (record { u0 = getD r 0 y; u1 = getD r 1 y; u2 = getD r 2 y; v0 = getD r 3 y; v1 = getD r 4 y; v2 = getD r 5 y })) 3 (omega arith) e refl refl
+
+-- ---- residues that hold numbers in a row
+module _ (m : Modulus) (s : List ℕ) where
+  abbrev pub Holding : List Residue → ℕ → ℕ → Type 0
+  Holding l b n = (k : ℕ) → k < n → (z : Residue) → Settles m (getD l k z) (emb (m .p) (word64 s (b + 8 * k)))
+
+  moved : (r : Residue) (u v : ℕ) → u ≡ v → Settles m r (emb (m .p) (word64 s u)) → Settles m r (emb (m .p) (word64 s v))
+  moved r u v e h = subst (λ (t : ℕ). Settles m r (emb (m .p) (word64 s t))) e h
+
+  first : (x : Residue) (l : List Residue) (b n : ℕ) → Holding (x ∷ l) b (suc n) → Settles m x (emb (m .p) (word64 s b))
+  first x l b n h = moved x (b + 8 * 0) b (omega arith) (h 0 (omega arith) x)
+
+  others : (x : Residue) (l : List Residue) (b n : ℕ) → Holding (x ∷ l) b (suc n) → Holding l (b + 8) n
+  others x l b n h k i z = moved (getD l k z) (b + 8 * suc k) (b + 8 + 8 * k) (omega arith) (h (suc k) (omega arith) z)
+
+  pub held-elements : (l : List Residue) (b n : ℕ) → n ≤ length l → Holding l b n → values m (take n l) ≡ elements (m .p) (words s b n)
+  unfolding words elements
+  held-elements l b zero i h = refl
+  held-elements [] b (suc n) i h = absurd (omega arith)
+  held-elements (x ∷ l) b (suc n) i h = ap₂ _∷_ (first x l b n h .is) (held-elements l (b + 8) n (omega arith) (others x l b n h))
+
+  pub held-settled : (l : List Residue) (b n : ℕ) → n ≤ length l → Holding l b n → AllSettled m (take n l)
+  held-settled l b zero i h = tt
+  held-settled [] b (suc n) i h = absurd (omega arith)
+  held-settled (x ∷ l) b (suc n) i h = (first x l b n h .settled, held-settled l (b + 8) n (omega arith) (others x l b n h))
+
+  -- those behind the first w
+  pub held-behind : (l : List Residue) (b w n : ℕ) → Holding l b (w + n) → Holding (drop w l) (b + 8 * w) n
+  held-behind l b w n h k i z = subst (λ t. Settles m t (emb (m .p) (word64 s (b + 8 * w + 8 * k)))) (sym (getD-drop w l k z)) (moved (getD l (w + k) z) (b + 8 * (w + k)) (b + 8 * w + 8 * k) (omega arith) (h (w + k) (omega arith) z))
