@@ -3,7 +3,6 @@
 use Prim.Native.Nat.{_+_, _≤_}
 use mathlib.Core.Path.{_≡_, sym, ap₂, _∙_, subst}
 use native.Mathlib.Omega.{arith}
-use lib.ListN.{length}
 use Rattle.algebra.proofs.ring.CRing.{CRing}
 use Rattle.algebra.proofs.ideal.Joined.{OnCurve}
 use Rattle.algebra.proofs.ideal.Composed.{Composed}
@@ -15,8 +14,8 @@ use Rattle.rules.proofs.cantor.Pairs.{valid-on, on-valid, opposite-valid}
 use Rattle.field.specs.declared.Modulus.{Modulus}
 use Rattle.poly.specs.Polys.{P, pol}
 use Rattle.divisor.specs.declared.Divisor.{Divisor}
-use Rattle.divisor.specs.Divisors.{weightOf, us, vs, pair, Opposed}
-use Rattle.divisor.proofs.Laws.{length-us, length-vs, length-elements}
+use Rattle.divisor.specs.Divisors.{pair, Opposed}
+use Rattle.divisor.proofs.Laws.{weight-is, weight-is-v}
 use Rattle.cantor.specs.declared.Mumford.{Mumford}
 use Rattle.cantor.specs.Pairs.{Fine}
 use Rattle.cantor.specs.Reducing.{ToSum, Summed}
@@ -44,14 +43,6 @@ module _ (c : Curve) (h : Sound c) where
     unfolding pair
     v-is = sym (hx .v-is)
 
-    weight-u : length (pair m d .u) ≡ weightOf d
-    unfolding pair
-    weight-u = length-elements m (us d) ∙ length-us d
-
-    weight-v : length (pair m d .v) ≡ weightOf d
-    unfolding pair
-    weight-v = length-elements m (vs d) ∙ length-vs d
-
     fine : Holds c d → Fine m (c .f) x
     fine hd = let o : OnCurve (Kx (curveOf c)) (f (curveOf c)) (u-of (curveOf c) (pair m d)) (v-of (curveOf c) (pair m d)) = valid-on (curveOf c) (hd .valid) .on in record {
       ok-u = hx .ok-u;
@@ -62,10 +53,10 @@ module _ (c : Curve) (h : Sound c) where
     }
 
     small : Holds c d → x .u .n ≤ c .g + 1
-    small hd = omega (arith, hx .n-u, hd .valid .small, weight-u)
+    small hd = omega (arith, hx .n-u, hd .valid .small, weight-is m d)
 
     valid : Fine m (c .f) x → x .u .n ≤ c .g + 1 → Valid (curveOf c) (pair m d)
-    valid k l = on-valid (curveOf c) (record { fits = weight-v ∙ sym weight-u; on = (k .on .0, f-is c h ∙ k .on .1 ∙ sym (ap₂ (λ s t. t *P t +P s *P k .on .0) u-is v-is)) }) (omega (arith, weight-u, hx .n-u))
+    valid k l = on-valid (curveOf c) (record { fits = weight-is-v m d ∙ sym (weight-is m d); on = (k .on .0, f-is c h ∙ k .on .1 ∙ sym (ap₂ (λ s t. t *P t +P s *P k .on .0) u-is v-is)) }) (omega (arith, weight-is m d, hx .n-u))
 
   -- ---- the sum
   module _ (a b : Divisor) (x y : Mumford) (hx : AsPair m a x) (hy : AsPair m b y) (ha : Holds c a) (hb : Holds c b) where

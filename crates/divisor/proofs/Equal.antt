@@ -1,33 +1,37 @@
--- Why equality of divisors, tested two coefficients at a time, is equality of values.
-use mathlib.Core.Path.{_≡_, sym, ap, _∙_}
-use mathlib.Core.Bool.{Bool}
-use Rattle.field.specs.Primes.{Decides}
-use Rattle.field.proofs.Decide.{decides-as}
-use Rattle.divisor.specs.declared.Linear.{Linear}
-use Rattle.divisor.specs.declared.Quadratic.{Quadratic}
-use Rattle.divisor.specs.declared.Cubic.{Cubic}
+-- Why equality of divisors, tested place by place along their rows, is equality of values.
+use Prim.Native.Nat.{ℕ, suc, _+_, _*_, _≤_, _<_}
+use mathlib.Core.Path.{_≡_, sym, ap, ap₂, _∙_, subst}
+use mathlib.Core.List.{List, [], _∷_, _++_}
+use native.Mathlib.Omega.{arith}
+use lib.ListN.{getD, take}
+use lib.Seq.{take-suc}
+use Rattle.field.specs.declared.Modulus.{Modulus}
+use Rattle.field.specs.declared.Residue.{Residue}
+use Rattle.field.specs.Residues.{el, Settled}
+use Rattle.field.proofs.Laws.{settled-unique}
 use Rattle.divisor.specs.declared.Divisor.{Divisor}
+use Rattle.divisor.specs.Divisors.{weightOf, coefficients, RowOf, Held}
+use Rattle.divisor.proofs.Rows.{row-at, row-long, row-settled, same-row}
 
-pub linear : (a b : Linear) (r : Bool) → Decides r ((a .u0 ≡ b .u0) × (a .v0 ≡ b .v0)) → Decides r (a ≡ b)
-linear a b r h = decides-as r (λ (p : (a .u0 ≡ b .u0) × (a .v0 ≡ b .v0)). λ i. record { u0 = p .0 i; v0 = p .1 i }) (λ (e : a ≡ b). (ap (λ (d : Linear). d .u0) e, ap (λ (d : Linear). d .v0) e)) h
+-- the first k places agree
+pub record Same (w : ℕ) (r s : List Residue) (k : ℕ) : Type 0 where
+  pub within : k ≤ 2 * w
+  pub is : take k r ≡ take k s
 
-module _ (a b : Quadratic) where
-  pub quadratic : (r : Bool) → (a .u0 ≡ b .u0) × (a .u1 ≡ b .u1) → Decides r ((a .v0 ≡ b .v0) × (a .v1 ≡ b .v1)) → Decides r (a ≡ b)
-  quadratic r q h = decides-as r (λ (p : (a .v0 ≡ b .v0) × (a .v1 ≡ b .v1)). λ i. record { u0 = q .0 i; u1 = q .1 i; v0 = p .0 i; v1 = p .1 i }) (λ (e : a ≡ b). (ap (λ (d : Quadratic). d .v0) e, ap (λ (d : Quadratic). d .v1) e)) h
+module _ (m : Modulus) (a b : Divisor) (r s : List Residue) (h : Held m a × Held m b) (ha : RowOf a r) (hb : RowOf b s) (w : ℕ) (ea : w ≡ weightOf a) (eb : weightOf b ≡ w) where
+  module _ (k : ℕ) (z : Residue) (l : k < 2 * w) where
+    pub places-settled : Settled m (getD r k z) × Settled m (getD s k z)
+    places-settled = (row-settled m a r (h .0) ha k z (omega arith), row-settled m b s (h .1) hb k z (omega arith))
 
-  pub quadratic-u : ((a .u0 ≡ b .u0) × (a .u1 ≡ b .u1) → ⊥) → a ≡ b → ⊥
-  quadratic-u n e = n (ap (λ (d : Quadratic). d .u0) e, ap (λ (d : Quadratic). d .u1) e)
+    pub same-turn : Same w r s k → el m (getD r k z) ≡ el m (getD s k z) → Same w r s (k + 1)
+    same-turn t e = record {
+      within = omega arith;
+      is = subst (λ n. take n r ≡ take n s) {x = suc k} {y = k + 1} (omega arith)
+          (take-suc r k z (omega (arith, row-long a r ha)) ∙ ap₂ (λ t x. t ++ (x ∷ [])) (t .is) (settled-unique m (getD r k z) (getD s k z) (places-settled .0) (places-settled .1) e) ∙ sym (take-suc s k z (omega (arith, row-long b s hb))));
+    }
 
-module _ (a b : Cubic) where
-  pub cubic : (r : Bool) → (a .u0 ≡ b .u0) × (a .u1 ≡ b .u1) → (a .u2 ≡ b .u2) × (a .v0 ≡ b .v0) → Decides r ((a .v1 ≡ b .v1) × (a .v2 ≡ b .v2)) → Decides r (a ≡ b)
-  cubic r q s h = decides-as r (λ (p : (a .v1 ≡ b .v1) × (a .v2 ≡ b .v2)). λ i. record { u0 = q .0 i; u1 = q .1 i; u2 = s .0 i; v0 = s .1 i; v1 = p .0 i; v2 = p .1 i }) (λ (e : a ≡ b). (ap (λ (d : Cubic). d .v1) e, ap (λ (d : Cubic). d .v2) e)) h
+    pub same-stop : (el m (getD r k z) ≡ el m (getD s k z) → ⊥) → a ≡ b → ⊥
+    same-stop n e = n (ap (el m) (row-at a r ha k z (omega arith) ∙ ap (λ d. getD (coefficients d) k z) e ∙ sym (row-at b s hb k z (omega arith))))
 
-  pub cubic-first : ((a .u0 ≡ b .u0) × (a .u1 ≡ b .u1) → ⊥) → a ≡ b → ⊥
-  cubic-first n e = n (ap (λ (d : Cubic). d .u0) e, ap (λ (d : Cubic). d .u1) e)
-
-  pub cubic-second : ((a .u2 ≡ b .u2) × (a .v0 ≡ b .v0) → ⊥) → a ≡ b → ⊥
-  cubic-second n e = n (ap (λ (d : Cubic). d .u2) e, ap (λ (d : Cubic). d .v0) e)
-
--- within one case
-pub within : {A : Type 0} {a b : Divisor} {x y : A} (case : A → Divisor) → (case x ≡ case y → x ≡ y) → a ≡ case x → b ≡ case y → (r : Bool) → Decides r (x ≡ y) → Decides r (a ≡ b)
-within {A} {a} {b} {x} {y} case inj p q r h = decides-as r (λ (e : x ≡ y). p ∙ ap case e ∙ sym q) (λ (e : a ≡ b). inj (sym p ∙ e ∙ q)) h
+  pub same-end : (k : ℕ) → Same w r s k → 2 * w ≤ k → a ≡ b
+  same-end k t l = same-row a b r s ha hb (eb ∙ ea) (subst (λ n. take n r ≡ take n s) {x = k} {y = 2 * weightOf a} (omega arith) (t .is))

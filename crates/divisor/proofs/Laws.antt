@@ -1,28 +1,23 @@
--- Divisors as pairs. Gives: the weight is the length of u and of v; held divisors that stand for one pair are one value; divisors of
--- different weights are different; the neutral divisor is held.
+-- Divisors as pairs. Gives: the weight is the length of u and of v; held divisors that stand for one pair are one value; the neutral
+-- divisor is held.
 use Prim.Native.Nat.{ℕ, zero, suc, _≤_}
 use mathlib.Core.Path.{_≡_, refl, sym, ap, ap₂, _∙_}
 use mathlib.Core.List.{List, [], _∷_}
-use mathlib.Core.Bool.{Bool, true, false}
 use native.Mathlib.Omega.{arith}
 use lib.ListN.{length, getD}
 use Rattle.algebra.proofs.zmod.PrimeField.{modulo}
 use Rattle.rules.specs.Pair.{Pair, neutral}
 use Rattle.field.specs.declared.Modulus.{Modulus}
 use Rattle.field.specs.declared.Residue.{Residue}
-use Rattle.field.specs.Primes.{Decides}
-use Rattle.field.specs.Residues.{el, Good, Settled}
+use Rattle.field.specs.Residues.{Good}
 use Rattle.field.proofs.Laws.{settled-unique}
 use Rattle.divisor.specs.declared.Divisor.{Divisor}
 use Rattle.divisor.specs.declared.Divisor.the-variants.{Neutral, One, Two, Three}
 use Rattle.divisor.specs.Divisors.{weightOf, us, vs, elements, pair, AllSettled, Held}
 
-abbrev at : List Residue → ℕ → Residue
+-- the k-th residue of a list, as code reads it
+abbrev pub at : List Residue → ℕ → Residue
 at l k = getD l k (record { 0 = 0 })
-
--- divisors of different weights
-pub apart : {a b x y : Divisor} → a ≡ x → b ≡ y → (weightOf x ≡ weightOf y → ⊥) → a ≡ b → ⊥
-apart {a} {b} {x} {y} p q n e = n (ap weightOf (sym p ∙ e ∙ q))
 
 -- a divisor is its coefficients
 make : ℕ → List Residue → List Residue → Divisor
@@ -60,18 +55,18 @@ length-vs (Two d) = refl
 length-vs (Three d) = refl
 
 module _ (m : Modulus) where
-  -- two tests of residues, one after the other
-  module _ (a b c d : Residue) (ha : Settled m a) (hb : Settled m b) where
-    pub both-second : (r : Bool) → Settled m c → Settled m d → el m a ≡ el m b → Decides r (el m c ≡ el m d) → Decides r ((a ≡ b) × (c ≡ d))
-    both-second true hc hd e h = (settled-unique m a b ha hb e, settled-unique m c d hc hd h)
-    both-second false hc hd e h = λ p. h (ap (el m) (p .1))
-
-    pub both-first : (el m a ≡ el m b → ⊥) → (a ≡ b) × (c ≡ d) → ⊥
-    both-first n p = n (ap (el m) (p .0))
-
   pub length-elements : (l : List Residue) → length (elements m l) ≡ length l
   length-elements [] = refl
   length-elements (r ∷ l) = ap suc (length-elements l)
+
+  -- the weight of the pair that d stands for
+  pub weight-is : (d : Divisor) → length (pair m d .u) ≡ weightOf d
+  unfolding pair
+  weight-is d = length-elements (us d) ∙ length-us d
+
+  pub weight-is-v : (d : Divisor) → length (pair m d .v) ≡ weightOf d
+  unfolding pair
+  weight-is-v d = length-elements (vs d) ∙ length-vs d
 
   elements-inj : (a b : List Residue) → AllSettled m a → AllSettled m b → elements m a ≡ elements m b → a ≡ b
   elements-inj [] [] h k e = refl

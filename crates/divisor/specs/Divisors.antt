@@ -1,8 +1,9 @@
 -- What a divisor stands for. Document 01, "The records": u of degree w with leading 1, and v of degree below w, by their coefficients from
 -- the constant's on; weight 0 is the neutral divisor.
-use Prim.Native.Nat.{ℕ}
+use Prim.Native.Nat.{ℕ, _*_}
 use mathlib.Core.Path.{_≡_}
-use mathlib.Core.List.{List, [], _∷_}
+use mathlib.Core.List.{List, [], _∷_, _++_}
+use lib.ListN.{take}
 use Rattle.algebra.proofs.zmod.PrimeField.{modulo}
 use Rattle.rules.specs.Pair.{Pair, opposite}
 use Rattle.field.specs.declared.Modulus.{Modulus}
@@ -29,6 +30,13 @@ vs Neutral = []
 vs (One d) = d .v0 ∷ []
 vs (Two d) = d .v0 ∷ d .v1 ∷ []
 vs (Three d) = d .v0 ∷ d .v1 ∷ d .v2 ∷ []
+
+-- all of them, as a row holds them: those of u first
+abbrev pub coefficients : Divisor → List Residue
+coefficients d = us d ++ vs d
+
+pub record RowOf (d : Divisor) (r : List Residue) : Type 0 where
+  pub is : take (2 * weightOf d) r ≡ coefficients d
 
 module _ (m : Modulus) where
   abbrev pub elements : List Residue → List (modulo (m .p) .base .El)

@@ -1,10 +1,11 @@
 // A divisor as it is held: one of four cases, each with exactly its own coefficients. It stands for a pair (u, v) of the rules.
 ghost use mathlib.Core.Path.{_≡_};
+ghost use Prim.Native.Nat.{_≤_};
 ghost use Rattle.field.specs.Primes.{Decides};
 ghost use Rattle.algebra.proofs.zmod.Zmod.{zmod};
 ghost use Rattle.field.specs.Residues.{el, Settled, Settles};
 ghost use Rattle.rules.specs.Pair.{opposite};
-ghost use Rattle.divisor.specs.Divisors.{Held, weightOf, Opposed};
+ghost use Rattle.divisor.specs.Divisors.{Held, weightOf, RowOf, Opposed};
 use field::Modulus;
 use field::Residue;
 
@@ -47,128 +48,6 @@ fn opposed(r: Residue, m: Modulus) -> Residue
     r.neg(m).settle(m)
 }
 
-// Whether a is b and c is d.
-fn both_equal(a: Residue, b: Residue, c: Residue, d: Residue, m: Modulus) -> bool
-    requires { ⌜ (Settled m a × Settled m b) × (Settled m c × Settled m d) ⌝ }
-    ensures { λ r. ⌜ Decides r ((a ≡ b) × (c ≡ d)) ⌝ }
-{
-    if a.equal(b, m) { c.equal(d, m) } else { false }
-}
-
-impl Linear {
-    fn opposite(self, m: Modulus) -> Linear
-        requires { ⌜ Held m (Divisor.One self) ⌝ }
-        ensures { λ r. ⌜ Opposed m (Divisor.One self) (Divisor.One r) ⌝ }
-    {
-        let u0 = self.u0;
-        let v0 = self.v0;
-        let w0 = opposed(v0, m);
-        Linear { u0: u0, v0: w0 }
-    }
-
-    fn equal(self, other: Linear, m: Modulus) -> bool
-        requires { ⌜ Held m (Divisor.One self) × Held m (Divisor.One other) ⌝ }
-        ensures { λ r. ⌜ Decides r (self ≡ other) ⌝ }
-    {
-        let au0 = self.u0;
-        let bu0 = other.u0;
-        let av0 = self.v0;
-        let bv0 = other.v0;
-        both_equal(au0, bu0, av0, bv0, m)
-    }
-}
-
-impl Quadratic {
-    fn opposite(self, m: Modulus) -> Quadratic
-        requires { ⌜ Held m (Divisor.Two self) ⌝ }
-        ensures { λ r. ⌜ Opposed m (Divisor.Two self) (Divisor.Two r) ⌝ }
-    {
-        let u0 = self.u0;
-        let u1 = self.u1;
-        let v0 = self.v0;
-        let v1 = self.v1;
-        let w0 = opposed(v0, m);
-        let w1 = opposed(v1, m);
-        Quadratic {
-            u0: u0,
-            u1: u1,
-            v0: w0,
-            v1: w1,
-        }
-    }
-
-    fn equal(self, other: Quadratic, m: Modulus) -> bool
-        requires { ⌜ Held m (Divisor.Two self) × Held m (Divisor.Two other) ⌝ }
-        ensures { λ r. ⌜ Decides r (self ≡ other) ⌝ }
-    {
-        let au0 = self.u0;
-        let bu0 = other.u0;
-        let au1 = self.u1;
-        let bu1 = other.u1;
-        let av0 = self.v0;
-        let bv0 = other.v0;
-        let av1 = self.v1;
-        let bv1 = other.v1;
-        if both_equal(au0, bu0, au1, bu1, m) {
-            both_equal(av0, bv0, av1, bv1, m)
-        } else {
-            false
-        }
-    }
-}
-
-impl Cubic {
-    fn opposite(self, m: Modulus) -> Cubic
-        requires { ⌜ Held m (Divisor.Three self) ⌝ }
-        ensures { λ r. ⌜ Opposed m (Divisor.Three self) (Divisor.Three r) ⌝ }
-    {
-        let u0 = self.u0;
-        let u1 = self.u1;
-        let u2 = self.u2;
-        let v0 = self.v0;
-        let v1 = self.v1;
-        let v2 = self.v2;
-        let w0 = opposed(v0, m);
-        let w1 = opposed(v1, m);
-        let w2 = opposed(v2, m);
-        Cubic {
-            u0: u0,
-            u1: u1,
-            u2: u2,
-            v0: w0,
-            v1: w1,
-            v2: w2,
-        }
-    }
-
-    fn equal(self, other: Cubic, m: Modulus) -> bool
-        requires { ⌜ Held m (Divisor.Three self) × Held m (Divisor.Three other) ⌝ }
-        ensures { λ r. ⌜ Decides r (self ≡ other) ⌝ }
-    {
-        let au0 = self.u0;
-        let bu0 = other.u0;
-        let au1 = self.u1;
-        let bu1 = other.u1;
-        let au2 = self.u2;
-        let bu2 = other.u2;
-        let av0 = self.v0;
-        let bv0 = other.v0;
-        let av1 = self.v1;
-        let bv1 = other.v1;
-        let av2 = self.v2;
-        let bv2 = other.v2;
-        if both_equal(au0, bu0, au1, bu1, m) {
-            if both_equal(au2, bu2, av0, bv0, m) {
-                both_equal(av1, bv1, av2, bv2, m)
-            } else {
-                false
-            }
-        } else {
-            false
-        }
-    }
-}
-
 impl Divisor {
     pub fn neutral() -> Divisor
         ensures { λ r. ⌜ r ≡ Divisor.Neutral ⌝ }
@@ -188,17 +67,87 @@ impl Divisor {
         }
     }
 
+    // The coefficients in a row, those of u first, then those of v, and zeros behind them. Where this row and the weight will do, nothing
+    // else need know the four cases.
+    pub fn row(self) -> [Residue; 6]
+        ensures { λ r. ⌜ RowOf self r ⌝ }
+    {
+        let z = Residue::zero();
+        match self {
+            Divisor::Neutral => [z; 6],
+            Divisor::One(d) => {
+                let u0 = d.u0;
+                let v0 = d.v0;
+                [u0, v0, z, z, z, z]
+            }
+            Divisor::Two(d) => {
+                let u0 = d.u0;
+                let u1 = d.u1;
+                let v0 = d.v0;
+                let v1 = d.v1;
+                [u0, u1, v0, v1, z, z]
+            }
+            Divisor::Three(d) => {
+                let u0 = d.u0;
+                let u1 = d.u1;
+                let u2 = d.u2;
+                let v0 = d.v0;
+                let v1 = d.v1;
+                let v2 = d.v2;
+                [u0, u1, u2, v0, v1, v2]
+            }
+        }
+    }
+
+    // The divisor of weight w whose coefficients are the first 2 w residues.
+    pub fn of_row(w: usize, r: [Residue; 6]) -> Divisor
+        requires { ⌜ w ≤ 3 ⌝ }
+        ensures { λ d. ⌜ (weightOf d ≡ w) × RowOf d r ⌝ }
+    {
+        let a = r[0];
+        let b = r[1];
+        let c = r[2];
+        let d = r[3];
+        if w == 0 {
+            return Divisor::Neutral;
+        }
+        if w == 1 {
+            return Divisor::One(Linear { u0: a, v0: b });
+        }
+        if w == 2 {
+            return Divisor::Two(Quadratic {
+                u0: a,
+                u1: b,
+                v0: c,
+                v1: d,
+            });
+        }
+        let e = r[4];
+        let f = r[5];
+        Divisor::Three(Cubic {
+            u0: a,
+            u1: b,
+            u2: c,
+            v0: d,
+            v1: e,
+            v2: f,
+        })
+    }
+
     // The same u, and -v.
     pub fn opposite(self, m: Modulus) -> Divisor
         requires { ⌜ Held m self ⌝ }
         ensures { λ r. ⌜ Opposed m self r ⌝ }
     {
-        match self {
-            Divisor::Neutral => Divisor::Neutral,
-            Divisor::One(d) => Divisor::One(d.opposite(m)),
-            Divisor::Two(d) => Divisor::Two(d.opposite(m)),
-            Divisor::Three(d) => Divisor::Three(d.opposite(m)),
+        let w = self.weight();
+        let n = 2 * w;
+        let mut r = self.row();
+        let mut k = w;
+        while k < n {
+            r[k] = opposed(r[k], m);
+            k += 1;
         }
+        Divisor::of_row(w, r)
     }
 
     // Two meters are the same when their divisors are equal.
@@ -206,31 +155,21 @@ impl Divisor {
         requires { ⌜ Held m self × Held m other ⌝ }
         ensures { λ r. ⌜ Decides r (self ≡ other) ⌝ }
     {
-        match self {
-            Divisor::Neutral => match other {
-                Divisor::Neutral => true,
-                Divisor::One(_) => false,
-                Divisor::Two(_) => false,
-                Divisor::Three(_) => false,
-            },
-            Divisor::One(a) => match other {
-                Divisor::Neutral => false,
-                Divisor::One(b) => a.equal(b, m),
-                Divisor::Two(_) => false,
-                Divisor::Three(_) => false,
-            },
-            Divisor::Two(a) => match other {
-                Divisor::Neutral => false,
-                Divisor::One(_) => false,
-                Divisor::Two(b) => a.equal(b, m),
-                Divisor::Three(_) => false,
-            },
-            Divisor::Three(a) => match other {
-                Divisor::Neutral => false,
-                Divisor::One(_) => false,
-                Divisor::Two(_) => false,
-                Divisor::Three(b) => a.equal(b, m),
-            },
+        let w = self.weight();
+        if other.weight() != w {
+            return false;
         }
+        let n = 2 * w;
+        let a = self.row();
+        let b = other.row();
+        let mut k: usize = 0;
+        while k < n {
+            if a[k].equal(b[k], m) {
+                k += 1;
+            } else {
+                return false;
+            }
+        }
+        true
     }
 }

@@ -1,56 +1,57 @@
--- Ranges of coefficients. Gives: two tests at a time decide all of a divisor's; what they decide is the rule's `below?` of its numbers; a
--- divisor in range is held, and is read from and written as its numbers.
-use mathlib.Core.Path.{_≡_, refl, sym, ap, ap₂, subst}
+-- Ranges of coefficients. Gives: a test at each place of the row decides all of a divisor's; what the tests decide is the rule's `below?`
+-- of its numbers; a divisor in range is held, and is read from and written as its numbers.
+use Prim.Native.Nat.{ℕ, zero, suc, _+_, _*_, _≤_, _<_}
+use mathlib.Core.Path.{_≡_, refl, sym, ap, ap₂, _∙_, subst}
 use mathlib.Core.Bool.{Bool, true, false, false≢true}
-use mathlib.Core.List.{List, [], _∷_, map}
+use mathlib.Core.List.{List, [], _∷_, _++_, map}
+use native.Mathlib.Omega.{arith}
 use borrow.Author.Tests.{lt-ltb, ltb-true}
 use lib.Dec.{ltb}
-use lib.ListN.{length}
+use lib.ListN.{length, getD, take, length-map}
+use lib.Seq.{take-suc}
 use Rattle.rules.specs.Records.{both, below?, elements, numbers}
 use Rattle.field.specs.declared.Modulus.{Modulus}
 use Rattle.field.specs.declared.Residue.{Residue}
-use Rattle.field.specs.Primes.{Decides}
 use Rattle.field.specs.Residues.{el, raw, Good, InRange}
-use Rattle.field.proofs.Decide.{decides-as}
 use Rattle.field.proofs.Laws.{in-range-settled, number-is}
-use Rattle.divisor.specs.declared.Linear.{Linear}
-use Rattle.divisor.specs.declared.Quadratic.{Quadratic}
-use Rattle.divisor.specs.declared.Cubic.{Cubic}
 use Rattle.divisor.specs.declared.Divisor.{Divisor}
-use Rattle.divisor.specs.declared.Divisor.the-variants.{Neutral, One, Two, Three}
-use Rattle.divisor.specs.Divisors.{weightOf, us, vs, pair, elements as values, AllSettled, Held}
+use Rattle.divisor.specs.Divisors.{weightOf, us, vs, coefficients, pair, elements as values, AllSettled, RowOf, Held}
+use Rattle.divisor.proofs.Laws.{length-us, length-vs}
+use Rattle.divisor.proofs.Rows.{length-coefficients, row-long, row-at}
 use Rattle.scans.specs.Scans.{ListIn, AllIn}
 
--- ---- the tests
+-- ---- the test, place by place along the row
 module _ (m : Modulus) where
-  abbrev Two-in : Residue → Residue → Type 0
-  Two-in a b = InRange m a × InRange m b
+  in-both : (a b : List Residue) → ListIn m a → ListIn m b → ListIn m (a ++ b)
+  in-both [] b h k = k
+  in-both (x ∷ a) b h k = (h .0, in-both a b (h .1) k)
 
-  pub second : (a b : Residue) (r : Bool) → InRange m a → Decides r (InRange m b) → Decides r (Two-in a b)
-  second a b r i h = decides-as r (λ (j : InRange m b). (i, j)) (λ (p : Two-in a b). p .1) h
+  in-parts : (a b : List Residue) → ListIn m (a ++ b) → ListIn m a × ListIn m b
+  in-parts [] b h = (tt, h)
+  in-parts (x ∷ a) b h = let t = in-parts a b (h .1) in ((h .0, t .0), t .1)
 
-  pub linear : (d : Linear) (r : Bool) → Decides r (Two-in (d .u0) (d .v0)) → Decides r (AllIn m (One d))
-  linear d r h = decides-as r (λ (p : Two-in (d .u0) (d .v0)). ((p .0, tt), (p .1, tt))) (λ (q : AllIn m (One d)). (q .0 .0, q .1 .0)) h
+  in-at : (l : List Residue) (k : ℕ) (z : Residue) → ListIn m l → k < length l → InRange m (getD l k z)
+  in-at [] k z h i = absurd (omega arith)
+  in-at (x ∷ l) zero z h i = h .0
+  in-at (x ∷ l) (suc k) z h i = in-at l k z (h .1) (omega arith)
 
-  module _ (d : Quadratic) where
-    pub quadratic : (r : Bool) → Two-in (d .u0) (d .u1) → Decides r (Two-in (d .v0) (d .v1)) → Decides r (AllIn m (Two d))
-    quadratic r u h = decides-as r (λ (p : Two-in (d .v0) (d .v1)). ((u .0, (u .1, tt)), (p .0, (p .1, tt)))) (λ (q : AllIn m (Two d)). (q .1 .0, q .1 .1 .0)) h
+  -- the first k are in range
+  pub record Ranged (n : ℕ) (r : List Residue) (k : ℕ) : Type 0 where
+    pub within : k ≤ n
+    pub all : ListIn m (take k r)
 
-    pub quadratic-u : (Two-in (d .u0) (d .u1) → ⊥) → AllIn m (Two d) → ⊥
-    quadratic-u n q = n (q .0 .0, q .0 .1 .0)
+  module _ (d : Divisor) (r : List Residue) (h : RowOf d r) (w : ℕ) (w-is : w ≡ weightOf d) (k : ℕ) where
+    pub range-turn : (z : Residue) → Ranged (2 * w) r k → k < 2 * w → InRange m (getD r k z) → Ranged (2 * w) r (k + 1)
+    range-turn z t l i = record {
+      within = omega arith;
+      all = subst (λ n. ListIn m (take n r)) {x = suc k} {y = k + 1} (omega arith) (rw (take-suc r k z (omega (arith, row-long d r h))) (in-both (take k r) (getD r k z ∷ []) (t .all) (i, tt)));
+    }
 
-  module _ (d : Cubic) where
-    pub cubic : (r : Bool) → Two-in (d .u0) (d .u1) → Two-in (d .u2) (d .v0) → Decides r (Two-in (d .v1) (d .v2)) → Decides r (AllIn m (Three d))
-    cubic r a b h = decides-as r (λ (p : Two-in (d .v1) (d .v2)). ((a .0, (a .1, (b .0, tt))), (b .1, (p .0, (p .1, tt))))) (λ (q : AllIn m (Three d)). (q .1 .1 .0, q .1 .1 .1 .0)) h
+    pub range-stop : (z : Residue) → k < 2 * w → (InRange m (getD r k z) → ⊥) → AllIn m d → ⊥
+    range-stop z l n a = n (subst (InRange m) (sym (row-at d r h k z (omega arith))) (in-at (coefficients d) k z (in-both (us d) (vs d) (a .0) (a .1)) (omega (arith, length-coefficients d))))
 
-    pub cubic-first : (Two-in (d .u0) (d .u1) → ⊥) → AllIn m (Three d) → ⊥
-    cubic-first n q = n (q .0 .0, q .0 .1 .0)
-
-    pub cubic-second : (Two-in (d .u2) (d .v0) → ⊥) → AllIn m (Three d) → ⊥
-    cubic-second n q = n (q .0 .1 .1 .0, q .1 .0)
-
-  pub in-case : {d e : Divisor} (r : Bool) → d ≡ e → Decides r (AllIn m e) → Decides r (AllIn m d)
-  in-case r e h = subst (λ (x : Divisor). Decides r (AllIn m x)) (sym e) h
+    pub range-end : Ranged (2 * w) r k → 2 * w ≤ k → AllIn m d
+    range-end t l = in-parts (us d) (vs d) (subst (ListIn m) (h .is) (subst (λ n. ListIn m (take n r)) {x = k} {y = 2 * weightOf d} (omega (arith, t .within)) (t .all)))
 
 -- ---- the rule's test
 first-true : (a b : Bool) → both a b ≡ true → a ≡ true
@@ -126,13 +127,7 @@ module _ (m : Modulus) where
     written-v h = numbers-of (vs d) (h .v)
 
 pub one-length : (d : Divisor) → length (map raw (vs d)) ≡ length (map raw (us d))
-one-length Neutral = refl
-one-length (One d) = refl
-one-length (Two d) = refl
-one-length (Three d) = refl
+one-length d = simp length-map (length-vs d ∙ sym (length-us d))
 
 pub length-raw : (d : Divisor) → length (map raw (us d)) ≡ weightOf d
-length-raw Neutral = refl
-length-raw (One d) = refl
-length-raw (Two d) = refl
-length-raw (Three d) = refl
+length-raw d = simp length-map (length-us d)

@@ -15,7 +15,7 @@ use Rattle.rules.proofs.Demand3.{on-curve-test}
 use Rattle.field.specs.Residues.{raw, Good}
 use Rattle.divisor.specs.declared.Divisor.{Divisor}
 use Rattle.divisor.specs.Divisors.{weightOf, us, vs, pair}
-use Rattle.divisor.proofs.Laws.{length-us, length-vs, length-elements}
+use Rattle.divisor.proofs.Laws.{weight-is, weight-is-v}
 use Rattle.curve.specs.declared.Curve.{Curve}
 use Rattle.curve.specs.Curves.{curveOf, Divided}
 use Rattle.running.specs.declared.Running.{Running}
@@ -76,17 +76,9 @@ module _ (c : Curve) (t : Running) where
           pub full : t .count ≡ most → ResumeIs c t 14
           full e = stops 14 (omega arith) (counted ∙ rw (le-leb (t .count) most (omega arith), le-ltb (t .count) most (omega arith)))
 
-          weight-u : length (pair (c .m) d .u) ≡ weightOf d
-          unfolding pair
-          weight-u = length-elements (c .m) (us d) ∙ length-us d
-
-          weight-v : length (pair (c .m) d .v) ≡ weightOf d
-          unfolding pair
-          weight-v = length-elements (c .m) (vs d) ∙ length-vs d
-
           pub goes-on : t .count < most → ResumeIs c t 0
           goes-on l = record {
-            holds = λ z. record { held = held-of (c .m) d good all; valid = record { fits = omega (arith, weight-u, weight-v); small = omega (arith, weight-u); divides = on } };
+            holds = λ z. record { held = held-of (c .m) d good all; valid = record { fits = omega (arith, weight-is (c .m) d, weight-is-v (c .m) d); small = omega (arith, weight-is (c .m) d); divides = on } };
             room = λ z. l;
             takes = λ z. counted ∙ rw (le-leb (t .count) most (omega arith), lt-ltb (t .count) most l);
             refuses = λ z. absurd (z refl);

@@ -2,18 +2,13 @@
 ghost use mathlib.Core.Path.{_≡_};
 ghost use Rattle.rules.specs.Calls.{scan-call, scan-on};
 ghost use Rattle.field.specs.Primes.{Decides};
-ghost use Rattle.field.specs.Residues.{InRange};
 ghost use Rattle.curve.specs.Curves.{Sound};
 ghost use Rattle.curve.specs.Record.{recordOf};
 ghost use Rattle.scans.specs.Scans.{AllIn, ResumeIs, runningOf, scannedOf};
 use curve::Curve;
-use divisor::Cubic;
 use divisor::Divisor;
-use divisor::Linear;
-use divisor::Quadratic;
 use divisor_read::DivisorRead;
 use field::Modulus;
-use field::Residue;
 use running::Running;
 
 pub enum ScanAnswer {
@@ -21,64 +16,21 @@ pub enum ScanAnswer {
     Refused(u64, u64),
 }
 
-// Whether both are residues of m: they may have been kept under another curve.
-fn both_in_range(a: Residue, b: Residue, m: Modulus) -> bool
-    ensures { λ r. ⌜ Decides r (InRange m a × InRange m b) ⌝ }
-{
-    if a.in_range(m) { b.in_range(m) } else { false }
-}
-
-fn linear_in_range(d: Linear, m: Modulus) -> bool
-    ensures { λ r. ⌜ Decides r (AllIn m (Divisor.One d)) ⌝ }
-{
-    let u0 = d.u0;
-    let v0 = d.v0;
-    both_in_range(u0, v0, m)
-}
-
-fn quadratic_in_range(d: Quadratic, m: Modulus) -> bool
-    ensures { λ r. ⌜ Decides r (AllIn m (Divisor.Two d)) ⌝ }
-{
-    let u0 = d.u0;
-    let u1 = d.u1;
-    let v0 = d.v0;
-    let v1 = d.v1;
-    if both_in_range(u0, u1, m) {
-        both_in_range(v0, v1, m)
-    } else {
-        false
-    }
-}
-
-fn cubic_in_range(d: Cubic, m: Modulus) -> bool
-    ensures { λ r. ⌜ Decides r (AllIn m (Divisor.Three d)) ⌝ }
-{
-    let u0 = d.u0;
-    let u1 = d.u1;
-    let u2 = d.u2;
-    let v0 = d.v0;
-    let v1 = d.v1;
-    let v2 = d.v2;
-    if both_in_range(u0, u1, m) {
-        if both_in_range(u2, v0, m) {
-            both_in_range(v1, v2, m)
-        } else {
-            false
-        }
-    } else {
-        false
-    }
-}
-
+// Whether every coefficient is a residue of m: they may have been kept under another curve.
 pub fn in_range(d: Divisor, m: Modulus) -> bool
     ensures { λ r. ⌜ Decides r (AllIn m d) ⌝ }
 {
-    match d {
-        Divisor::Neutral => true,
-        Divisor::One(x) => linear_in_range(x, m),
-        Divisor::Two(x) => quadratic_in_range(x, m),
-        Divisor::Three(x) => cubic_in_range(x, m),
+    let n = 2 * d.weight();
+    let r = d.row();
+    let mut k: usize = 0;
+    while k < n {
+        if r[k].in_range(m) {
+            k += 1;
+        } else {
+            return false;
+        }
     }
+    true
 }
 
 // 15, 14, or 0 where the total can go on.

@@ -1,10 +1,10 @@
 -- The numbers of a divisor's coefficients and of a curve, as an array holds them.
-use Prim.Native.Nat.{ℕ, zero, suc, _+_, _≤_, _<_}
+use Prim.Native.Nat.{ℕ, zero, suc, _+_, _*_, _≤_, _<_}
 use mathlib.Core.Path.{_≡_, refl, sym, ap, ap₂, _∙_, subst}
 use mathlib.Core.List.{List, [], _∷_, _++_}
 use native.Mathlib.Omega.{arith}
-use lib.ListN.{length, set, take, replicate, length-set}
-use lib.Seq.{take-suc-set}
+use lib.ListN.{length, getD, set, take, replicate, length-set}
+use lib.Seq.{take-suc, take-suc-set}
 use Rattle.algebra.proofs.zmod.Zmod.{zmod, num}
 use Rattle.algebra.proofs.poly.Series.{Ser, tail}
 use Rattle.algebra.proofs.poly.Poly.{coef}
@@ -14,34 +14,46 @@ use Rattle.field.specs.declared.Modulus.{Modulus}
 use Rattle.field.specs.declared.Residue.{Residue}
 use Rattle.field.specs.Residues.{el, Stands, Settles}
 use Rattle.poly.specs.Polys.{pol}
-use Rattle.divisor.specs.declared.Linear.{Linear}
-use Rattle.divisor.specs.declared.Quadratic.{Quadratic}
-use Rattle.divisor.specs.declared.Cubic.{Cubic}
 use Rattle.divisor.specs.declared.Divisor.{Divisor}
-use Rattle.divisor.specs.declared.Divisor.the-variants.{Neutral, One, Two, Three}
-use Rattle.divisor.specs.Divisors.{pair}
+use Rattle.divisor.specs.Divisors.{weightOf, us, vs, elements, pair, RowOf}
+use Rattle.divisor.proofs.Laws.{weight-le}
+use Rattle.divisor.proofs.Rows.{row-long}
 use Rattle.curve.specs.declared.Curve.{Curve}
 use Rattle.writes.specs.Write.{NumbersOf, CurveNumbersOf}
 
+-- ---- a divisor's row, one residue after the other
 module _ (m : Modulus) where
-  abbrev nm : Residue → ℕ
-  nm r = num (m .p) (el m r)
+  abbrev listed : List Residue → List ℕ
+  listed l = numbers (m .p) (elements m l)
 
-  pub none : {d : Divisor} (x : List ℕ) → d ≡ Neutral → NumbersOf m d x
-  unfolding pair numbers
-  none x e = subst (λ (d : Divisor). NumbersOf m d x) (sym e) (record { is = refl })
+  listed-append : (a b : List Residue) → listed (a ++ b) ≡ listed a ++ listed b
+  unfolding numbers
+  listed-append [] b = refl
+  listed-append (x ∷ a) b = ap (λ t. num (m .p) (el m x) ∷ t) (listed-append a b)
 
-  pub one : {d : Divisor} {l : Linear} {a b : ℕ} → d ≡ One l → a ≡ nm (l .u0) → b ≡ nm (l .v0) → NumbersOf m d (a ∷ b ∷ 0 ∷ 0 ∷ 0 ∷ 0 ∷ 0 ∷ 0 ∷ [])
-  unfolding pair numbers
-  one {d} {l} {a} {b} e p q = subst (λ (d : Divisor). NumbersOf m d (a ∷ b ∷ 0 ∷ 0 ∷ 0 ∷ 0 ∷ 0 ∷ 0 ∷ [])) (sym e) (record { is = ap₂ (λ s t. s ∷ t ∷ []) p q })
+  pub record Row (n : ℕ) (r : List Residue) (x : List ℕ) (k : ℕ) : Type 0 where
+    pub within : k ≤ n
+    pub long : length x ≡ 8
+    pub is : take k x ≡ listed (take k r)
 
-  pub two : {d : Divisor} {l : Quadratic} {a b c e : ℕ} → d ≡ Two l → a ≡ nm (l .u0) → b ≡ nm (l .u1) → c ≡ nm (l .v0) → e ≡ nm (l .v1) → NumbersOf m d (a ∷ b ∷ c ∷ e ∷ 0 ∷ 0 ∷ 0 ∷ 0 ∷ [])
-  unfolding pair numbers
-  two {d} {l} {a} {b} {c} {e} h p q r s = subst (λ (d : Divisor). NumbersOf m d (a ∷ b ∷ c ∷ e ∷ 0 ∷ 0 ∷ 0 ∷ 0 ∷ [])) (sym h) (record { is = ap₂ _++_ (ap₂ (λ s t. s ∷ t ∷ []) p q) (ap₂ (λ s t. s ∷ t ∷ []) r s) })
+  pub row-begin : (n : ℕ) (r : List Residue) → Row n r (replicate 8 0) 0
+  unfolding numbers
+  row-begin n r = record { within = omega arith; long = refl; is = refl }
 
-  pub three : {d : Divisor} {l : Cubic} {a b c e f g : ℕ} → d ≡ Three l → a ≡ nm (l .u0) → b ≡ nm (l .u1) → c ≡ nm (l .u2) → e ≡ nm (l .v0) → f ≡ nm (l .v1) → g ≡ nm (l .v2) → NumbersOf m d (a ∷ b ∷ c ∷ e ∷ f ∷ g ∷ 0 ∷ 0 ∷ [])
-  unfolding pair numbers
-  three {d} {l} {a} {b} {c} {e} {f} {g} h p q r s t v = subst (λ (d : Divisor). NumbersOf m d (a ∷ b ∷ c ∷ e ∷ f ∷ g ∷ 0 ∷ 0 ∷ [])) (sym h) (record { is = ap₂ _++_ (ap₂ _∷_ p (ap₂ (λ s t. s ∷ t ∷ []) q r)) (ap₂ _∷_ s (ap₂ (λ s t. s ∷ t ∷ []) t v)) })
+  module _ (d : Divisor) (r : List Residue) (h : RowOf d r) (w : ℕ) (w-is : w ≡ weightOf d) (x : List ℕ) (k : ℕ) (t : Row (2 * w) r x k) where
+    pub row-turn : (z : Residue) (b : ℕ) → k < 2 * w → b ≡ num (m .p) (el m (getD r k z)) → Row (2 * w) r (set x k b) (k + 1)
+    unfolding numbers
+    row-turn z b l e = record {
+      within = omega arith;
+      long = length-set x k b ∙ t .long;
+      is = subst (λ n. take n (set x k b) ≡ listed (take n r)) {x = suc k} {y = k + 1} (omega arith)
+          (take-suc-set x k b (omega (arith, t .long, weight-le d)) ∙ ap₂ (λ l n. l ++ (n ∷ [])) (t .is) e
+          ∙ sym (ap listed (take-suc r k z (omega (arith, row-long d r h))) ∙ listed-append (take k r) (getD r k z ∷ [])));
+    }
+
+    pub row-end : 2 * w ≤ k → NumbersOf m d x
+    unfolding pair
+    row-end l = record { is = subst (λ n. take n x ≡ listed (take n r)) {x = k} {y = 2 * weightOf d} (omega (arith, t .within)) (t .is) ∙ ap listed (h .is) ∙ listed-append (us d) (vs d) }
 
 -- ---- p, then one coefficient after the other
 module _ (c : Curve) where

@@ -10,21 +10,14 @@ use Rattle.rules.specs.Bytes.{all-bytes}
 use Rattle.rules.specs.Records.{numbers, curve-bytes, divisor-bytes}
 use Rattle.field.specs.declared.Modulus.{Modulus}
 use Rattle.divisor.specs.declared.Divisor.{Divisor}
-use Rattle.divisor.specs.Divisors.{weightOf, us, vs, pair}
-use Rattle.divisor.proofs.Laws.{length-us, length-vs, length-elements, weight-le}
+use Rattle.divisor.specs.Divisors.{weightOf, pair}
+use Rattle.divisor.proofs.Laws.{weight-le}
+pub use Rattle.divisor.proofs.Laws.{weight-is, weight-is-v}
 use Rattle.curve.specs.declared.Curve.{Curve}
 use Rattle.curve.specs.Curves.{Sound}
 use Rattle.curve.specs.Record.{recordOf}
 use Rattle.writes.specs.Write.{NumbersOf, CurveNumbersOf}
 use Rattle.words.proofs.Writing.{all-append}
-
-pub weight-is : (m : Modulus) (d : Divisor) → length (pair m d .u) ≡ weightOf d
-unfolding pair
-weight-is m d = length-elements m (us d) ∙ length-us d
-
-pub weight-is-v : (m : Modulus) (d : Divisor) → length (pair m d .v) ≡ weightOf d
-unfolding pair
-weight-is-v m d = length-elements m (vs d) ∙ length-vs d
 
 pub divisor-written : (m : Modulus) (d : Divisor) (out x : List ℕ) (w : ℕ) → w ≡ weightOf d → NumbersOf m d x
     → sets (set out 0 (w % 256)) 1 (all-bytes (take (2 * w) x)) ≡ sets out 0 (divisor-bytes (m .p) (pair m d))

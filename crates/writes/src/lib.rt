@@ -17,27 +17,13 @@ pub fn numbers_of(d: Divisor, m: Modulus) -> [u64; 8]
     requires { ⌜ Held m d ⌝ }
     ensures { λ r. ⌜ NumbersOf m d r ⌝ }
 {
+    let n = 2 * d.weight();
+    let r = d.row();
     let mut x = [0u64; 8];
-    match d {
-        Divisor::Neutral => {}
-        Divisor::One(d) => {
-            x[0] = d.u0.number(m);
-            x[1] = d.v0.number(m);
-        }
-        Divisor::Two(d) => {
-            x[0] = d.u0.number(m);
-            x[1] = d.u1.number(m);
-            x[2] = d.v0.number(m);
-            x[3] = d.v1.number(m);
-        }
-        Divisor::Three(d) => {
-            x[0] = d.u0.number(m);
-            x[1] = d.u1.number(m);
-            x[2] = d.u2.number(m);
-            x[3] = d.v0.number(m);
-            x[4] = d.v1.number(m);
-            x[5] = d.v2.number(m);
-        }
+    let mut k: usize = 0;
+    while k < n {
+        x[k] = r[k].number(m);
+        k += 1;
     }
     x
 }

@@ -1,140 +1,73 @@
-use mathlib.Core.Path.{subst}
-use Rattle.divisor.specs.declared.Divisor.{Divisor}
-use Rattle.divisor.specs.Divisors.{Held}
-use Rattle.writes.proofs.Numbers.{none, one, two, three}
+use Prim.Native.Nat.{_-_}
+use native.Mathlib.Omega.{arith}
 use borrow.Author.Needs.{needs}
+use Rattle.divisor.proofs.Laws.{weight-le}
+use Rattle.divisor.proofs.Rows.{row-settled}
+use Rattle.writes.proofs.Numbers.{Row, row-begin, row-turn, row-end}
 use Rattle.writes.proofs.numbers_of.Statement.{statement}
 use Rattle.writes.proofs.numbers_of.Tie as tie
 
-enum-told : tie.Need-enum-told
-enum-told c = search needs
+abbrev Inv-loop : tie.InvT-loop
+Inv-loop m n r x₀ k₀ x k = Row m n r x k
 
-enum-known-d : tie.Need-enum-known-d
-enum-known-d c = search needs
+abbrev μ-loop : tie.MeasureT-loop
+μ-loop m n r x₀ k₀ x k = n - k
 
-number-requires : tie.Need-number-requires
-number-requires c κs = let s = c .before .before .before in (subst (λ (d : Divisor). Held (s .args .m) d) (c .before .d .given .1) (s .pre)) .u .0
+weight-requires : tie.Need-weight-requires Inv-loop μ-loop
+weight-requires c κs = search needs
 
-array-write-x : tie.Need-array-write-x
-array-write-x c = search needs
+mul-n : tie.Need-mul-n Inv-loop μ-loop
+mul-n c = omega (arith, weight-le (c .before .args .d))
 
-number-requires-2 : tie.Need-number-requires-2
-number-requires-2 c κs = let s = c .before .before .before .before in (subst (λ (d : Divisor). Held (s .args .m) d) (c .before .before .d .given .1) (s .pre)) .v .0
+row-requires : tie.Need-row-requires Inv-loop μ-loop
+row-requires c κs = search needs
 
-array-write-x-2 : tie.Need-array-write-x-2
-array-write-x-2 c = search needs
+loop-holds : tie.Need-loop-holds Inv-loop μ-loop
+loop-holds c = row-begin _ _ _
 
-enum-known-d-2 : tie.Need-enum-known-d-2
-enum-known-d-2 c = search needs
+mul-number : tie.Need-mul-number Inv-loop μ-loop
+mul-number c = omega (arith, weight-le (c .before .before .before .before .args .d))
 
-number-requires-3 : tie.Need-number-requires-3
-number-requires-3 c κs = let s = c .before .before .before in (subst (λ (d : Divisor). Held (s .args .m) d) (c .before .d2 .given .1) (s .pre)) .u .0
+array-copy-out-number : tie.Need-array-copy-out-number Inv-loop μ-loop
+array-copy-out-number c = omega (arith, weight-le (c .before .before .before .before .args .d))
 
-array-write-x-3 : tie.Need-array-write-x-3
-array-write-x-3 c = search needs
+number-requires : tie.Need-number-requires Inv-loop μ-loop
+number-requires c κs = let s = c .before .before .before .before .before in row-settled (s .args .m) (s .args .d) _ (s .pre) (c .before .before .before .row .ensures) _ _ (omega arith)
 
-number-requires-4 : tie.Need-number-requires-4
-number-requires-4 c κs = let s = c .before .before .before .before in (subst (λ (d : Divisor). Held (s .args .m) d) (c .before .before .d2 .given .1) (s .pre)) .u .1 .0
+mul-x : tie.Need-mul-x Inv-loop μ-loop
+mul-x c = omega (arith, weight-le (c .before .before .before .before .before .before .args .d))
 
-array-write-x-4 : tie.Need-array-write-x-4
-array-write-x-4 c = search needs
+array-write-x : tie.Need-array-write-x Inv-loop μ-loop
+array-write-x c = omega (arith, weight-le (c .before .before .before .before .before .before .args .d))
 
-number-requires-5 : tie.Need-number-requires-5
-number-requires-5 c κs = let s = c .before .before .before .before .before in (subst (λ (d : Divisor). Held (s .args .m) d) (c .before .before .before .d2 .given .1) (s .pre)) .v .0
+add-k : tie.Need-add-k Inv-loop μ-loop
+add-k c = omega (arith, weight-le (c .before .before .before .before .before .before .args .d))
 
-array-write-x-5 : tie.Need-array-write-x-5
-array-write-x-5 c = search needs
+loop-less : tie.Need-loop-less Inv-loop μ-loop
+loop-less c = omega arith
 
-number-requires-6 : tie.Need-number-requires-6
-number-requires-6 c κs = let s = c .before .before .before .before .before .before in (subst (λ (d : Divisor). Held (s .args .m) d) (c .before .before .before .before .d2 .given .1) (s .pre)) .v .1 .0
+loop-again : tie.Need-loop-again Inv-loop μ-loop
+loop-again c = let s = c .before .before .before .before .before .before in row-turn (s .args .m) (s .args .d) _ (c .before .before .before .before .row .ensures) _ (c .before .before .before .before .before .weight .ensures) _ _ (c .before .before .before .loop .inv) _ _ (c .before .before .loop-test .taken) (c .number .ensures)
 
-array-write-x-6 : tie.Need-array-write-x-6
-array-write-x-6 c = search needs
-
-enum-known-d-3 : tie.Need-enum-known-d-3
-enum-known-d-3 c = search needs
-
-number-requires-7 : tie.Need-number-requires-7
-number-requires-7 c κs = let s = c .before .before .before in (subst (λ (d : Divisor). Held (s .args .m) d) (c .before .d3 .given .1) (s .pre)) .u .0
-
-array-write-x-7 : tie.Need-array-write-x-7
-array-write-x-7 c = search needs
-
-number-requires-8 : tie.Need-number-requires-8
-number-requires-8 c κs = let s = c .before .before .before .before in (subst (λ (d : Divisor). Held (s .args .m) d) (c .before .before .d3 .given .1) (s .pre)) .u .1 .0
-
-array-write-x-8 : tie.Need-array-write-x-8
-array-write-x-8 c = search needs
-
-number-requires-9 : tie.Need-number-requires-9
-number-requires-9 c κs = let s = c .before .before .before .before .before in (subst (λ (d : Divisor). Held (s .args .m) d) (c .before .before .before .d3 .given .1) (s .pre)) .u .1 .1 .0
-
-array-write-x-9 : tie.Need-array-write-x-9
-array-write-x-9 c = search needs
-
-number-requires-10 : tie.Need-number-requires-10
-number-requires-10 c κs = let s = c .before .before .before .before .before .before in (subst (λ (d : Divisor). Held (s .args .m) d) (c .before .before .before .before .d3 .given .1) (s .pre)) .v .0
-
-array-write-x-10 : tie.Need-array-write-x-10
-array-write-x-10 c = search needs
-
-number-requires-11 : tie.Need-number-requires-11
-number-requires-11 c κs = let s = c .before .before .before .before .before .before .before in (subst (λ (d : Divisor). Held (s .args .m) d) (c .before .before .before .before .before .d3 .given .1) (s .pre)) .v .1 .0
-
-array-write-x-11 : tie.Need-array-write-x-11
-array-write-x-11 c = search needs
-
-number-requires-12 : tie.Need-number-requires-12
-number-requires-12 c κs = let s = c .before .before .before .before .before .before .before .before in (subst (λ (d : Divisor). Held (s .args .m) d) (c .before .before .before .before .before .before .d3 .given .1) (s .pre)) .v .1 .1 .0
-
-array-write-x-12 : tie.Need-array-write-x-12
-array-write-x-12 c = search needs
-
-returns : tie.Need-returns
-returns c = none (c .before .before .args .m) _ (c .enum-told .given .1)
-
-returns-2 : tie.Need-returns-2
-returns-2 c = one (c .before .before .before .before .before .args .m) (c .before .before .before .d .given .1) (c .before .number .ensures) (c .number2 .ensures)
-
-returns-3 : tie.Need-returns-3
-returns-3 c = two (c .before .before .before .before .before .before .before .args .m) (c .before .before .before .before .before .d2 .given .1) (c .before .before .before .number3 .ensures) (c .before .before .number4 .ensures) (c .before .number5 .ensures) (c .number6 .ensures)
-
-returns-4 : tie.Need-returns-4
-returns-4 c = three (c .before .before .before .before .before .before .before .before .before .args .m) (c .before .before .before .before .before .before .before .d3 .given .1) (c .before .before .before .before .before .number7 .ensures) (c .before .before .before .before .number8 .ensures) (c .before .before .before .number9 .ensures) (c .before .before .number10 .ensures) (c .before .number11 .ensures) (c .number12 .ensures)
+returns : tie.Need-returns Inv-loop μ-loop
+returns c = let s = c .before .before .before .before in row-end (s .args .m) (s .args .d) _ (c .before .before .row .ensures) _ (c .before .before .before .weight .ensures) _ _ (c .before .loop .inv) (c .loop-test .left)
 
 pub numbers-of-spec : {M : Type 1} → statement M
 numbers-of-spec =
     tie.close
     (tie.spec
-    enum-told
-    enum-known-d
+    Inv-loop
+    μ-loop
+    weight-requires
+    mul-n
+    row-requires
+    loop-holds
+    mul-number
+    array-copy-out-number
     number-requires
+    mul-x
     array-write-x
-    number-requires-2
-    array-write-x-2
-    enum-known-d-2
-    number-requires-3
-    array-write-x-3
-    number-requires-4
-    array-write-x-4
-    number-requires-5
-    array-write-x-5
-    number-requires-6
-    array-write-x-6
-    enum-known-d-3
-    number-requires-7
-    array-write-x-7
-    number-requires-8
-    array-write-x-8
-    number-requires-9
-    array-write-x-9
-    number-requires-10
-    array-write-x-10
-    number-requires-11
-    array-write-x-11
-    number-requires-12
-    array-write-x-12
-    returns
-    returns-2
-    returns-3
-    returns-4)
+    add-k
+    loop-less
+    loop-again
+    returns)

@@ -1,57 +1,76 @@
-use Rattle.divisor.specs.declared.Divisor.{Divisor}
-use Rattle.divisor.specs.declared.Divisor.the-variants.{Neutral, One, Two, Three}
-use Rattle.divisor.specs.Divisors.{Held, Opposed}
-use mathlib.Core.Path.{sym, subst, refl}
-use Rattle.divisor.proofs.Opposite.{opposed-by}
+use Prim.Native.Nat.{_-_}
+use native.Mathlib.Omega.{arith}
 use borrow.Author.Needs.{needs}
+use Rattle.divisor.proofs.Laws.{weight-le}
+use Rattle.divisor.proofs.Opposite.{Turning, turn-begin, turn-settled, turn-on, turn-end}
 use Rattle.divisor.proofs.Divisor.opposite.Statement.{statement}
 use Rattle.divisor.proofs.Divisor.opposite.Tie as tie
 
-enum-told : tie.Need-enum-told
-enum-told c = search needs
+abbrev Inv-loop : tie.InvT-loop
+Inv-loop m w n r₀ k₀ r k = Turning m w r₀ r k
 
-enum-known-self : tie.Need-enum-known-self
-enum-known-self c = search needs
+abbrev μ-loop : tie.MeasureT-loop
+μ-loop m w n r₀ k₀ r k = n - k
 
-opposite-requires : tie.Need-opposite-requires
-opposite-requires c κs = let s = c .before .before .before in subst (λ (d : Divisor). Held (s .args .m) d) (c .before .self .given .1) (s .pre)
+weight-requires : tie.Need-weight-requires Inv-loop μ-loop
+weight-requires c κs = search needs
 
-enum-known-self-2 : tie.Need-enum-known-self-2
-enum-known-self-2 c = search needs
+mul-n : tie.Need-mul-n Inv-loop μ-loop
+mul-n c = omega (arith, weight-le (c .before .args .self))
 
-opposite-requires-2 : tie.Need-opposite-requires-2
-opposite-requires-2 c κs = let s = c .before .before .before in subst (λ (d : Divisor). Held (s .args .m) d) (c .before .self2 .given .1) (s .pre)
+row-requires : tie.Need-row-requires Inv-loop μ-loop
+row-requires c κs = search needs
 
-enum-known-self-3 : tie.Need-enum-known-self-3
-enum-known-self-3 c = search needs
+loop-holds : tie.Need-loop-holds Inv-loop μ-loop
+loop-holds c = turn-begin _ _ _
 
-opposite-requires-3 : tie.Need-opposite-requires-3
-opposite-requires-3 c κs = let s = c .before .before .before in subst (λ (d : Divisor). Held (s .args .m) d) (c .before .self3 .given .1) (s .pre)
+mul-opposed : tie.Need-mul-opposed Inv-loop μ-loop
+mul-opposed c = omega (arith, weight-le (c .before .before .before .before .args .self))
 
-returns : tie.Need-returns
-returns c = let s = c .before .before in subst (λ (d : Divisor). Opposed (s .args .m) d Neutral) (sym (c .enum-told .given .1)) (opposed-by (s .args .m) Neutral Neutral (record { good = s .pre .good; u = tt; v = tt }) tt refl tt)
+array-copy-out-opposed : tie.Need-array-copy-out-opposed Inv-loop μ-loop
+array-copy-out-opposed c = omega (arith, weight-le (c .before .before .before .before .args .self))
 
-returns-2 : tie.Need-returns-2
-returns-2 c = let s = c .before .before .before .before in subst (λ (d : Divisor). Opposed (s .args .m) d (One (c .opposite .result))) (sym (c .before .before .self .given .1)) (c .opposite .ensures)
+opposed-requires : tie.Need-opposed-requires Inv-loop μ-loop
+opposed-requires c κs = let s = c .before .before .before .before .before in turn-settled (s .args .m) (s .args .self) _ _ (s .pre) (c .before .before .before .row .ensures) (c .before .before .before .before .weight .ensures) _ _ (c .before .before .loop .inv) (c .before .loop-test .taken)
 
-returns-3 : tie.Need-returns-3
-returns-3 c = let s = c .before .before .before .before in subst (λ (d : Divisor). Opposed (s .args .m) d (Two (c .opposite2 .result))) (sym (c .before .before .self2 .given .1)) (c .opposite2 .ensures)
+mul-r : tie.Need-mul-r Inv-loop μ-loop
+mul-r c = omega (arith, weight-le (c .before .before .before .before .before .before .args .self))
 
-returns-4 : tie.Need-returns-4
-returns-4 c = let s = c .before .before .before .before in subst (λ (d : Divisor). Opposed (s .args .m) d (Three (c .opposite3 .result))) (sym (c .before .before .self3 .given .1)) (c .opposite3 .ensures)
+array-set-from-r : tie.Need-array-set-from-r Inv-loop μ-loop
+array-set-from-r c = omega (arith, weight-le (c .before .before .before .before .before .before .args .self))
+
+add-k : tie.Need-add-k Inv-loop μ-loop
+add-k c = omega (arith, weight-le (c .before .before .before .before .before .before .args .self))
+
+loop-less : tie.Need-loop-less Inv-loop μ-loop
+loop-less c = omega arith
+
+loop-again : tie.Need-loop-again Inv-loop μ-loop
+loop-again c = let s = c .before .before .before .before .before .before in turn-on (s .args .m) (s .args .self) _ _ (s .pre) (c .before .before .before .before .row .ensures) (c .before .before .before .before .before .weight .ensures) _ _ (c .before .before .before .loop .inv) _ (c .before .before .loop-test .taken) (c .opposed .ensures)
+
+of-row-requires : tie.Need-of-row-requires Inv-loop μ-loop
+of-row-requires c κs = omega (arith, weight-le (c .before .before .before .before .args .self))
+
+returns : tie.Need-returns Inv-loop μ-loop
+returns c = let s = c .before .before .before .before .before in turn-end (s .args .m) (s .args .self) _ _ (s .pre) (c .before .before .before .row .ensures) (c .before .before .before .before .weight .ensures) _ _ (c .before .before .loop .inv) _ (c .before .loop-test .left) (c .of-row .ensures)
 
 pub opposite-spec : {M : Type 1} → statement M
 opposite-spec =
     tie.close
     (tie.spec
-    enum-told
-    enum-known-self
-    opposite-requires
-    enum-known-self-2
-    opposite-requires-2
-    enum-known-self-3
-    opposite-requires-3
-    returns
-    returns-2
-    returns-3
-    returns-4)
+    Inv-loop
+    μ-loop
+    weight-requires
+    mul-n
+    row-requires
+    loop-holds
+    mul-opposed
+    array-copy-out-opposed
+    opposed-requires
+    mul-r
+    array-set-from-r
+    add-k
+    loop-less
+    loop-again
+    of-row-requires
+    returns)
