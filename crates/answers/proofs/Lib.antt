@@ -1,3 +1,5 @@
 pub mod Firsts
 pub mod Written
 pub mod Calls
+pub mod Steps
+pub mod Turns

@@ -13,14 +13,15 @@ use Rattle.rules.specs.Records.{Checked, refused, taken, choose, both, fits, Pa
 use Rattle.rules.proofs.Demand3.{on-curve-test}
 use Rattle.field.proofs.Decide.{otherwise}
 use Rattle.divisor.specs.declared.Divisor.{Divisor}
-use Rattle.divisor.specs.Divisors.{pair, elements as values, AllSettled, Held}
+use Rattle.divisor.specs.Divisors.{weightOf, pair, elements as values, AllSettled, RowOf, Held}
+use Rattle.divisor.proofs.Rows.{row-u, row-v}
 use Rattle.curve.specs.declared.Curve.{Curve}
 use Rattle.curve.specs.Curves.{curveOf, Sound, Divided}
 use Rattle.curve.specs.Record.{recordOf}
 use Rattle.words.proofs.Rows.{below-append, words-append, length-row}
 use Rattle.divisor_read.specs.declared.DivisorRead.the-variants.{Taken, Refused}
 use Rattle.divisor_read.specs.declared.Residues.{Residues}
-use Rattle.divisor_read.specs.Read.{DivisorIs, ResiduesIs, BuiltOf}
+use Rattle.divisor_read.specs.Read.{DivisorIs, ResiduesIs}
 use Rattle.divisor_read.proofs.Rows.{Holding, held-elements, held-settled, held-behind}
 
 pub fits-within : (whole : Bool) (end all : ℕ) → fits whole end all ≡ true → end ≤ all
@@ -62,20 +63,17 @@ module _ (c : Curve) (h : Sound c) (whole : Bool) (s : List ℕ) (a : ℕ) where
     too-heavy l k = rule-is k ∙ rw (lt-ltb a (length s) inside, lt-leb w (c .g) l)
 
     module _ (light : w ≤ c .g) where
-      ends : a + 1 + 8 * (2 * w) ≡ a + 1 + 16 * w
-      ends = omega arith
+      pub no-room : fits whole (a + 1 + 16 * w) (length s) ≡ false → DivisorIs c whole s a (Refused 8)
+      no-room e k = rule-is k ∙ rw (lt-ltb a (length s) inside, le-leb w (c .g) light, e)
 
-      pub no-room : fits whole (a + 1 + 8 * (2 * w)) (length s) ≡ false → DivisorIs c whole s a (Refused 8)
-      no-room e k = rule-is k ∙ rw (lt-ltb a (length s) inside, le-leb w (c .g) light, sym (ap (λ (n : ℕ). fits whole n (length s)) ends) ∙ e)
-
-      module _ (room : fits whole (a + 1 + 8 * (2 * w)) (length s) ≡ true) (x : Residues) (hx : ResiduesIs s (a + 1) (2 * w) (c .m) x) where
+      module _ (room : fits whole (a + 1 + 16 * w) (length s) ≡ true) (x : Residues) (hx : ResiduesIs s (a + 1) (2 * w) (c .m) x) where
         both-are : both (below? p (words s (a + 1) w)) (below? p (words s (a + 1 + 8 * w) w)) ≡ x .below
         both-are = sym (hx .below ∙ ap (λ (n : ℕ). below? p (words s (a + 1) n)) {x = 2 * w} {y = w + w} (omega arith) ∙ ap (below? p) (words-append s (a + 1) w w) ∙ below-append p (words s (a + 1) w) (words s (a + 1 + 8 * w) w))
 
         pub too-large : x .below ≡ false → DivisorIs c whole s a (Refused 10)
-        too-large e k = rule-is k ∙ rw (lt-ltb a (length s) inside, le-leb w (c .g) light, sym (ap (λ (n : ℕ). fits whole n (length s)) ends) ∙ room, both-are ∙ e)
+        too-large e k = rule-is k ∙ rw (lt-ltb a (length s) inside, le-leb w (c .g) light, room, both-are ∙ e)
 
-        module _ (all : x .below ≡ true) (d : Divisor) (hd : BuiltOf w (x .r) d) where
+        module _ (all : x .below ≡ true) (d : Divisor) (w-of : weightOf d ≡ w) (row : RowOf d (x .r)) where
           all-held : Holding (c .m) s (x .r) (a + 1) (w + w)
           all-held k i z = hx .held all k z (omega arith)
 
@@ -94,17 +92,17 @@ module _ (c : Curve) (h : Sound c) (whole : Bool) (s : List ℕ) (a : ℕ) where
           pub held : Held (c .m) d
           held = record {
             good = h .ok .fill .good;
-            u = subst (AllSettled (c .m)) (sym (hd .0)) (held-settled (c .m) s (x .r) (a + 1) w enough for-u);
-            v = subst (AllSettled (c .m)) (sym (hd .1)) (held-settled (c .m) s (drop w (x .r)) (a + 1 + 8 * w) w enough-v for-v);
+            u = subst (AllSettled (c .m)) (sym (row-u d (x .r) row w w-of)) (held-settled (c .m) s (x .r) (a + 1) w enough for-u);
+            v = subst (AllSettled (c .m)) (sym (row-v d (x .r) row w w-of)) (held-settled (c .m) s (drop w (x .r)) (a + 1 + 8 * w) w enough-v for-v);
           }
 
           u-is : pair (c .m) d .u ≡ made w .u
           unfolding pair
-          u-is = ap (values (c .m)) (hd .0) ∙ held-elements (c .m) s (x .r) (a + 1) w enough for-u
+          u-is = ap (values (c .m)) (row-u d (x .r) row w w-of) ∙ held-elements (c .m) s (x .r) (a + 1) w enough for-u
 
           v-is : pair (c .m) d .v ≡ made w .v
           unfolding pair
-          v-is = ap (values (c .m)) (hd .1) ∙ held-elements (c .m) s (drop w (x .r)) (a + 1 + 8 * w) w enough-v for-v
+          v-is = ap (values (c .m)) (row-v d (x .r) row w w-of) ∙ held-elements (c .m) s (drop w (x .r)) (a + 1 + 8 * w) w enough-v for-v
 
           weight-u : length (pair (c .m) d .u) ≡ w
           weight-u = ap length u-is ∙ length-row s p (a + 1) w
@@ -116,7 +114,7 @@ module _ (c : Curve) (h : Sound c) (whole : Bool) (s : List ℕ) (a : ℕ) where
           made-is = ap₂ (λ u v. record { u = u; v = v }) (sym u-is) (sym v-is)
 
           last : (k : ℕ) → divisor-at (recordOf c) k whole s a ≡ choose (on-curve? (curveOf c) (pair (c .m) d)) (taken (pair (c .m) d)) (refused 11 k)
-          last k = rule-is k ∙ rw (lt-ltb a (length s) inside, le-leb w (c .g) light, sym (ap (λ (n : ℕ). fits whole n (length s)) ends) ∙ room, both-are ∙ all) refl
+          last k = rule-is k ∙ rw (lt-ltb a (length s) inside, le-leb w (c .g) light, room, both-are ∙ all) refl
               ∙ ap (λ t. choose (on-curve? (curveOf c) t) (taken t) (refused 11 k)) made-is
 
           pub on-curve : Divided c d → DivisorIs c whole s a (Taken d)

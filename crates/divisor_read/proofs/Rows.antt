@@ -1,4 +1,4 @@
--- The numbers of a divisor record as residues. Gives: the loop over them, the divisor built of them, and its elements of Z/p.
+-- The numbers of a divisor record as residues. Gives: the loop over them, and their elements of Z/p.
 use Prim.Native.Nat.{ℕ, zero, suc, _+_, _*_, _≤_, _<_}
 use mathlib.Core.Path.{_≡_, refl, sym, ap, ap₂, _∙_, subst}
 use mathlib.Core.List.{List, [], _∷_}
@@ -6,18 +6,16 @@ use mathlib.Core.Bool.{true, false, false≢true}
 use native.Mathlib.Omega.{arith}
 use borrow.Author.Count.{below-more}
 use lib.ListN.{getD, length, take, drop, set, length-set}
-use lib.Seq.{getD-set-same, getD-set-other, getD-drop, drop-cons}
+use lib.Seq.{getD-set-same, getD-set-other, getD-drop}
 use Rattle.algebra.proofs.zmod.Zmod.{emb}
 use Rattle.rules.specs.Bytes.{word64, words}
 use Rattle.rules.specs.Records.{elements}
 use Rattle.field.specs.declared.Modulus.{Modulus}
 use Rattle.field.specs.declared.Residue.{Residue}
 use Rattle.field.specs.Residues.{Settles}
-use Rattle.divisor.specs.declared.Divisor.{Divisor}
-use Rattle.divisor.specs.declared.Divisor.the-variants.{Neutral, One, Two, Three}
-use Rattle.divisor.specs.Divisors.{us, vs, elements as values, AllSettled}
+use Rattle.divisor.specs.Divisors.{elements as values, AllSettled}
 use Rattle.words.proofs.Rows.{all-below, one-above}
-use Rattle.divisor_read.specs.Read.{ResiduesIs, BuiltOf}
+use Rattle.divisor_read.specs.Read.{ResiduesIs}
 
 -- ---- the loop: the first k numbers are below p, and r holds them
 pub record Filled (s : List ℕ) (a n : ℕ) (m : Modulus) (r : List Residue) (k : ℕ) : Type 0 where
@@ -45,33 +43,6 @@ module _ (s : List ℕ) (a n : ℕ) (m : Modulus) where
 
   pub fill-end : (r : List Residue) (k : ℕ) → Filled s a n m r k → n ≤ k → ResiduesIs s a n m (record { below = true; r = r })
   fill-end r k h l = record { long = h .long; below = sym (all-below s (m .p) a n (λ j i. h .below j (omega arith))); held = λ e j z i. h .held j (omega arith) z }
-
--- ---- the divisor of a row
-module _ (r : List Residue) where
-  -- n of them from place a on, one after the other
-  abbrev cells : Residue → ℕ → ℕ → List Residue
-  cells y a zero = []
-  cells y a (suc n) = getD r a y ∷ cells y (suc a) n
-
-  cells-are : (y : Residue) (a n : ℕ) → a + n ≤ length r → cells y a n ≡ take n (drop a r)
-  cells-are y a zero l = refl
-  cells-are y a (suc n) l = ap (λ t. getD r a y ∷ t) (cells-are y (suc a) n (omega arith)) ∙ sym (ap (take (suc n)) (drop-cons r a y (omega arith)))
-
-  pub built-none : (w : ℕ) → w ≡ 0 → BuiltOf w r Neutral
-  built-none w e = subst (λ (k : ℕ). BuiltOf k r Neutral) (sym e) (refl, refl)
-
-  module _ (w : ℕ) (y : Residue) (long : length r ≡ 6) where
-    built : (d : Divisor) (n : ℕ) → n ≤ 3 → w ≡ n → us d ≡ cells y 0 n → vs d ≡ cells y n n → BuiltOf w r d
-    built d n l e hu hv = subst (λ (k : ℕ). BuiltOf k r d) (sym e) (hu ∙ cells-are y 0 n (omega arith), hv ∙ cells-are y n n (omega arith))
-
-    pub built-one : w ≡ 1 → BuiltOf w r (One (record { u0 = getD r 0 y; v0 = getD r 1 y }))
-    built-one e = built (One (record { u0 = getD r 0 y; v0 = getD r 1 y })) 1 (omega arith) e refl refl
-
-    pub built-two : w ≡ 2 → BuiltOf w r (Two (record { u0 = getD r 0 y; u1 = getD r 1 y; v0 = getD r 2 y; v1 = getD r 3 y }))
-    built-two e = built (Two (record { u0 = getD r 0 y; u1 = getD r 1 y; v0 = getD r 2 y; v1 = getD r 3 y })) 2 (omega arith) e refl refl
-
-    pub built-three : w ≡ 3 → BuiltOf w r (Three (record { u0 = getD r 0 y; u1 = getD r 1 y; u2 = getD r 2 y; v0 = getD r 3 y; v1 = getD r 4 y; v2 = getD r 5 y }))
-    built-three e = built (Three (record { u0 = getD r 0 y; u1 = getD r 1 y; u2 = getD r 2 y; v0 = getD r 3 y; v1 = getD r 4 y; v2 = getD r 5 y })) 3 (omega arith) e refl refl
 
 -- ---- residues that hold numbers in a row
 module _ (m : Modulus) (s : List ℕ) where

@@ -4,15 +4,14 @@ use Prim.Native.Nat.{ℕ, _+_, _*_, _<_}
 use mathlib.Core.Path.{_≡_}
 use mathlib.Core.Bool.{Bool, true}
 use mathlib.Core.List.{List}
-use lib.ListN.{getD, length, take, drop}
+use lib.ListN.{getD, length}
 use Rattle.algebra.proofs.zmod.Zmod.{emb}
 use Rattle.rules.specs.Bytes.{word64, words}
 use Rattle.rules.specs.Records.{refused, taken, below?, divisor-at}
 use Rattle.field.specs.declared.Modulus.{Modulus}
 use Rattle.field.specs.declared.Residue.{Residue}
 use Rattle.field.specs.Residues.{Settles}
-use Rattle.divisor.specs.declared.Divisor.{Divisor}
-use Rattle.divisor.specs.Divisors.{us, vs, pair}
+use Rattle.divisor.specs.Divisors.{pair}
 use Rattle.curve.specs.declared.Curve.{Curve}
 use Rattle.curve.specs.Curves.{Holds}
 use Rattle.curve.specs.Record.{recordOf}
@@ -29,7 +28,3 @@ pub record ResiduesIs (s : List ℕ) (a n : ℕ) (m : Modulus) (r : Residues) : 
   pub long : length (r .r) ≡ 6
   pub below : r .below ≡ below? (m .p) (words s a n)
   pub held : r .below ≡ true → (k : ℕ) (z : Residue) → k < n → Settles m (getD (r .r) k z) (emb (m .p) (word64 s (a + 8 * k)))
-
--- the coefficients in order, those of u first
-abbrev pub BuiltOf : ℕ → List Residue → Divisor → Type 0
-BuiltOf w r d = (us d ≡ take w r) × (vs d ≡ take w (drop w r))

@@ -5,12 +5,9 @@ ghost use lib.ListN.{length};
 ghost use Rattle.rules.specs.Records.{fits};
 ghost use Rattle.field.specs.Residues.{Good};
 ghost use Rattle.curve.specs.Curves.{Sound};
-ghost use Rattle.divisor_read.specs.Read.{DivisorIs, ResiduesIs, BuiltOf};
+ghost use Rattle.divisor_read.specs.Read.{DivisorIs, ResiduesIs};
 use curve::Curve;
-use divisor::Cubic;
 use divisor::Divisor;
-use divisor::Linear;
-use divisor::Quadratic;
 use field::Modulus;
 use field::Residue;
 use field::ResidueRead;
@@ -47,41 +44,6 @@ fn residues_at(s: &[u8], a: usize, n: usize, m: Modulus) -> Residues
     Residues { below: true, r: r }
 }
 
-// The divisor of weight w whose coefficients are the first 2 w residues.
-fn build(w: u64, r: [Residue; 6]) -> Divisor
-    requires { ⌜ w ≤ 3 ⌝ }
-    ensures { λ d. ⌜ BuiltOf w r d ⌝ }
-{
-    let a = r[0];
-    let b = r[1];
-    let c = r[2];
-    let d = r[3];
-    if w == 0 {
-        return Divisor::Neutral;
-    }
-    if w == 1 {
-        return Divisor::One(Linear { u0: a, v0: b });
-    }
-    if w == 2 {
-        return Divisor::Two(Quadratic {
-            u0: a,
-            u1: b,
-            v0: c,
-            v1: d,
-        });
-    }
-    let e = r[4];
-    let f = r[5];
-    Divisor::Three(Cubic {
-        u0: a,
-        u1: b,
-        u2: c,
-        v0: d,
-        v1: e,
-        v2: f,
-    })
-}
-
 // Whether a record that ends at `end` fits: exactly, where it is the whole.
 fn record_fits(whole: bool, end: usize, all: usize) -> bool
     ensures { λ r. ⌜ r ≡ fits whole end all ⌝ }
@@ -100,17 +62,16 @@ pub fn divisor_at(c: Curve, whole: bool, s: &[u8], a: usize) -> DivisorRead
     if s.len() <= a {
         return DivisorRead::Refused(8);
     }
-    let w = words::wide(s[a]);
+    let w = words::wide(s[a]) as usize;
     let g = c.g;
-    if (g as u64) < w {
+    if g < w {
         return DivisorRead::Refused(9);
     }
-    let n = 2 * (w as usize);
-    if record_fits(whole, a + 1 + 8 * n, s.len()) {
-        let x = residues_at(s, a + 1, n, c.m);
+    if record_fits(whole, a + 1 + 16 * w, s.len()) {
+        let x = residues_at(s, a + 1, 2 * w, c.m);
         let r = x.r;
         if x.below {
-            let d = build(w, r);
+            let d = Divisor::of_row(w, r);
             if c.carries(d) {
                 DivisorRead::Taken(d)
             } else {

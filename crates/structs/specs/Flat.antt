@@ -5,8 +5,8 @@ use mathlib.Core.List.{List}
 use Rattle.rules.specs.Calls.{Answer as RuleAnswer, Multiplied, Totalled, Repeated}
 use Rattle.sums.specs.declared.MultipleAnswer.{MultipleAnswer}
 use Rattle.sums.specs.Multiples.{multipleOf}
-use Rattle.batches.specs.declared.TotalAnswer.{TotalAnswer}
-use Rattle.batches.specs.Batches.{totalOf}
+use Rattle.totals.specs.declared.TotalAnswer.{TotalAnswer}
+use Rattle.totals.specs.Totals.{totalOf}
 use Rattle.structs.specs.declared.YubiAnswer.{YubiAnswer}
 use Rattle.structs.specs.declared.YubiTotal.{YubiTotal}
 use Rattle.structs.specs.declared.YubiRepeat.{YubiRepeat}

@@ -1,12 +1,12 @@
 // The answers as C has them, a repr(C) struct for each kind of call, and each call's enum flattened to it.
 ghost use mathlib.Core.Path.{_≡_};
 ghost use Rattle.answers.specs.Answers.{answerOf};
-ghost use Rattle.batches.specs.Batches.{repeatOf};
+ghost use Rattle.repeats.specs.Repeats.{repeatOf};
 ghost use Rattle.structs.specs.Flat.{flat, FlatMultiple, FlatTotal, flat-repeat};
 use answers::Answer;
-use batches::RepeatAnswer;
-use batches::TotalAnswer;
+use repeats::RepeatAnswer;
 use sums::MultipleAnswer;
+use totals::TotalAnswer;
 
 #[repr(C)]
 pub struct YubiAnswer {

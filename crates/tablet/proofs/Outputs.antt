@@ -5,9 +5,9 @@ use mathlib.Core.List.{List}
 use Rattle.sums.specs.declared.MultipleAnswer.{MultipleAnswer}
 use Rattle.sums.specs.declared.MultipleAnswer.the-variants.{Done, Refused}
 use Rattle.sums.specs.Multiples.{multipleOf}
-use Rattle.batches.specs.declared.TotalAnswer.{TotalAnswer}
-use Rattle.batches.specs.declared.TotalAnswer.the-variants.{Done as DoneTotal, Refused as RefusedTotal}
-use Rattle.batches.specs.Batches.{totalOf}
+use Rattle.totals.specs.declared.TotalAnswer.{TotalAnswer}
+use Rattle.totals.specs.declared.TotalAnswer.the-variants.{Done as DoneTotal, Refused as RefusedTotal}
+use Rattle.totals.specs.Totals.{totalOf}
 use Rattle.rules.specs.Calls.{fresh}
 use Rattle.divisor.specs.declared.Divisor.{Divisor}
 use Rattle.running.specs.declared.Running.{Running}

@@ -85,14 +85,14 @@ pub extern "C" fn yubi_total_batch(curve: &[u8], batch: &[u8], out: &mut [u8]) -
     ensures answer { λ r. ⌜ r ≡ flat-total (total-call (now (curve .entry)) (now (batch .entry)) (now (out .entry))) ⌝ }
     ensures output { λ r. ⌜ now (out .exit) ≡ total-call (now (curve .entry)) (now (batch .entry)) (now (out .entry)) .written .out ⌝ }
 {
-    structs::flatten_total(batches::total_batch(curve, batch, out))
+    structs::flatten_total(totals::total_batch(curve, batch, out))
 }
 
 #[no_mangle]
 pub extern "C" fn yubi_first_repeat(curve: &[u8], batch: &[u8]) -> YubiRepeat
     ensures { λ r. ⌜ r ≡ flat-repeat (repeat-call (now (curve .entry)) (now (batch .entry))) ⌝ }
 {
-    structs::flatten_repeat(batches::first_repeat(curve, batch))
+    structs::flatten_repeat(repeats::first_repeat(curve, batch))
 }
 
 #[no_mangle]

@@ -21,10 +21,11 @@ use Rattle.curve_read.specs.declared.CurveRead.{CurveRead}
 use Rattle.curve.specs.Record.{recordOf}
 use Rattle.curve_read.specs.Read.{CurveIs}
 use Rattle.writes.proofs.Written.{weight-is, weight-is-v}
-use Rattle.batches.specs.declared.TotalRead.{TotalRead}
-use Rattle.batches.specs.declared.TotalRead.the-variants.{Done, Refused}
-use Rattle.batches.specs.declared.RepeatAnswer.{RepeatAnswer}
-use Rattle.batches.specs.Batches.{TotalIs, repeatOf}
+use Rattle.totals.specs.declared.TotalRead.{TotalRead}
+use Rattle.totals.specs.declared.TotalRead.the-variants.{Done, Refused}
+use Rattle.repeats.specs.declared.RepeatAnswer.{RepeatAnswer}
+use Rattle.totals.specs.Totals.{TotalIs}
+use Rattle.repeats.specs.Repeats.{repeatOf}
 use Rattle.texts.specs.declared.FileRead.{FileRead}
 use Rattle.texts.specs.declared.FileRead.the-variants.{Holds, Unreadable}
 use Rattle.lines.specs.declared.Places.{Places}

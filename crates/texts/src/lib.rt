@@ -1,13 +1,13 @@
 // What the program prints, made on slices: each function's promise fixes every byte. Nothing here opens, reads or writes a file.
 ghost use mathlib.Core.Path.{_≡_};
 ghost use lib.ListN.{take};
-ghost use Rattle.batches.specs.Batches.{repeatOf};
+ghost use Rattle.repeats.specs.Repeats.{repeatOf};
 ghost use Rattle.lines.specs.Printed.{Printed, placesOf};
 ghost use Rattle.texts.specs.Text.{text, with-file, text-of};
 ghost use Rattle.texts.specs.Read.{fileOf};
-use batches::RepeatAnswer;
-use batches::TotalRead;
 use lines::Places;
+use repeats::RepeatAnswer;
+use totals::TotalRead;
 
 // What was read of a file: how many bytes, or that it can't be opened or read.
 pub enum FileRead {
@@ -55,9 +55,9 @@ pub fn tally(curve: &[u8], batch: &[u8], out: &mut [u8; 256]) -> usize
     if number != 0 {
         return lines::refusal(number, 0, out);
     }
-    match batches::total_of(c, batch) {
+    match totals::total_of(c, batch) {
         TotalRead::Done(t, n) => {
-            let r = places_of(batches::first_repeat(curve, batch));
+            let r = places_of(repeats::first_repeat(curve, batch));
             let a = lines::put_count(out, 0, n);
             let b = lines::put_repeat(out, a, r);
             lines::put_total(out, b, t, c.m)

@@ -1,6 +1,6 @@
 use mathlib.Core.Path.{ap, sym}
-use Rattle.batches.specs.declared.RepeatAnswer.{RepeatAnswer}
-use Rattle.batches.specs.Batches.{repeatOf}
+use Rattle.repeats.specs.declared.RepeatAnswer.{RepeatAnswer}
+use Rattle.repeats.specs.Repeats.{repeatOf}
 use Rattle.structs.specs.Flat.{flat-repeat}
 use borrow.Author.Needs.{needs}
 use Rattle.structs.proofs.flatten_repeat.Statement.{statement}

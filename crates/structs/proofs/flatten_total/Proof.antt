@@ -1,6 +1,6 @@
 use mathlib.Core.Path.{ap, sym}
-use Rattle.batches.specs.declared.TotalAnswer.{TotalAnswer}
-use Rattle.batches.specs.Batches.{totalOf}
+use Rattle.totals.specs.declared.TotalAnswer.{TotalAnswer}
+use Rattle.totals.specs.Totals.{totalOf}
 use Rattle.structs.specs.Flat.{flat-total}
 use borrow.Author.Needs.{needs}
 use Rattle.structs.proofs.flatten_total.Statement.{statement}

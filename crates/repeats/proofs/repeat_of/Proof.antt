@@ -3,9 +3,10 @@ use native.Mathlib.Omega.{arith}
 use mathlib.Core.Path.{refl}
 use Prim.Native.Nat.{_-_}
 use lib.ListN.{length}
-use Rattle.batches.proofs.Listed.{Listing, list-begin, list-full, list-refuses, list-turn, list-pair, list-nothing, found-at}
-use Rattle.batches.proofs.repeat_of.Statement.{statement}
-use Rattle.batches.proofs.repeat_of.Tie as tie
+use Rattle.repeats.proofs.Found.{found-at}
+use Rattle.repeats.proofs.Listed.{Listing, list-begin, list-full, list-refuses, list-turn, list-pair, list-nothing}
+use Rattle.repeats.proofs.repeat_of.Statement.{statement}
+use Rattle.repeats.proofs.repeat_of.Tie as tie
 
 abbrev Inv-loop : tie.InvT-loop
 Inv-loop c s d₀ n₀ a₀ d n a = Listing c s d n a
@@ -73,11 +74,11 @@ first-repeat-requires c κs = c .before .loop .inv .all
 enum-known-i : tie.Need-enum-known-i Inv-loop μ-loop
 enum-known-i c = search needs
 
-add-t26 : tie.Need-add-t26 Inv-loop μ-loop
-add-t26 c = let q = found-at _ _ _ (c .before .before .before .first-repeat .ensures) (c .before .i .given .1) in record { fits = omega (arith, q .within, q .before, c .before .before .before .before .before .loop .inv .all .room) }
+add-t27 : tie.Need-add-t27 Inv-loop μ-loop
+add-t27 c = let q = found-at _ _ _ (c .before .before .before .first-repeat .ensures) (c .before .i .given .1) in record { fits = omega (arith, q .within, q .before, c .before .before .before .before .before .loop .inv .all .room) }
 
-add-t28 : tie.Need-add-t28 Inv-loop μ-loop
-add-t28 c = let q = found-at _ _ _ (c .before .before .before .first-repeat .ensures) (c .before .i .given .1) in record { fits = omega (arith, q .within, q .before, c .before .before .before .before .before .loop .inv .all .room) }
+add-t29 : tie.Need-add-t29 Inv-loop μ-loop
+add-t29 c = let q = found-at _ _ _ (c .before .before .before .first-repeat .ensures) (c .before .i .given .1) in record { fits = omega (arith, q .within, q .before, c .before .before .before .before .before .loop .inv .all .room) }
 
 enum-told : tie.Need-enum-told Inv-loop μ-loop
 enum-told c = search needs
@@ -114,8 +115,8 @@ repeat-of-spec =
     loop-again
     first-repeat-requires
     enum-known-i
-    add-t26
-    add-t28
+    add-t27
+    add-t29
     enum-told
     returns-3
     returns-4)

@@ -9,8 +9,8 @@ use Rattle.curve_read.specs.declared.CurveRead.{CurveRead}
 use Rattle.curve.specs.Record.{recordOf}
 use Rattle.curve_read.specs.Read.{CurveIs}
 use Rattle.answers.proofs.Firsts.{curve-stops, curve-goes}
-use Rattle.batches.specs.declared.RepeatAnswer.the-variants.{Refused}
-use Rattle.batches.specs.Batches.{repeat-rule, repeatOf}
+use Rattle.repeats.specs.declared.RepeatAnswer.the-variants.{Refused}
+use Rattle.repeats.specs.Repeats.{repeat-rule, repeatOf}
 
 module _ (s b : List ℕ) (r : CurveRead) (h : CurveIs s r) where
   -- what follows on a curve that was taken

@@ -2,10 +2,10 @@ use borrow.Author.Needs.{needs}
 use native.Mathlib.Omega.{arith}
 use Prim.Native.Nat.{_-_}
 use lib.ListN.{length}
-use Rattle.batches.proofs.Totals.{Totalling, total-begin, total-ends, total-full, total-refuses, total-turn}
-use Rattle.batches.proofs.Turns.{read-taken}
-use Rattle.batches.proofs.total_of.Statement.{statement}
-use Rattle.batches.proofs.total_of.Tie as tie
+use Rattle.totals.proofs.Totals.{Totalling, total-begin, total-ends, total-full, total-refuses, total-turn}
+use Rattle.answers.proofs.Turns.{read-taken}
+use Rattle.totals.proofs.total_of.Statement.{statement}
+use Rattle.totals.proofs.total_of.Tie as tie
 
 abbrev Inv-loop : tie.InvT-loop
 Inv-loop c s t₀ k₀ a₀ t k a = Totalling c s t k a

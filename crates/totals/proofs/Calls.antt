@@ -16,10 +16,10 @@ use Rattle.curve_read.specs.Read.{CurveIs}
 use Rattle.answers.specs.Answers.{PutIs}
 use Rattle.answers.proofs.Written.{write-none, write-all}
 use Rattle.answers.proofs.Firsts.{curve-stops, curve-goes}
-use Rattle.batches.specs.declared.TotalRead.{TotalRead}
-use Rattle.batches.specs.declared.TotalRead.the-variants.{Done, Refused}
-use Rattle.batches.specs.declared.TotalAnswer.the-variants.{Done as DoneTotal, Refused as RefusedTotal}
-use Rattle.batches.specs.Batches.{TotalIs, TotalAnswerIs}
+use Rattle.totals.specs.declared.TotalRead.{TotalRead}
+use Rattle.totals.specs.declared.TotalRead.the-variants.{Done, Refused}
+use Rattle.totals.specs.declared.TotalAnswer.the-variants.{Done as DoneTotal, Refused as RefusedTotal}
+use Rattle.totals.specs.Totals.{TotalIs, TotalAnswerIs}
 
 module _ (s b out : List ℕ) (r : CurveRead) (h : CurveIs s r) where
   -- what follows on a curve that was taken

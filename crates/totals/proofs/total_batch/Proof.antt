@@ -1,7 +1,7 @@
-use Rattle.batches.proofs.TotalCalls.{no-curve, no-total, total-holds, too-short, total-written}
+use Rattle.totals.proofs.Calls.{no-curve, no-total, total-holds, too-short, total-written}
 use borrow.Author.Needs.{needs}
-use Rattle.batches.proofs.total_batch.Statement.{statement}
-use Rattle.batches.proofs.total_batch.Tie as tie
+use Rattle.totals.proofs.total_batch.Statement.{statement}
+use Rattle.totals.proofs.total_batch.Tie as tie
 
 read-curve-requires : tie.Need-read-curve-requires
 read-curve-requires c κs = search needs

@@ -1,7 +1,7 @@
-use Rattle.batches.proofs.RepeatCalls.{no-curve, on-curve}
+use Rattle.repeats.proofs.Calls.{no-curve, on-curve}
 use borrow.Author.Needs.{needs}
-use Rattle.batches.proofs.first_repeat.Statement.{statement}
-use Rattle.batches.proofs.first_repeat.Tie as tie
+use Rattle.repeats.proofs.first_repeat.Statement.{statement}
+use Rattle.repeats.proofs.first_repeat.Tie as tie
 
 read-curve-requires : tie.Need-read-curve-requires
 read-curve-requires c κs = search needs
