@@ -13,7 +13,7 @@ use Rattle.algebra.proofs.poly.Poly.{poly, coef, coef-zer}
 use Rattle.algebra.proofs.poly.Term.{C, X, constants}
 use Rattle.algebra.proofs.poly.Divide.{Division, quotient-unique, remainder-unique}
 use Rattle.algebra.proofs.list.Ops.{slide, less, zeros, divmod, quotient, remainder}
-use Rattle.algebra.proofs.list.Value.{pol, mon, mon-nil, mon-cons, pol-zeros, length-zeros, pol-below, mon-monic, pol-inj}
+use Rattle.algebra.proofs.list.Value.{pol, mon, pol-nil, pol-cons, mon-nil, mon-cons, pol-zeros, length-zeros, pol-below, mon-monic, pol-inj}
 
 -- one step of the division, in any ring: w is the power of x of the divisor b + w
 module _ (R : CRing) where
@@ -38,9 +38,10 @@ module _ (F : CRing) where
   power (a ∷ l) = X F * power l
 
   mon-split : (m : List A) → mon F m ≡ pol F m + power m
-  unfolding power pol
-  mon-split [] = mon-nil F ∙ sym (poly F .zer-add 1P)
+  unfolding power
+  mon-split [] = mon-nil F ∙ sym (ap (λ t. t + 1P) (pol-nil F) ∙ poly F .zer-add 1P)
   mon-split (a ∷ m) = mon-cons F a m ∙ ap (λ t. C F a + X F * t) (mon-split m) ∙ ring (poly F) (C F a ∷ X F ∷ pol F m ∷ power m ∷ []) (search quote depth 40) refl
+      ∙ ap (λ t. t + X F * power m) (sym (pol-cons F a m))
 
   power-len : (l m : List A) → length l ≡ length m → power l ≡ power m
   unfolding power
@@ -55,10 +56,11 @@ module _ (F : CRing) where
   length-slide a (x ∷ r) = ap suc (length-slide x r)
 
   slide-is : (a : A) (r : List A) → C F a + X F * pol F r ≡ pol F ((slide F a r) .0) + power r * C F ((slide F a r) .1)
-  unfolding slide pol power
-  slide-is a [] = ring (poly F) (C F a ∷ X F ∷ []) (search quote depth 40) refl
-  slide-is a (x ∷ r) = ap (λ t. C F a + X F * t) (slide-is x r)
+  unfolding slide power
+  slide-is a [] = rw (pol-nil F) (ring (poly F) (C F a ∷ X F ∷ []) (search quote depth 40) refl)
+  slide-is a (x ∷ r) = ap (λ t. C F a + X F * t) (pol-cons F x r ∙ slide-is x r)
       ∙ ring (poly F) (C F a ∷ X F ∷ pol F ((slide F x r) .0) ∷ power r ∷ C F ((slide F x r) .1) ∷ []) (search quote depth 40) refl
+      ∙ ap (λ t. t + X F * power r * C F ((slide F x r) .1)) (sym (pol-cons F a ((slide F x r) .0)))
 
   length-less : (c : A) (r b : List A) → length (less F c r b) ≡ length r
   unfolding less
@@ -67,14 +69,16 @@ module _ (F : CRing) where
   length-less c (x ∷ r) (y ∷ b) = ap suc (length-less c r b)
 
   less-is : (c : A) (r b : List A) → length r ≡ length b → pol F (less F c r b) ≡ pol F r + neg (C F c * pol F b)
-  unfolding less pol
-  less-is c [] [] e = ring (poly F) (C F c ∷ []) (search quote depth 40) refl
+  unfolding less
+  less-is c [] [] e = rw (pol-nil F) (ring (poly F) (C F c ∷ []) (search quote depth 40) refl)
   less-is c [] (y ∷ b) e = absurd (omega arith)
   less-is c (x ∷ r) [] e = absurd (omega arith)
   less-is c (x ∷ r) (y ∷ b) e =
-      ap₂ (λ s t. s + X F * t) ((constants F) .h-add x (ng (c ⊠ y)) ∙ ap (λ t. C F x + t) ((constants F) .h-neg (c ⊠ y)
+      pol-cons F (F .add x (ng (c ⊠ y))) (less F c r b)
+      ∙ ap₂ (λ s t. s + X F * t) ((constants F) .h-add x (ng (c ⊠ y)) ∙ ap (λ t. C F x + t) ((constants F) .h-neg (c ⊠ y)
       ∙ ap neg ((constants F) .h-mul c y))) (less-is c r b (omega arith))
       ∙ ring (poly F) (C F c ∷ C F x ∷ C F y ∷ X F ∷ pol F r ∷ pol F b ∷ []) (search quote depth 40) refl
+      ∙ sym (ap₂ (λ s t. s + neg (C F c * t)) (pol-cons F x r) (pol-cons F y b))
 
   length-divmod : (m l : List A) → length ((divmod F m l) .1) ≡ length m
   unfolding divmod
@@ -83,12 +87,14 @@ module _ (F : CRing) where
       length-less (s .1) (s .0) m ∙ length-slide a ((divmod F m l) .1) ∙ length-divmod m l
 
   divmod-is : (m l : List A) → pol F l ≡ pol F ((divmod F m l) .0) * (pol F m + power m) + pol F ((divmod F m l) .1)
-  unfolding divmod pol
-  divmod-is m [] = ring (poly F) (pol F m ∷ power m ∷ []) (search quote depth 40) refl ∙ ap (λ t. 0P * (pol F m + power m) + t) (sym (pol-zeros F m))
+  unfolding divmod
+  divmod-is m [] = pol-nil F ∙ ring (poly F) (pol F m ∷ power m ∷ []) (search quote depth 40) refl
+      ∙ sym (ap₂ (λ s t. s * (pol F m + power m) + t) (pol-nil F) (pol-zeros F m))
   divmod-is m (a ∷ l) =
-      step (poly F) (C F a) (X F) (pol F l) (pol F q) (pol F m) (power m) (pol F r) (pol F s) (C F c) (divmod-is m l)
+      pol-cons F a l
+      ∙ step (poly F) (C F a) (X F) (pol F l) (pol F q) (pol F m) (power m) (pol F r) (pol F s) (C F c) (divmod-is m l)
       (slide-is a r ∙ ap (λ t. pol F s + t * C F c) (power-len r m (length-divmod m l)))
-      ∙ ap (λ t. (C F c + X F * pol F q) * (pol F m + power m) + t) (sym (less-is c s m (length-slide a r ∙ length-divmod m l)))
+      ∙ sym (ap₂ (λ t z. t * (pol F m + power m) + z) (pol-cons F c q) (less-is c s m (length-slide a r ∙ length-divmod m l)))
     where
       q : List A
       q = (divmod F m l) .0

@@ -94,9 +94,9 @@ module _ (K : Field) where
   IsGcd m b x = Gcd (mon F m) (pol F b) (mon F (x .d)) (pol F (x .s)) (pol F (x .t))
 
   last-is : (m b : List A) → pol F b ≡ 0P → IsGcd m b (last Q m)
-  unfolding last pol
+  unfolding last whole
   last-is m b h = record {
-    bezout = ring (poly F) (mon F m ∷ X F ∷ pol F b ∷ []) (search quote depth 40) refl ∙ ap (λ t. (t + X F * 0P) * mon F m + 0P * pol F b) (sym ((constants F) .h-one));
+    bezout = ring (poly F) (mon F m ∷ pol F b ∷ []) (search quote depth 40) refl ∙ sym (ap₂ (λ s t. s * mon F m + t * pol F b) (pol-whole F [] ∙ mon-nil F) (pol-nil F));
     left = record { factor = 1P; is = sym (poly F .one-mul (mon F m)) };
     right = record { factor = 0P; is = h ∙ ring (poly F) (mon F m ∷ []) (search quote depth 40) refl };
   }

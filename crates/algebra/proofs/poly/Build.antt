@@ -15,15 +15,13 @@ use Rattle.algebra.proofs.poly.Poly.{poly, coef, poly-ext, coef-add, co
 use Rattle.algebra.proofs.poly.Term.{at, termS, termS-at, termS-off, term, coef-term}
 
 module _ (F : CRing) where
-  open CRing F using (El as A, add as _⊕_, mul as _⊗_, neg, zer as 𝟘, one as 𝟙, zer-add)
+  open CRing F using (El as A, add as _⊕_, neg, zer as 𝟘, zer-add)
 
   infixl 65 _⊕_
-  infixl 70 _⊗_
-  open CRing (poly F) using (El as Po, add as _+P_, mul as _*P_, neg as negP, zer as 0P, one as 1P)
+  open CRing (poly F) using (El as Po, add as _+P_, neg as negP, zer as 0P)
 
   infixl 65 _+P_
-  infixl 70 _*P_
-  -- two series that are equal at F every place but k, where they differ by a
+  -- two series that are equal at every place but k, where they differ by a
   pub put-is : (p q : Po) (a : A) (k : ℕ) → ((n : ℕ) → (n ≡ k → ⊥) → coef F q n ≡ coef F p n) → coef F q k ≡ coef F p k ⊕ a → q ≡ p +P term F a k
   put-is p q a k off on = poly-ext F (λ n. go n (ℕ-discrete n k) ∙ sym (at F (coef-add F p (term F a k)) n ∙ ap (λ t. coef F p n ⊕ t) (at F (coef-term F a k) n)))
     where

@@ -14,7 +14,7 @@ use Rattle.algebra.proofs.poly.Poly.{poly, coef, coef-bounded, poly-ext
 use Rattle.algebra.proofs.poly.Term.{at, term, coef-shift}
 
 module _ (F : CRing) where
-  open CRing F using (El as A, add as _⊕_, mul as _⊗_, neg, zer as 𝟘, one as 𝟙, zer-add)
+  open CRing F using (El as A, add as _⊕_, mul as _⊗_, neg, zer as 𝟘)
 
   infixl 65 _⊕_
   infixl 70 _⊗_
