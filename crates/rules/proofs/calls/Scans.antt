@@ -16,7 +16,7 @@ use Rattle.rules.specs.Multiple.{total}
 use Rattle.rules.specs.Tests.{on-curve?}
 use Rattle.rules.specs.Records.{taken, both, below?, numbers, CurveRecord, curve, PairOf, read-curve, read-divisor, divisor-bytes}
 use Rattle.rules.specs.Lists.{most}
-use Rattle.rules.specs.Calls.{check, done, write, totalled, total-call, Running, fresh, resume, Scanned, not-scanned, scan-call}
+use Rattle.rules.specs.Calls.{done, write, totalled, total-call, Running, fresh, resume, Scanned, scan-call}
 use Rattle.rules.proofs.cantor.OnCurve.{on-curve-decides}
 use Rattle.rules.proofs.cantor.Pairs.{neutral-valid}
 use Rattle.rules.proofs.calls.Tests.{passed, taken-inj, true-both}
@@ -110,18 +110,12 @@ module _ (s : List ℕ) {c : CurveRecord} (ec : read-curve s ≡ taken c) where
   pub scan-done : (t : Running) (a : List ℕ) → (scan-call t s a) .answer .number ≡ 0 → ScanDone c t a (scan-call t s a)
   unfolding scan-call
   scan-done t a e =
-      let r = went-on num (resume c t) (not-scanned t) next (λ n k. refl) (resume-numbered c t) (ap num (sym (check-taken _ _ _ ec)) ∙ e) in
-      let q = went-on num (read-divisor c 1 a) (not-scanned t) (last (r .0)) (λ n k. refl) (divisor-numbered c 1 true a 0) (r .2) in
+      let r = went-on num (resume c t) _ _ (λ n k. refl) (resume-numbered c t) (ap num (sym (check-taken _ _ _ ec)) ∙ e) in
+      let q = went-on num (read-divisor c 1 a) _ _ (λ n k. refl) (divisor-numbered c 1 true a 0) (r .2) in
       record { x = r .0; y = q .0; t-is = r .1; a-is = q .1; is = scan-is t a {x = r .0} {y = q .0} (r .1) (q .1) }
     where
       num : Scanned → ℕ
       num w = w .answer .number
-
-      last : PairOf c → PairOf c → Scanned
-      last x y = record { answer = done 0; total = running-of c (sum (curve c) x y) (t .count + 1) }
-
-      next : PairOf c → Scanned
-      next x = check (read-divisor c 1 a) (not-scanned t) (last x)
 
   -- ---- many
   ok : Accepts c

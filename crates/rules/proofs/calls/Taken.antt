@@ -7,12 +7,12 @@ use lib.Dec.{eqb}
 use lib.ListN.{length}
 use borrow.Author.Tests.{le-ltb}
 use Rattle.rules.specs.Bytes.{number}
-use Rattle.rules.specs.Pair.{neutral, opposite}
-use Rattle.rules.specs.Sum.{sum, double}
+use Rattle.rules.specs.Pair.{neutral}
+use Rattle.rules.specs.Sum.{sum}
 use Rattle.rules.specs.Multiple.{multiple, doublings, additions}
 use Rattle.rules.specs.Records.{taken, choose, CurveRecord, curve, PairOf, read-curve, read-divisor, divisor-bytes}
 use Rattle.rules.specs.Lists.{Batch, batch}
-use Rattle.rules.specs.Calls.{done, check-divisor, Written, write, from-one, rewrite-divisor, double-call, opposite-call, add-call, Multiplied, not-multiplied, multiplied, multiply-call, Totalled, totalled, total-call}
+use Rattle.rules.specs.Calls.{done, check-divisor, Written, write, from-one, add-call, Multiplied, not-multiplied, multiplied, multiply-call, Totalled, totalled, total-call}
 use Rattle.rules.proofs.calls.Refusals.{check-taken}
 
 -- the counts don't touch what is written
@@ -38,18 +38,6 @@ module _ (s : List ℕ) {c : CurveRecord} (e : read-curve s ≡ taken c) where
   module _ (a : List ℕ) {x : PairOf c} (ea : read-divisor c 1 a ≡ taken x) (out : List ℕ) where
     pub one-is : (f : (c : CurveRecord) → PairOf c → PairOf c) → from-one f s a out ≡ write out (divisor-bytes (c .p) (f c x))
     one-is f = check-taken _ _ _ e ∙ check-taken _ _ _ ea
-
-    pub rewrite-is : rewrite-divisor s a out ≡ write out (divisor-bytes (c .p) x)
-    unfolding rewrite-divisor
-    rewrite-is = one-is (λ c x. x)
-
-    pub double-is : double-call s a out ≡ write out (divisor-bytes (c .p) (double (curve c) x))
-    unfolding double-call
-    double-is = one-is (λ c x. double (curve c) x)
-
-    pub opposite-is : opposite-call s a out ≡ write out (divisor-bytes (c .p) (opposite x))
-    unfolding opposite-call
-    opposite-is = one-is (λ c x. opposite x)
 
     pub add-is : (b : List ℕ) {y : PairOf c} → read-divisor c 2 b ≡ taken y → add-call s a b out ≡ write out (divisor-bytes (c .p) (sum (curve c) x y))
     unfolding add-call
