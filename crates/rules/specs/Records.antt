@@ -20,14 +20,10 @@ pub data Checked (A : Type 0) : Type 0 where
   refused : ℕ → ℕ → Checked A
   taken : A → Checked A
 
--- the limit of p
-abbrev pub limit : ℕ
-limit = 2147483647
-
--- an odd prime within the limit
+-- an odd prime, 3 ≤ p ≤ 2,147,483,647
 unfoldable pub odd-prime? : ℕ → Bool
 unfolding is-prime
-odd-prime? p = both (leb 3 p) (both (leb p limit) (is-prime p))
+odd-prime? p = both (leb 3 p) (both (leb p 2147483647) (is-prime p))
 
 -- every number is below p
 unfoldable pub below? : ℕ → List ℕ → Bool

@@ -5,7 +5,7 @@ use Prim.Native.Nat.{ℕ, zero, suc, _≤_, _<_}
 use mathlib.Core.Path.{_≡_, refl, sym, ap, ap₂, _∙_}
 use mathlib.Core.List.{List, [], _∷_, _++_}
 use native.Mathlib.Omega.{arith}
-use lib.ListN.{getD, length, length-append, List·getD-eq-default, List·getD-append}
+use lib.ListN.{getD, length, replicate, length-append, List·getD-eq-default, List·getD-append}
 use lib.Seq.{getD-at}
 use Rattle.algebra.proofs.ring.CRing.{CRing, add-zer}
 use Rattle.algebra.proofs.ring.Quote.{ring, quote}
@@ -13,7 +13,7 @@ use Rattle.algebra.proofs.poly.Series.{con}
 use Rattle.algebra.proofs.poly.Bound.{Below, Monic}
 use Rattle.algebra.proofs.poly.Poly.{poly, coef, mk, coef-mk, poly-ext, coef-add, coef-zer}
 use Rattle.algebra.proofs.poly.Term.{at, C, X, constants, coef-C, coef-X-zero, coef-X-suc}
-use Rattle.algebra.proofs.list.Ops.{addL, scaleL, mulL, negL, whole, zeros}
+use Rattle.algebra.proofs.list.Ops.{addL, scaleL, mulL, negL, whole}
 
 module _ (F : CRing) where
   open CRing F using (El as A, add as _⊞_, zer as 𝟘, one as 𝟙)
@@ -96,10 +96,9 @@ module _ (F : CRing) where
       ∙ ring (poly F) (C F a ∷ X F ∷ pol l ∷ pol m ∷ []) (search quote depth 40) refl
       ∙ sym (ap (λ t. t * pol m) (pol-cons a l))
 
-  pub pol-zeros : (m : List A) → pol (zeros F m) ≡ 0P
-  unfolding zeros
-  pol-zeros [] = pol-nil
-  pol-zeros (x ∷ m) = pol-cons 𝟘 (zeros F m) ∙ ap₂ (λ s t. s + X F * t) ((constants F) .h-zer) (pol-zeros m) ∙ ring (poly F) (X F ∷ []) (search quote depth 40) refl
+  pub pol-zeros : (n : ℕ) → pol (replicate n 𝟘) ≡ 0P
+  pol-zeros zero = pol-nil
+  pol-zeros (suc n) = pol-cons 𝟘 (replicate n 𝟘) ∙ ap₂ (λ s t. s + X F * t) ((constants F) .h-zer) (pol-zeros n) ∙ ring (poly F) (X F ∷ []) (search quote depth 40) refl
 
   -- ---- lengths
   pub length-neg : (l : List A) → length (negL F l) ≡ length l
@@ -107,10 +106,16 @@ module _ (F : CRing) where
   length-neg [] = refl
   length-neg (a ∷ l) = ap suc (length-neg l)
 
-  pub length-zeros : (l : List A) → length (zeros F l) ≡ length l
-  unfolding zeros
-  length-zeros [] = refl
-  length-zeros (a ∷ l) = ap suc (length-zeros l)
+  pub length-scale : (c : A) (l : List A) → length (scaleL F c l) ≡ length l
+  unfolding scaleL
+  length-scale c [] = refl
+  length-scale c (a ∷ l) = ap suc (length-scale c l)
+
+  pub length-add : (l m : List A) → length m ≡ length l → length (addL F l m) ≡ length l
+  unfolding addL
+  length-add [] m e = e
+  length-add (a ∷ l) [] e = refl
+  length-add (a ∷ l) (b ∷ m) e = ap suc (length-add l m (omega arith))
 
   -- ---- monic ones
   pub mon-monic : (m : List A) → Monic F (length m) (coef F (mon m))

@@ -37,7 +37,8 @@ module _ (F : CRing) where
   pub part-below : (n : ℕ) (f : Ser F) → Below F n (coef F (part n f))
   unfolding part
   part-below zero f k l = at F (coef-zer F) k
-  part-below (suc n) f k l = at F (coef-add F (part n f) (term F (f n) n)) k ∙ ap₂ _⊕_ (part-below n f k (omega arith)) (at F (coef-term F (f n) n) k ∙ termS-off F (f n) n k (λ e. omega arith)) ∙ zer-add 𝟘
+  part-below (suc n) f k l = at F (coef-add F (part n f) (term F (f n) n)) k
+      ∙ ap₂ _⊕_ (part-below n f k (omega arith)) (at F (coef-term F (f n) n) k ∙ termS-off F (f n) n k (λ e. omega arith)) ∙ zer-add 𝟘
 
   part-same : (n : ℕ) (f g : Ser F) → ((k : ℕ) → k < n → f k ≡ g k) → part n f ≡ part n g
   unfolding part
@@ -54,7 +55,8 @@ module _ (F : CRing) where
       p' = p +P negP (term F (coef F p n) n)
 
       is : (k : ℕ) → coef F p' k ≡ coef F p k ⊕ neg (termS F (coef F p n) n k)
-      is k = at F (coef-add F p (negP (term F (coef F p n) n))) k ∙ ap (λ t. coef F p k ⊕ t) (at F (coef-neg F (term F (coef F p n) n)) k ∙ ap neg (at F (coef-term F (coef F p n) n) k))
+      is k = at F (coef-add F p (negP (term F (coef F p n) n))) k
+          ∙ ap (λ t. coef F p k ⊕ t) (at F (coef-neg F (term F (coef F p n) n)) k ∙ ap neg (at F (coef-term F (coef F p n) n) k))
 
       low : (k : ℕ) → k < n → coef F p k ≡ coef F p' k
       low k l = sym (is k ∙ ap (λ t. coef F p k ⊕ neg t) (termS-off F (coef F p n) n k (λ e. omega arith)) ∙ ap (λ t. coef F p k ⊕ t) (neg-zer F) ∙ add-zer F (coef F p k))

@@ -150,7 +150,10 @@ module _ (K : Field) where
       scaled k = ap (λ (t : P). coef F t k) e ∙ ap (coef F (C F c * q)) {x = k} {y = 0 + k} (omega arith) ∙ coef-shift F c 0 k q
 
       upper : m < suc n
-      upper = deg-bound (suc n) m (coef F p) (record { below = λ k l. scaled k ∙ ap (λ t. c ⊗ t) (hq .below k l) ∙ mul-zer F c; top = λ z. nz (sym (mul-one F c) ∙ sym (ap (λ t. c ⊗ t) (hq .top)) ∙ sym (scaled m) ∙ z) }) (hp .below)
+      upper = deg-bound (suc n) m (coef F p) (record {
+        below = λ k l. scaled k ∙ ap (λ t. c ⊗ t) (hq .below k l) ∙ mul-zer F c;
+        top = λ z. nz (sym (mul-one F c) ∙ sym (ap (λ t. c ⊗ t) (hq .top)) ∙ sym (scaled m) ∙ z);
+      }) (hp .below)
 
       lower : n < suc m
       lower = deg-bound (suc m) n (coef F p) (deg-monic hp) (λ k l. scaled k ∙ ap (λ t. c ⊗ t) (hq .below k l) ∙ mul-zer F c)

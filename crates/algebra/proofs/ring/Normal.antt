@@ -128,7 +128,8 @@ module _ (R : CRing) where
     mono-ins i [] = refl
     mono-ins i (j ∷ m) = go (compare i j) (mono-ins i m)
       where
-        go : (o : Ordering) → mono (ins i m) ≡ atom i ⊗ mono m → mono (elim o [ Ordering·lt ↦ i ∷ j ∷ m | Ordering·eq ↦ i ∷ j ∷ m | Ordering·gt ↦ j ∷ ins i m ]) ≡ atom i ⊗ (atom j ⊗ mono m)
+        go : (o : Ordering) → mono (ins i m) ≡ atom i ⊗ mono m
+            → mono (elim o [ Ordering·lt ↦ i ∷ j ∷ m | Ordering·eq ↦ i ∷ j ∷ m | Ordering·gt ↦ j ∷ ins i m ]) ≡ atom i ⊗ (atom j ⊗ mono m)
         go Ordering·lt h = refl
         go Ordering·eq h = refl
         go Ordering·gt h = ap (λ t. atom j ⊗ t) h ∙ mul-left-comm R (atom j) (atom i) (mono m)
@@ -141,7 +142,8 @@ module _ (R : CRing) where
     val-ins k m nil = ap (λ t. t ⊕ 𝟘) (add-zer R (mono m))
     val-ins k m (cons l n r) = go (compare k l) (val-ins k m r)
       where
-        go : (o : Ordering) → val (insN k m r) ≡ mono m ⊕ val r → val (elim o [ Ordering·lt ↦ cons k (m ∷ []) (cons l n r) | Ordering·eq ↦ cons l (m ∷ n) r | Ordering·gt ↦ cons l n (insN k m r) ]) ≡ mono m ⊕ (group n ⊕ val r)
+        go : (o : Ordering) → val (insN k m r) ≡ mono m ⊕ val r
+            → val (elim o [ Ordering·lt ↦ cons k (m ∷ []) (cons l n r) | Ordering·eq ↦ cons l (m ∷ n) r | Ordering·gt ↦ cons l n (insN k m r) ]) ≡ mono m ⊕ (group n ⊕ val r)
         go Ordering·lt h = ap (λ t. t ⊕ (group n ⊕ val r)) (add-zer R (mono m))
         go Ordering·eq h = add-assoc (mono m) (group n) (val r)
         go Ordering·gt h = ap (λ t. group n ⊕ t) h ∙ add-left-comm R (group n) (mono m) (val r)
@@ -166,7 +168,8 @@ module _ (R : CRing) where
 
     total-scale : (s : Bool) (k : ℕ) (m : List ℕ) (t : Sum) → total (scale s k m t) ≡ sg s (mono m) ⊗ total t
     total-scale s k m none = sym (mul-zer R (sg s (mono m)))
-    total-scale s k m (more t l n r) = ap₂ _⊕_ (ap (sg (same s t)) (mono-cat m n) ∙ sg-same s t (mono m) (mono n)) (total-scale s k m r) ∙ sym (mul-add R (sg s (mono m)) (sg t (mono n)) (total r))
+    total-scale s k m (more t l n r) = ap₂ _⊕_ (ap (sg (same s t)) (mono-cat m n) ∙ sg-same s t (mono m) (mono n)) (total-scale s k m r)
+        ∙ sym (mul-add R (sg s (mono m)) (sg t (mono n)) (total r))
 
     total-times : (s t : Sum) → total (times s t) ≡ total s ⊗ total t
     total-times none t = sym (zer-mul R (total t))
@@ -182,8 +185,11 @@ module _ (R : CRing) where
 
     split : (s : Sum) → total s ≡ val (plus s) ⊕ neg (val (plus (opp s)))
     split none = sym (add-neg R 𝟘)
-    split (more true k m r) = ap₂ _⊕_ (sym (mono-sort m)) (split r) ∙ sym (add-assoc (mono (sort m)) (val (plus r)) (neg (val (plus (opp r))))) ∙ ap (λ t. t ⊕ neg (val (plus (opp r)))) (sym (val-ins k (sort m) (plus r)))
-    split (more false k m r) = ap₂ _⊕_ (ap neg (sym (mono-sort m))) (split r) ∙ add-left-comm R (neg (mono (sort m))) (val (plus r)) (neg (val (plus (opp r)))) ∙ ap (λ t. val (plus r) ⊕ t) (sym (neg-of-add R (mono (sort m)) (val (plus (opp r)))) ∙ ap neg (sym (val-ins k (sort m) (plus (opp r)))))
+    split (more true k m r) = ap₂ _⊕_ (sym (mono-sort m)) (split r) ∙ sym (add-assoc (mono (sort m)) (val (plus r)) (neg (val (plus (opp r)))))
+        ∙ ap (λ t. t ⊕ neg (val (plus (opp r)))) (sym (val-ins k (sort m) (plus r)))
+    split (more false k m r) = ap₂ _⊕_ (ap neg (sym (mono-sort m))) (split r) ∙ add-left-comm R (neg (mono (sort m))) (val (plus r)) (neg (val (plus (opp r))))
+        ∙ ap (λ t. val (plus r) ⊕ t) (sym (neg-of-add R (mono (sort m)) (val (plus (opp r)))) ∙ ap neg (sym (val-ins k (sort m) (plus (opp r)))))
 
     pub solve : (a b : Ex) → Same a b → den ρ a ≡ den ρ b
-    solve a b h = eq-of-sub R (den ρ a) (den ρ b) (sym (flat-sound (pl a (ne b))) ∙ split (flat (pl a (ne b))) ∙ ap (λ t. val t ⊕ neg (val (plus (opp (flat (pl a (ne b))))))) h ∙ add-neg R (val (plus (opp (flat (pl a (ne b)))))))
+    solve a b h = eq-of-sub R (den ρ a) (den ρ b) (sym (flat-sound (pl a (ne b))) ∙ split (flat (pl a (ne b)))
+        ∙ ap (λ t. val t ⊕ neg (val (plus (opp (flat (pl a (ne b))))))) h ∙ add-neg R (val (plus (opp (flat (pl a (ne b)))))))

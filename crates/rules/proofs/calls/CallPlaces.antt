@@ -113,7 +113,8 @@ module _ (s out : List ℕ) where
       K = On s (λ c. OfTwo c a b)
 
   -- counts don't change the answer
-  counted : (K : ℕ → ℕ → Type 0) {R : Type 0} (answer : R → Answer) (t : Bool) (x y : R) (w : Written) → answer x ≡ w .answer → answer y ≡ w .answer → Stands K of-written w → Stands K answer (choose t x y)
+  counted : (K : ℕ → ℕ → Type 0) {R : Type 0} (answer : R → Answer) (t : Bool) (x y : R) (w : Written) → answer x ≡ w .answer → answer y ≡ w .answer
+      → Stands K of-written w → Stands K answer (choose t x y)
   counted K answer true x y w e h p = subst (λ (z : Answer). At K (z .number) (z .place)) (sym e) p
   counted K answer false x y w e h p = subst (λ (z : Answer). At K (z .number) (z .place)) (sym h) p
 

@@ -87,9 +87,15 @@ module _ (s a out : List ℕ) {c : CurveRecord} (ec : read-curve s ≡ taken c) 
       short x true q e = absurd (omega arith)
       short x false q e = ltb-false 32 (length scalar) q
 
-      finish : (x : PairOf c) → read-divisor c 1 a ≡ taken x → length scalar ≤ 32 → OneDone (λ c x. multiple (curve c) (number scalar) x) c a out ((multiply-call s a scalar out) .written)
+      finish : (x : PairOf c) → read-divisor c 1 a ≡ taken x → length scalar ≤ 32
+          → OneDone (λ c x. multiple (curve c) (number scalar) x) c a out ((multiply-call s a scalar out) .written)
       finish x h l = let is = multiply-written s ec a h out scalar l in
-          record { x = x; a-is = h; is = is; back = read-back c ok (multiple (curve c) (number scalar) x) ((accepts-laws c ok) .multiple-closed (number scalar) x (divisor-valid c 1 true a 0 h)) out is e }
+          record {
+            x = x;
+            a-is = h;
+            is = is;
+            back = read-back c ok (multiple (curve c) (number scalar) x) ((accepts-laws c ok) .multiple-closed (number scalar) x (divisor-valid c 1 true a 0 h)) out is e;
+          }
 
 -- ---- the sum of two
 pub record AddDone (c : CurveRecord) (a b out : List ℕ) (w : Written) : Type 0 where
@@ -123,7 +129,8 @@ pub record TotalDone (c : CurveRecord) (records out : List ℕ) (w : Totalled) :
   pub is : w ≡ totalled (write out (divisor-bytes (c .p) (total-of c (made .records)))) (length (made .records))
   pub back : (k : ℕ) → read-divisor c k (front (w .written)) ≡ taken (total-of c (made .records))
 
-pub total-done : (s records out : List ℕ) {c : CurveRecord} → read-curve s ≡ taken c → answered ((total-call s records out) .written) ≡ 0 → TotalDone c records out (total-call s records out)
+pub total-done : (s records out : List ℕ) {c : CurveRecord} → read-curve s ≡ taken c → answered ((total-call s records out) .written) ≡ 0
+    → TotalDone c records out (total-call s records out)
 unfolding total-call total
 total-done s records out {c} ec e =
     let r = went-on num (batch c (sum (curve c)) records neutral) _ _ (λ n k. refl) (batch-numbered c (sum (curve c)) records neutral) (ap num (sym (check-taken _ _ _ ec)) ∙ e) in

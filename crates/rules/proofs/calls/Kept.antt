@@ -70,7 +70,8 @@ module _ (out : List ℕ) where
     kept-multiplied : (w : Written) (n : ℕ) → Kept w → KeptM (multiplied w n)
     kept-multiplied w n k = go (eqb (w .answer .number) 0) refl
       where
-        go : (t : Bool) → eqb (w .answer .number) 0 ≡ t → KeptM (choose t (record { written = w; doublings = doublings n; additions = additions n }) (record { written = w; doublings = 0; additions = 0 }))
+        go : (t : Bool) → eqb (w .answer .number) 0 ≡ t → KeptM
+            (choose t (record { written = w; doublings = doublings n; additions = additions n }) (record { written = w; doublings = 0; additions = 0 }))
         go true q h = absurd (h (eqb-true (w .answer .number) 0 q))
         go false q h = ((k h) .0, (k h) .1, refl, refl)
 

@@ -130,14 +130,23 @@ module _ (c : CurveRecord) where
     batch-refused from {n} {j} e = go (behind most 0 0 from n j e)
       where
         go : Behind most 0 0 n j ⊎ Over n j → Faulty s n j ⊎ Over n j
-        go (inl b) = inl (record { before = b .before; good = b .good; few = b .few; place = omega (arith, b .place); rest = b .rest; bytes = b .bytes; fault = ap (divisor-at c j false s) (omega arith) ∙ b .fault })
+        go (inl b) = inl (record {
+          before = b .before;
+          good = b .good;
+          few = b .few;
+          place = omega (arith, b .place);
+          rest = b .rest;
+          bytes = b .bytes;
+          fault = ap (divisor-at c j false s) (omega arith) ∙ b .fault;
+        })
         go (inr q) = inr q
 
     pub batch-place : (from : A) → Placed (Faulty s) (batch c step s from)
     batch-place from n j e = go (batch-refused from e)
       where
         go : Faulty s n j ⊎ Over n j → At (Faulty s) n j
-        go (inl b) = let r = divisor-refused c j false s (length (flatten (b .before))) (b .fault) in (λ l u. b, λ l. absurd (omega (arith, r .0)), λ l. absurd (omega (arith, r .1)))
+        go (inl b) = let r = divisor-refused c j false s (length (flatten (b .before))) (b .fault) in
+            (λ l u. b, λ l. absurd (omega (arith, r .0)), λ l. absurd (omega (arith, r .1)))
         go (inr q) = elsewhere (Faulty s) (λ l u. omega (arith, q .0)) (q .1)
 
     pub batch-numbered : (from : A) (n j : ℕ) → batch c step s from ≡ refused n j → 0 < n

@@ -19,7 +19,8 @@ use Rattle.rules.proofs.calls.Refusals.{check-taken}
 multiplied-written : (w : Written) (n : ℕ) → (multiplied w n) .written ≡ w
 multiplied-written w n = go (eqb (w .answer .number) 0)
   where
-    go : (t : Bool) → (choose {A = Multiplied} t (record { written = w; doublings = doublings n; additions = additions n }) (record { written = w; doublings = 0; additions = 0 })) .written ≡ w
+    go : (t : Bool) → (choose {A = Multiplied} t (record { written = w; doublings = doublings n; additions = additions n })
+        (record { written = w; doublings = 0; additions = 0 })) .written ≡ w
     go true = refl
     go false = refl
 
@@ -51,13 +52,16 @@ module _ (s : List ℕ) {c : CurveRecord} (e : read-curve s ≡ taken c) where
         go : Bool → Multiplied
         go t = choose t (not-multiplied out 12 0) (multiplied (write out (divisor-bytes (c .p) (multiple (curve c) (number scalar) x))) (number scalar))
 
-    pub multiply-written : (scalar : List ℕ) → length scalar ≤ 32 → (multiply-call s a scalar out) .written ≡ write out (divisor-bytes (c .p) (multiple (curve c) (number scalar) x))
-    multiply-written scalar l = ap (λ (m : Multiplied). m .written) (multiply-is scalar l) ∙ multiplied-written (write out (divisor-bytes (c .p) (multiple (curve c) (number scalar) x))) (number scalar)
+    pub multiply-written : (scalar : List ℕ) → length scalar ≤ 32
+        → (multiply-call s a scalar out) .written ≡ write out (divisor-bytes (c .p) (multiple (curve c) (number scalar) x))
+    multiply-written scalar l = ap (λ (m : Multiplied). m .written) (multiply-is scalar l)
+        ∙ multiplied-written (write out (divisor-bytes (c .p) (multiple (curve c) (number scalar) x))) (number scalar)
 
   pub total-is : (records out : List ℕ) {b : Batch (PairOf c)} → batch c (sum (curve c)) records neutral ≡ taken b
       → total-call s records out ≡ totalled (write out (divisor-bytes (c .p) (b .result))) (b .count)
   unfolding total-call
   total-is records out eb = check-taken _ _ _ e ∙ check-taken _ _ _ eb
 
-  pub total-written : (records out : List ℕ) {b : Batch (PairOf c)} → batch c (sum (curve c)) records neutral ≡ taken b → (total-call s records out) .written ≡ write out (divisor-bytes (c .p) (b .result))
+  pub total-written : (records out : List ℕ) {b : Batch (PairOf c)} → batch c (sum (curve c)) records neutral ≡ taken b
+      → (total-call s records out) .written ≡ write out (divisor-bytes (c .p) (b .result))
   total-written records out {b} eb = ap (λ (m : Totalled). m .written) (total-is records out eb) ∙ totalled-written (write out (divisor-bytes (c .p) (b .result))) (b .count)
