@@ -14,8 +14,9 @@ line counts once where something below it is reached, an `open` or `infix` line 
   code      structs and enums declared in src/, listed by name.
   kit       the toolchain's own names, listed by name.
 
-Names are read as words, without scopes. So a variable that has a definition's name makes that definition count though nothing uses it; a
-name that comes in by a glob, or whole modules (`use M`, then `M.x`), would be missed: no file that is reached has one.
+Names are read as words. A word that a clause binds (left of its `=`, by `λ`, `let` or a binder) is a variable in all of that clause; a section's
+parameters aren't told from definitions, so one that has a definition's name makes it count. What comes in by a glob, or by `use M` and
+`M.x`, would be missed: no file that is reached has one.
 
     python3 tools/believed.py            the two tables
     python3 tools/believed.py --unread   and the definitions of the files in specs/ that neither reaches
@@ -27,7 +28,11 @@ import sys
 ROOT = os.path.join(os.path.dirname(os.path.abspath(__file__)), "..", "crates")
 CALLS = [("tablet", 'extern "C" fn'), ("lent", "pub fn scan("), ("texts", "pub fn tally"), ("lines", "pub fn refusal")]
 THEOREM = ("rules/proofs/Demand3", ["Demand3", "demand3"])
-ORDER = ["rules/specs", "structs", "flats", "lent", "scans", "divisor", "field", "digits", "lines", "texts", "algebra", "rules/proofs"]
+ORDER = [
+    "rules/specs", "structs", "flats", "lent", "scans", "divisor", "field", "digits", "lines", "texts",
+    "algebra/proofs/ring", "algebra/proofs/list/Ops", "algebra/proofs/zmod", "algebra/proofs/poly/Series", "algebra/proofs/poly/Bound", "algebra/proofs/poly/Poly",
+    "algebra/proofs/poly", "algebra/proofs/list", "algebra", "rules/proofs/Demand3", "rules/proofs",
+]  # fmt: skip
 RULES = ["Curve", "Pair", "Sum", "Multiple", "Tests", "Bytes", "Records", "Lists", "Calls"]
 SIGNATURE = re.compile(r"((?:unfoldable |abbrev |pub )*)(\S+)(?: \{[^}]*\})? :(?: |$)")
 DECLARED = re.compile(r"(?:pub )?(record|data) (\S+)")
@@ -41,6 +46,15 @@ def words(text):
     return set(re.split(r"[\s(){}.;,@]+", text))
 
 
+def bound(clause):
+    """The variables that a clause binds."""
+    head = None if SIGNATURE.match(clause) or DECLARED.match(clause) else re.match(r"(.*?) =(?: |\n|$)", clause)
+    found = words(head.group(1)) if head else set()
+    for group in re.findall(r"[({]([^(){}:=]+) : ", clause) + re.findall(r"λ ([^.]*)\.", clause) + re.findall(r"\blet (\S+)", clause):
+        found |= set(re.split(r"[\s(){}]+", group))
+    return found
+
+
 def names(word, known):
     """The names of `known` that a word stands for: itself, or an operator that has it for a part."""
     return [n for n in known if n == word or ("_" in n and n != "_" and word in n.split("_") and word)]
@@ -49,10 +63,15 @@ def names(word, known):
 class Item:
     def __init__(self, file, kind, name, mark, blocks):
         self.file, self.kind, self.name, self.mark, self.blocks = file, kind, name, mark, blocks
-        self.lines, self.members = [], []
+        self.lines, self.members, self.margin = [], [], [0]
 
-    def text(self):
-        return "\n".join(line for line in self.lines if not law(line))
+    def words(self):
+        """The names in its clauses, a clause at a time, but for laws and variables."""
+        found = set()
+        for begin, end in zip(self.margin, self.margin[1:] + [len(self.lines)]):
+            clause = "\n".join(line for line in self.lines[begin:end] if not law(line))
+            found |= words(clause) - (bound(clause) if self.kind != "module" else set())
+        return found
 
 
 class File:
@@ -100,6 +119,7 @@ class File:
         elif re.match(r"(pub )?(mod|ruleset) ", word):
             new = Item(self, "other", None, None, blocks)
         else:
+            item.margin.append(len(item.lines))
             item.lines.append(word)
             return item
         new.lines, new.indent, new.inside = [word], indent, indent + 2
@@ -157,19 +177,19 @@ class Reached:
             self.other["proofs"].add(item.name)
             return
         self.items.add(item)
-        self.follow(item.file, item.blocks, item.text())
+        self.follow(item.file, item.blocks, item.words())
 
-    def follow(self, file, blocks, text):
-        """Every name in the text, in the modules' own lines around it, and in the open lines that it uses."""
-        own, found = file.defined(), words(text)
+    def follow(self, file, blocks, found):
+        """Every name found, in the modules' own lines around it, and in the open lines that it uses."""
+        own = file.defined()
         for around in blocks:
             if around not in self.items:
                 self.items.add(around)
-                found |= words(around.text())
+                found |= around.words()
         for line in file.items:
             if line.kind == "open" and all(b in blocks for b in line.blocks) and line not in self.items and any(names(w, line.members) for w in found):
                 self.items.add(line)
-                found |= words(line.text())
+                found |= line.words()
         for word in found:
             for name in names(word, own):
                 self.item(own[name])
@@ -220,7 +240,7 @@ def main():
         both.items.add(item)
         # of the theorem itself only the statement
         item.lines = item.lines[:1] if item.kind == "definition" else item.lines
-        both.follow(file, item.blocks, item.text())
+        both.follow(file, item.blocks, item.words())
     table("What the contracts of the public calls name", calls.items)
     print()
     table("What the statement of demand 3 names besides", both.items - calls.items)
