@@ -3,13 +3,13 @@ use Prim.Native.Nat.{ℕ, zero, suc, _+_, _-_, _<_}
 use mathlib.Core.Path.{_≡_, sym, ap, _∙_, subst}
 use mathlib.Core.List.{List, [], _∷_, _++_}
 use native.Mathlib.Omega.{arith}
-use lib.ListN.{length}
+use lib.ListN.{getD, length}
 use Rattle.algebra.proofs.ring.CRing.{CRing}
 use Rattle.algebra.proofs.poly.Series.{Ser, tail}
 use Rattle.algebra.proofs.poly.Bound.{Monic}
 use Rattle.algebra.proofs.poly.Poly.{coef}
 use Rattle.algebra.proofs.list.Ops.{whole}
-use Rattle.algebra.proofs.list.Value.{pol as list-pol, mon, nth, pol-nil, mon-nil, mon-monic}
+use Rattle.algebra.proofs.list.Value.{pol as list-pol, mon, pol-nil, mon-nil, mon-monic}
 use Rattle.algebra.proofs.list.Coefs.{pol-of, mon-of}
 use Rattle.field.specs.declared.Modulus.{Modulus}
 use Rattle.field.specs.declared.Residue.{Residue}
@@ -68,7 +68,7 @@ module _ (m : Modulus) where
   all-settled [] s h = tt
   all-settled (r ∷ l) s h = (h .0 .settled, all-settled l (tail (K m) s) (h .1))
 
-  at-place : (l : List Residue) (s : Ser (K m)) → SettleAll l s → (k : ℕ) → k < length l → nth (K m) (elements m l) k ≡ s k
+  at-place : (l : List Residue) (s : Ser (K m)) → SettleAll l s → (k : ℕ) → k < length l → getD (elements m l) k (K m .zer) ≡ s k
   at-place [] s h k i = absurd (omega arith)
   at-place (r ∷ l) s h zero i = h .0 .is
   at-place (r ∷ l) s h (suc k) i = at-place l (tail (K m) s) (h .1) k (omega arith)

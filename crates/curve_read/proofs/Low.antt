@@ -1,6 +1,6 @@
 -- What stands behind p in a curve record: refusals 6 and 7. Gives: the loop over f_0 up to f_2g; the curve that is built is sound, and its
 -- record is the rule's.
-use Prim.Native.Nat.{ℕ, zero, suc, _+_, _*_, _≤_, _<_, max}
+use Prim.Native.Nat.{ℕ, suc, _+_, _*_, _≤_, _<_, max}
 use mathlib.Core.Path.{_≡_, refl, sym, ap, ap₂, _∙_, subst}
 use mathlib.Core.List.{List, [], _∷_, _++_}
 use mathlib.Core.Bool.{Bool, true, false, false≢true}
@@ -147,14 +147,10 @@ module _ (s : List ℕ) (g : ℕ) (m : Modulus) (h : ToLow s g m) where
     Free = SharesNoFactor (K m) (pol m f) (derP (K m) (pol m f))
 
     free : Free → SquareFree (curve rule)
-    free a d x y k i = go k i (subst (λ t. SharesNoFactor (K m) t (derP (K m) t)) (f-is .is) a d x y)
-      where
-        go : (k : ℕ) → 1 ≤ k → ((n : ℕ) → coef (K m) d (suc n) ≡ K m .zer) → coef (K m) d k ≡ K m .zer
-        go zero i z = absurd (omega arith)
-        go (suc n) i z = z n
+    free a = subst (λ t. SharesNoFactor (K m) t (derP (K m) t)) (f-is .is) a
 
     free-back : SquareFree (curve rule) → Free
-    free-back a = subst (λ t. SharesNoFactor (K m) t (derP (K m) t)) (sym (f-is .is)) (λ d x y n. a d x y (suc n) (omega arith))
+    free-back a = subst (λ t. SharesNoFactor (K m) t (derP (K m) t)) (sym (f-is .is)) a
 
     pub sound : Free → Sound built
     sound a = record {

@@ -6,9 +6,9 @@ use native.Mathlib.Omega.{arith}
 use borrow.Author.Tests.{le-leb, leb-true}
 use lib.Dec.{leb}
 use Rattle.algebra.proofs.zmod.Prime.{Prime, no-divisor, is-prime, prime-by-test}
-use Rattle.rules.specs.Records.{both, limit, odd-prime?}
+use Rattle.rules.specs.Records.{both, odd-prime?}
 use Rattle.rules.proofs.calls.Tests.{both-true, is-true}
-use Rattle.field.specs.Primes.{OddPrime}
+use Rattle.field.specs.Primes.{limit, OddPrime}
 use Rattle.field.proofs.Decide.{otherwise}
 
 no-divisor-complete : (p d : ℕ) → ((e : ℕ) → 1 < e → e ≤ d → 0 < p % e) → no-divisor p d ≡ true

@@ -64,7 +64,8 @@ module _ (s : List ℕ) {c : CurveRecord} (ec : read-curve s ≡ taken c) where
 
   -- a batch that is taken is at most 4,096 records one after the other, all valid, and each goes in once, from first to last
   pub taken-batch : {A : Type 0} (step : A → PairOf c → A) (from : A) (records : List ℕ) {b : Batch A} → batch c step records from ≡ taken b
-      → (m : MadeOf c records) × AllValid (curve c) (map (pair-of c) (m .records)) × (b ≡ record { result = foldl step from (map (pair-of c) (m .records)); count = length (m .records) })
+      → (m : MadeOf c records) × AllValid (curve c) (map (pair-of c) (m .records))
+      × (b ≡ record { result = foldl step from (map (pair-of c) (m .records)); count = length (m .records) })
   taken-batch step from records e = let m = batch-made c step records from e in
       (m, records-valid c (m .records) (m .good), taken-inj (sym e ∙ batch-is c step records from m))
 
@@ -123,14 +124,16 @@ module _ (s : List ℕ) where
       → (multiply-call s (front ((multiply-call s a n o1) .written)) m out) .written ≡ (multiply-call s a k out) .written
   multiplies = Sums.multiply-mul s
 
-  pub distributes : (a m n k o1 o2 out : List ℕ) → answered ((multiply-call s a m o1) .written) ≡ 0 → answered ((multiply-call s a n o2) .written) ≡ 0 → length k ≤ 32 → number k ≡ number m + number n
+  pub distributes : (a m n k o1 o2 out : List ℕ) → answered ((multiply-call s a m o1) .written) ≡ 0 → answered ((multiply-call s a n o2) .written) ≡ 0
+      → length k ≤ 32 → number k ≡ number m + number n
       → add-call s (front ((multiply-call s a m o1) .written)) (front ((multiply-call s a n o2) .written)) out ≡ (multiply-call s a k out) .written
   distributes = Sums.multiply-add s
 
 -- ---- demand 3: totals
 module _ (s : List ℕ) {c : CurveRecord} (ec : read-curve s ≡ taken c) (rs : List (List ℕ)) (good : AllRecords c rs) where
   -- at most 4,096 good records; 14 where a batch goes on after them
-  pub batch-of-records : {A : Type 0} (step : A → PairOf c → A) (from : A) → length rs ≤ 4096 → batch c step (flatten rs) from ≡ taken (record { result = foldl step from (map (pair-of c) rs); count = length rs })
+  pub batch-of-records : {A : Type 0} (step : A → PairOf c → A) (from : A) → length rs ≤ 4096
+      → batch c step (flatten rs) from ≡ taken (record { result = foldl step from (map (pair-of c) rs); count = length rs })
   batch-of-records step from = batch-records c step rs from good
 
   pub total-of-records : (out : List ℕ) → length rs ≤ 4096 → total-call s (flatten rs) out ≡ totalled (write out (divisor-bytes (c .p) (total-of c rs))) (length rs)

@@ -118,7 +118,9 @@ on-curve-test = on-curve-decides
 pub is-group : (E : Curve) (h : Accepted E) → IsAddCommGroup (Divisor E h) (jacobian E h .sum) (jacobian E h .zer) (jacobian E h .opp)
 is-group E h = record {
   isAddGroup = record {
-    isSubNegMonoid = record { isAddMonoid = record { isAddSemigroup = record { isSet = divisor-set E h; add-assoc = jacobian E h .assoc }; zero-add = jacobian E h .zer-sum; add-zero = sum-zer (jacobian E h) } };
+    isSubNegMonoid = record {
+      isAddMonoid = record { isAddSemigroup = record { isSet = divisor-set E h; add-assoc = jacobian E h .assoc }; zero-add = jacobian E h .zer-sum; add-zero = sum-zer (jacobian E h) };
+    };
     neg-add-cancel = λ a. jacobian E h .comm (jacobian E h .opp a) a ∙ jacobian E h .sum-opp a;
   };
   add-comm = jacobian E h .comm;

@@ -86,7 +86,8 @@ abbrev pub not-multiplied : List ℕ → ℕ → ℕ → Multiplied
 not-multiplied out n k = record { written = left-as-is out n k; doublings = 0; additions = 0 }
 
 abbrev pub multiplied : Written → ℕ → Multiplied
-multiplied w n = choose (eqb (w .answer .number) 0) (record { written = w; doublings = doublings n; additions = additions n }) (record { written = w; doublings = 0; additions = 0 })
+multiplied w n = choose (eqb (w .answer .number) 0) (record { written = w; doublings = doublings n; additions = additions n })
+    (record { written = w; doublings = 0; additions = 0 })
 
 unfoldable pub multiply-call : List ℕ → List ℕ → List ℕ → List ℕ → Multiplied
 unfolding number read-curve divisor-bytes multiple doublings additions

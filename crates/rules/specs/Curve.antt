@@ -4,10 +4,9 @@ use Prim.Native.Nat.{ℕ}
 use mathlib.Core.List.{List}
 use Rattle.algebra.proofs.ring.CRing.{CRing}
 use Rattle.algebra.proofs.ring.Field.{Arith}
-use Rattle.algebra.proofs.ring.Divides.{Divides}
-use Rattle.algebra.proofs.poly.Bound.{Below}
-use Rattle.algebra.proofs.poly.Poly.{poly, coef}
+use Rattle.algebra.proofs.poly.Poly.{poly}
 use Rattle.algebra.proofs.poly.Derivative.{derP}
+use Rattle.algebra.proofs.poly.Common.{SharesNoFactor}
 use Rattle.algebra.proofs.list.Value.{mon}
 
 -- low: f_0 up to f_2g. The leading 1 isn't stored.
@@ -24,6 +23,6 @@ module _ (E : Curve) where
   abbrev pub f : Kx .El
   f = mon (E .K .base) (E .low)
 
-  -- whatever divides f and its derivative is a constant: it has no coefficient from place 1 on
+  -- f and its derivative share no factor of degree 1 or more
   abbrev pub SquareFree : Type 0
-  SquareFree = (d : Kx .El) → Divides Kx d f → Divides Kx d (derP (E .K .base) f) → Below (E .K .base) 1 (coef (E .K .base) d)
+  SquareFree = SharesNoFactor (E .K .base) f (derP (E .K .base) f)

@@ -3,6 +3,8 @@
 use Prim.Native.Nat.{ℕ, suc, _+_, _*_}
 use mathlib.Core.List.{List, [], _∷_, _++_}
 use mathlib.Core.Bool.{Bool, true, false}
+-- (`choose` is the library's if, `both` and `either` its and and or)
+pub use mathlib.Core.Bool.{cond as choose, _&&_ as both, _||_ as either}
 use lib.Dec.{eqb, ltb, leb}
 use lib.ListN.{getD, length}
 use Rattle.algebra.proofs.zmod.Zmod.{zmod, emb, num}
@@ -18,26 +20,10 @@ pub data Checked (A : Type 0) : Type 0 where
   refused : ℕ → ℕ → Checked A
   taken : A → Checked A
 
-abbrev pub choose : {A : Type 0} → Bool → A → A → A
-choose true a b = a
-choose false a b = b
-
-abbrev pub both : Bool → Bool → Bool
-both true b = b
-both false b = false
-
-abbrev pub either : Bool → Bool → Bool
-either true b = true
-either false b = b
-
--- the limit of p
-abbrev pub limit : ℕ
-limit = 2147483647
-
--- an odd prime within the limit
+-- an odd prime, 3 ≤ p ≤ 2,147,483,647
 unfoldable pub odd-prime? : ℕ → Bool
 unfolding is-prime
-odd-prime? p = both (leb 3 p) (both (leb p limit) (is-prime p))
+odd-prime? p = both (leb 3 p) (both (leb p 2147483647) (is-prime p))
 
 -- every number is below p
 unfoldable pub below? : ℕ → List ℕ → Bool

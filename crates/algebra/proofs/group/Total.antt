@@ -1,8 +1,8 @@
 -- The total of a list in an abelian group: from the neutral element, each added from first to last. Gives: it is the same in any order
--- (`total-perm`) and by any parts whose totals are added (`total-parts`).
+-- (`total-perm`), and the sum of the totals of its two parts wherever it is cut (`total-append`).
 -- Open: `total`.
 use mathlib.Core.Path.{_≡_, refl, sym, ap, ap₂, _∙_}
-use mathlib.Core.List.{List, [], _∷_, _++_, map, foldl, flatten, Perm, List·Permᴰ, List·Permᴰ·nil, List·Permᴰ·cons, List·Permᴰ·swap, List·Permᴰ·trans}
+use mathlib.Core.List.{List, [], _∷_, _++_, foldl, Perm, List·Permᴰ, List·Permᴰ·nil, List·Permᴰ·cons, List·Permᴰ·swap, List·Permᴰ·trans}
 use mathlib.Core.Logic.{∥∥₁-elim}
 use Rattle.algebra.proofs.group.Group.{AbGroup, sum-zer, left-comm}
 
@@ -32,12 +32,7 @@ module _ (G : AbGroup) where
   pub total-perm : {l m : List A} → Perm l m → total l ≡ total m
   total-perm {l} {m} p = ∥∥₁-elim p (G .isSet (total l) (total m)) total-permᴰ
 
-  -- by any parts
+  -- by parts
   pub total-append : (l m : List A) → total (l ++ m) ≡ total l ⊕ total m
   total-append [] m = sym (zer-sum (total m))
   total-append (x ∷ l) m = total-cons x (l ++ m) ∙ ap (λ t. x ⊕ t) (total-append l m) ∙ sym (assoc x (total l) (total m)) ∙ ap (λ t. t ⊕ total m) (sym (total-cons x l))
-
-  pub total-parts : (p : List (List A)) → total (flatten p) ≡ total (map total p)
-  unfolding flatten
-  total-parts [] = refl
-  total-parts (l ∷ p) = total-append l (flatten p) ∙ ap (λ t. total l ⊕ t) (total-parts p) ∙ sym (total-cons (total l) (map total p))

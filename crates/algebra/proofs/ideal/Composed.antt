@@ -1,5 +1,6 @@
 -- L3 as the rule says it: d divides u1, u2 and v1 + v2 and is s1·u1 + s2·u2 + s3·(v1 + v2); U = u1·u2 / d²; V counts modulo U. Gives: `Composed`,
--- these equations in any ring, whoever found them, and three ways to find them: `lifted`, `composed-coprime`, `composed-tangent`.
+-- these equations in any ring, whoever found them; and the two cases that formulae in closed form take (tickets W-203, W-204, W-206), with
+-- d = 1: `composed-coprime` of u1 and u2 prime to one another, `composed-tangent` of a pair with itself.
 use mathlib.Core.Path.{_≡_, refl, sym}
 use mathlib.Core.List.{[], _∷_}
 use Rattle.algebra.proofs.ring.CRing.{CRing, mul-one}
@@ -26,13 +27,7 @@ module _ (R : CRing) where
     pub v-is : d * v ≡ s1 * u1 * v2 + s2 * u2 * v1 + s3 * (v1 * v2 + f)
     pub v-mod : Divides R U (V' + neg v)
 
-  -- ---- ways to find v and V
-  -- by d = s1·u1 + s2·u2 + s3·(v1 + v2) and u2 = e2·d: no division is left
-  pub lifted : (f u1 v1 u2 v2 w2 d e2 s1 s2 s3 : P) → d ≡ s1 * u1 + s2 * u2 + s3 * (v1 + v2) → u2 ≡ e2 * d → f ≡ v2 * v2 + u2 * w2
-      → d * (v2 + e2 * (s2 * (v1 + neg v2) + s3 * w2)) ≡ s1 * u1 * v2 + s2 * u2 * v1 + s3 * (v1 * v2 + f)
-  lifted f u1 v1 u2 v2 w2 d e2 s1 s2 s3 hd hu hf = by R v2 hd (by R (neg (s2 * (v1 + neg v2) + s3 * w2)) hu (by R (neg s3) hf
-      (ring R (f ∷ u1 ∷ v1 ∷ u2 ∷ v2 ∷ w2 ∷ d ∷ e2 ∷ s1 ∷ s2 ∷ s3 ∷ []) (search quote depth 40) refl)))
-
+  -- ---- for formulae in closed form, where d = 1: no triple need be calculated, only shown to exist
   -- u1 and u2 prime to one another: any l that is v1 modulo u1 and v2 modulo u2
   pub composed-coprime : (f u1 v1 u2 v2 s1 s2 l : P) → s1 * u1 + s2 * u2 ≡ 1P → Divides R u1 (l + neg v1) → Divides R u2 (l + neg v2)
       → Composed f u1 v1 u2 v2 (u1 * u2) l

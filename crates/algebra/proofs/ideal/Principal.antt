@@ -111,7 +111,11 @@ module _ (R : CRing) (f : R .El) where
     -- if the generator has no y in it, then its other part is a unit
     pub unit : ima R f (pri .gen) ≡ 𝟘 → Divides R (rea R f (pri .gen)) 𝟙
     unfolding quad pr rea ima j
-    unit e = go (pri .all (y R f ⊕ ⊖ (ι R f v)) (record { at-g = quad R f .zer; at-h = 𝟙S; is = ring (quad R f) ((y R f ⊕ ⊖ (ι R f v)) ∷ ι R f u ∷ []) (search quote depth 40) refl }))
+    unit e = go (pri .all (y R f ⊕ ⊖ (ι R f v)) (record {
+      at-g = quad R f .zer;
+      at-h = 𝟙S;
+      is = ring (quad R f) ((y R f ⊕ ⊖ (ι R f v)) ∷ ι R f u ∷ []) (search quote depth 40) refl;
+    }))
       where
         go : ((r : S) × (y R f ⊕ ⊖ (ι R f v) ≡ pri .gen ⊗ r)) → Divides R (rea R f (pri .gen)) 𝟙
         go p = record {

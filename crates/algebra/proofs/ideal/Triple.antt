@@ -5,6 +5,7 @@ use mathlib.Core.List.{List, [], _∷_}
 use mathlib.Core.Logic.{_≢_}
 use Rattle.algebra.proofs.ring.CRing.{CRing}
 use Rattle.algebra.proofs.ring.Quote.{ring, quote, by}
+use Rattle.algebra.proofs.ring.Divides.{Divides}
 use Rattle.algebra.proofs.ring.Field.{Field}
 use Rattle.algebra.proofs.poly.Poly.{poly}
 use Rattle.algebra.proofs.poly.Degree.{mul-ne, right-ne, cancel}
@@ -101,7 +102,8 @@ module _ (K : Field) where
 
         -- the two divisors are multiples of one another
         with-units : (c c' : P) → z .d ≡ c * x .d → x .d ≡ c' * z .d → Alike U V' U2 V2
-        with-units c c' d-is D-is = go (any-triple R v1 v2 (on1 .0) (on2 .0) (e1 U V' x) (e2 U V' x) (e3 U V' x) (x .s1) (x .s2) (x .s3) (x .v) (c' * z .s1) (c' * z .s2) (c' * z .s3) (z .v)
+        with-units c c' d-is D-is = go (any-triple R v1 v2 (on1 .0) (on2 .0) (e1 U V' x) (e2 U V' x) (e3 U V' x) (x .s1) (x .s2) (x .s3) (x .v) (c' * z .s1)
+            (c' * z .s2) (c' * z .s3) (z .v)
             (at-w U V' x) (at-one U V' x) (at-v U V' x) one out)
           where
             nd : x .d ≢ 0P
@@ -110,17 +112,19 @@ module _ (K : Field) where
             units : c' * c ≡ 1P
             units = cancel K (x .d) (c' * c) 1P nd (by R (neg 1P) D-is (by R (neg c') d-is (ring R (c ∷ c' ∷ x .d ∷ z .d ∷ []) (search quote depth 40) refl)))
 
+            -- the cofactors of what both divide
+            cofactor : {a : P} (h : Divides R (x .d) a) (k : Divides R (z .d) a) → k .factor ≡ c' * h .factor
+            cofactor {a} h k = cancel K (x .d) (k .factor) (c' * h .factor) nd (by R (k .factor) D-is (by R (neg c') (k .is) (by R c' (h .is)
+                (ring R (a ∷ c' ∷ x .d ∷ z .d ∷ h .factor ∷ k .factor ∷ []) (search quote depth 40) refl))))
+
             e1-is : e1 U2 V2 z ≡ c' * e1 U V' x
-            e1-is = cancel K (x .d) (e1 U2 V2 z) (c' * e1 U V' x) nd (by R (e1 U2 V2 z) D-is (by R (neg c') (z .in-u1 .is) (by R c' (x .in-u1 .is)
-                (ring R (c' ∷ σ) (search quote depth 40) refl))))
+            e1-is = cofactor (x .in-u1) (z .in-u1)
 
             e2-is : e2 U2 V2 z ≡ c' * e2 U V' x
-            e2-is = cancel K (x .d) (e2 U2 V2 z) (c' * e2 U V' x) nd (by R (e2 U2 V2 z) D-is (by R (neg c') (z .in-u2 .is) (by R c' (x .in-u2 .is)
-                (ring R (c' ∷ σ) (search quote depth 40) refl))))
+            e2-is = cofactor (x .in-u2) (z .in-u2)
 
             e3-is : e3 U2 V2 z ≡ c' * e3 U V' x
-            e3-is = cancel K (x .d) (e3 U2 V2 z) (c' * e3 U V' x) nd (by R (e3 U2 V2 z) D-is (by R (neg c') (z .in-v .is) (by R c' (x .in-v .is)
-                (ring R (c' ∷ σ) (search quote depth 40) refl))))
+            e3-is = cofactor (x .in-v) (z .in-v)
 
             one : c' * z .s1 * e1 U V' x + c' * z .s2 * e2 U V' x + c' * z .s3 * e3 U V' x ≡ 1P
             one = by R 1P (at-one U2 V2 z) (by R (neg (z .s1)) e1-is (by R (neg (z .s2)) e2-is (by R (neg (z .s3)) e3-is (ring R (c' ∷ σ) (search quote depth 40) refl))))

@@ -48,7 +48,8 @@ module _ (K : Field) (g : ℕ) (f : poly (K .arith .base) .El) (hf : Degree K (s
       on3 = joined-on R f u2 v2 u1 (neg v1) u3 v3 H
 
       go : Divides R (norm R f (pri .gen)) u3 → Divides R u3 1P
-      go n = last (unit R f u3 v3 pri (conj-to R f sm u3 v3 (on3 .0) (on3 .1)) (conj-from R f sm u3 v3 (on3 .0) (on3 .1)) no-im) (member R f u3 v3 (on3 .0) (on3 .1) (pri .gen) (pri .gen-in))
+      go n = last (unit R f u3 v3 pri (conj-to R f sm u3 v3 (on3 .0) (on3 .1)) (conj-from R f sm u3 v3 (on3 .0) (on3 .1)) no-im)
+          (member R f u3 v3 (on3 .0) (on3 .1) (pri .gen) (pri .gen-in))
         where
           no-im : ima R f (pri .gen) ≡ 0P
           no-im = no-y K g f hf e u3 (n .factor) (pri .gen) du3 le (n .is)

@@ -4,16 +4,16 @@ use Prim.Native.Nat.{ℕ, suc}
 use mathlib.Core.Path.{_≡_, refl, sym, ap, ap₂, _∙_, subst}
 use mathlib.Core.List.{List, [], _∷_}
 use native.Mathlib.Omega.{arith}
-use lib.ListN.{length}
+use lib.ListN.{length, replicate, length-replicate}
 use Rattle.algebra.proofs.ring.CRing.{CRing, add-zer}
 use Rattle.algebra.proofs.ring.Quote.{ring, quote, by}
 use Rattle.algebra.proofs.poly.Series.{Ser}
 use Rattle.algebra.proofs.poly.Bound.{Below}
 use Rattle.algebra.proofs.poly.Poly.{poly, coef, coef-zer}
-use Rattle.algebra.proofs.poly.Term.{C, X, constants}
+use Rattle.algebra.proofs.poly.Term.{C, X}
 use Rattle.algebra.proofs.poly.Divide.{Division, quotient-unique, remainder-unique}
-use Rattle.algebra.proofs.list.Ops.{slide, less, zeros, divmod, quotient, remainder}
-use Rattle.algebra.proofs.list.Value.{pol, mon, mon-nil, mon-cons, pol-zeros, length-zeros, pol-below, mon-monic, pol-inj}
+use Rattle.algebra.proofs.list.Ops.{addL, scaleL, negL, slide, divmod, quotient, remainder}
+use Rattle.algebra.proofs.list.Value.{pol, mon, pol-nil, pol-cons, mon-nil, mon-cons, pol-add, pol-scale, pol-neg, pol-zeros, length-neg, length-scale, length-add, pol-below, mon-monic, pol-inj}
 
 -- one step of the division, in any ring: w is the power of x of the divisor b + w
 module _ (R : CRing) where
@@ -25,9 +25,7 @@ module _ (R : CRing) where
   step a x l q b w r s c h k = by R x h (by R 𝟙 k (ring R (a ∷ x ∷ l ∷ q ∷ b ∷ w ∷ r ∷ s ∷ c ∷ []) (search quote depth 40) refl))
 
 module _ (F : CRing) where
-  open CRing F using (El as A, mul as _⊠_, neg as ng)
-
-  infixl 70 _⊠_
+  open CRing F using (El as A)
   open CRing (poly F) using (El as P, add as _+_, mul as _*_, neg, zer as 0P, one as 1P)
 
   infixl 65 _+_
@@ -38,9 +36,10 @@ module _ (F : CRing) where
   power (a ∷ l) = X F * power l
 
   mon-split : (m : List A) → mon F m ≡ pol F m + power m
-  unfolding power pol
-  mon-split [] = mon-nil F ∙ sym (poly F .zer-add 1P)
+  unfolding power
+  mon-split [] = mon-nil F ∙ sym (ap (λ t. t + 1P) (pol-nil F) ∙ poly F .zer-add 1P)
   mon-split (a ∷ m) = mon-cons F a m ∙ ap (λ t. C F a + X F * t) (mon-split m) ∙ ring (poly F) (C F a ∷ X F ∷ pol F m ∷ power m ∷ []) (search quote depth 40) refl
+      ∙ ap (λ t. t + X F * power m) (sym (pol-cons F a m))
 
   power-len : (l m : List A) → length l ≡ length m → power l ≡ power m
   unfolding power
@@ -55,40 +54,33 @@ module _ (F : CRing) where
   length-slide a (x ∷ r) = ap suc (length-slide x r)
 
   slide-is : (a : A) (r : List A) → C F a + X F * pol F r ≡ pol F ((slide F a r) .0) + power r * C F ((slide F a r) .1)
-  unfolding slide pol power
-  slide-is a [] = ring (poly F) (C F a ∷ X F ∷ []) (search quote depth 40) refl
-  slide-is a (x ∷ r) = ap (λ t. C F a + X F * t) (slide-is x r)
+  unfolding slide power
+  slide-is a [] = rw (pol-nil F) (ring (poly F) (C F a ∷ X F ∷ []) (search quote depth 40) refl)
+  slide-is a (x ∷ r) = ap (λ t. C F a + X F * t) (pol-cons F x r ∙ slide-is x r)
       ∙ ring (poly F) (C F a ∷ X F ∷ pol F ((slide F x r) .0) ∷ power r ∷ C F ((slide F x r) .1) ∷ []) (search quote depth 40) refl
+      ∙ ap (λ t. t + X F * power r * C F ((slide F x r) .1)) (sym (pol-cons F a ((slide F x r) .0)))
 
-  length-less : (c : A) (r b : List A) → length (less F c r b) ≡ length r
-  unfolding less
-  length-less c [] b = refl
-  length-less c (x ∷ r) [] = refl
-  length-less c (x ∷ r) (y ∷ b) = ap suc (length-less c r b)
-
-  less-is : (c : A) (r b : List A) → length r ≡ length b → pol F (less F c r b) ≡ pol F r + neg (C F c * pol F b)
-  unfolding less pol
-  less-is c [] [] e = ring (poly F) (C F c ∷ []) (search quote depth 40) refl
-  less-is c [] (y ∷ b) e = absurd (omega arith)
-  less-is c (x ∷ r) [] e = absurd (omega arith)
-  less-is c (x ∷ r) (y ∷ b) e =
-      ap₂ (λ s t. s + X F * t) ((constants F) .h-add x (ng (c ⊠ y)) ∙ ap (λ t. C F x + t) ((constants F) .h-neg (c ⊠ y)
-      ∙ ap neg ((constants F) .h-mul c y))) (less-is c r b (omega arith))
-      ∙ ring (poly F) (C F c ∷ C F x ∷ C F y ∷ X F ∷ pol F r ∷ pol F b ∷ []) (search quote depth 40) refl
+  -- s - c m
+  less-is : (c : A) (s m : List A) → pol F (addL F s (negL F (scaleL F c m))) ≡ pol F s + neg (C F c * pol F m)
+  less-is c s m = pol-add F s (negL F (scaleL F c m)) ∙ ap (λ t. pol F s + t) (pol-neg F (scaleL F c m) ∙ ap neg (pol-scale F c m))
 
   length-divmod : (m l : List A) → length ((divmod F m l) .1) ≡ length m
   unfolding divmod
-  length-divmod m [] = length-zeros F m
-  length-divmod m (a ∷ l) = let s : List A × A = slide F a ((divmod F m l) .1) in
-      length-less (s .1) (s .0) m ∙ length-slide a ((divmod F m l) .1) ∙ length-divmod m l
+  length-divmod m [] = length-replicate (length m) (F .zer)
+  length-divmod m (a ∷ l) =
+      let s : List A × A = slide F a ((divmod F m l) .1) in
+      let same : length (s .0) ≡ length m = length-slide a ((divmod F m l) .1) ∙ length-divmod m l in
+      length-add F (s .0) (negL F (scaleL F (s .1) m)) (length-neg F (scaleL F (s .1) m) ∙ length-scale F (s .1) m ∙ sym same) ∙ same
 
   divmod-is : (m l : List A) → pol F l ≡ pol F ((divmod F m l) .0) * (pol F m + power m) + pol F ((divmod F m l) .1)
-  unfolding divmod pol
-  divmod-is m [] = ring (poly F) (pol F m ∷ power m ∷ []) (search quote depth 40) refl ∙ ap (λ t. 0P * (pol F m + power m) + t) (sym (pol-zeros F m))
+  unfolding divmod
+  divmod-is m [] = pol-nil F ∙ ring (poly F) (pol F m ∷ power m ∷ []) (search quote depth 40) refl
+      ∙ sym (ap₂ (λ s t. s * (pol F m + power m) + t) (pol-nil F) (pol-zeros F (length m)))
   divmod-is m (a ∷ l) =
-      step (poly F) (C F a) (X F) (pol F l) (pol F q) (pol F m) (power m) (pol F r) (pol F s) (C F c) (divmod-is m l)
+      pol-cons F a l
+      ∙ step (poly F) (C F a) (X F) (pol F l) (pol F q) (pol F m) (power m) (pol F r) (pol F s) (C F c) (divmod-is m l)
       (slide-is a r ∙ ap (λ t. pol F s + t * C F c) (power-len r m (length-divmod m l)))
-      ∙ ap (λ t. (C F c + X F * pol F q) * (pol F m + power m) + t) (sym (less-is c s m (length-slide a r ∙ length-divmod m l)))
+      ∙ sym (ap₂ (λ t z. t * (pol F m + power m) + z) (pol-cons F c q) (less-is c s m))
     where
       q : List A
       q = (divmod F m l) .0
@@ -125,7 +117,7 @@ module _ (F : CRing) where
   unfolding whole-division
   exact m l e h = quotient-unique F (length m) (mon F m) (pol F l) (mon-monic F m) (division m l) (whole-division m l e h)
 
-  pub no-rest : (m l : List A) (e : P) → pol F l ≡ e * mon F m → remainder F m l ≡ zeros F m
+  pub no-rest : (m l : List A) (e : P) → pol F l ≡ e * mon F m → remainder F m l ≡ replicate (length m) (F .zer)
   unfolding whole-division
-  no-rest m l e h = pol-inj F (remainder F m l) (zeros F m) (length-remainder m l ∙ sym (length-zeros F m))
-      (remainder-unique F (length m) (mon F m) (pol F l) (mon-monic F m) (division m l) (whole-division m l e h) ∙ sym (pol-zeros F m))
+  no-rest m l e h = pol-inj F (remainder F m l) (replicate (length m) (F .zer)) (length-remainder m l ∙ sym (length-replicate (length m) (F .zer)))
+      (remainder-unique F (length m) (mon F m) (pol F l) (mon-monic F m) (division m l) (whole-division m l e h) ∙ sym (pol-zeros F (length m)))

@@ -94,9 +94,9 @@ module _ (K : Field) where
   IsGcd m b x = Gcd (mon F m) (pol F b) (mon F (x .d)) (pol F (x .s)) (pol F (x .t))
 
   last-is : (m b : List A) → pol F b ≡ 0P → IsGcd m b (last Q m)
-  unfolding last pol
+  unfolding last whole
   last-is m b h = record {
-    bezout = ring (poly F) (mon F m ∷ X F ∷ pol F b ∷ []) (search quote depth 40) refl ∙ ap (λ t. (t + X F * 0P) * mon F m + 0P * pol F b) (sym ((constants F) .h-one));
+    bezout = ring (poly F) (mon F m ∷ pol F b ∷ []) (search quote depth 40) refl ∙ sym (ap₂ (λ s t. s * mon F m + t * pol F b) (pol-whole F [] ∙ mon-nil F) (pol-nil F));
     left = record { factor = 1P; is = sym (poly F .one-mul (mon F m)) };
     right = record { factor = 0P; is = h ∙ ring (poly F) (mon F m ∷ []) (search quote depth 40) refl };
   }
@@ -105,10 +105,14 @@ module _ (K : Field) where
       → IsGcd r (remainder F r (whole F m)) x → IsGcd m b (turn Q c (quotient F r (whole F m)) x)
   unfolding turn
   turn-is m b r c x hb nz h = record {
-    bezout = turned (poly F) (mon F m) (pol F b) (mon F r) (pol F q) (pol F (remainder F r (whole F m))) (mon F (x .d)) (pol F (x .s)) (pol F (x .t)) (C F c) (C F (Q .inv c)) (h .bezout) ha hb (C-inv c nz)
+    bezout = turned (poly F) (mon F m) (pol F b) (mon F r) (pol F q) (pol F (remainder F r (whole F m))) (mon F (x .d)) (pol F (x .s)) (pol F (x .t)) (C F c)
+        (C F (Q .inv c)) (h .bezout) ha hb (C-inv c nz)
         ∙ ap (λ t. pol F (x .t) * mon F m + t * pol F b) (sym (pol-scale F (Q .inv c) (addL F (x .s) (negL F (mulL F (x .t) q)))
         ∙ ap (λ t. C F (Q .inv c) * t) (pol-add F (x .s) (negL F (mulL F (x .t) q)) ∙ ap (λ t. pol F (x .s) + t) (pol-neg F (mulL F (x .t) q) ∙ ap neg (pol-mul F (x .t) q)))));
-    left = record { factor = pol F q * h .left .factor + h .right .factor; is = divides-on (poly F) (mon F m) (mon F r) (pol F q) (pol F (remainder F r (whole F m))) (mon F (x .d)) (h .left .factor) (h .right .factor) ha (h .left .is) (h .right .is) };
+    left = record {
+      factor = pol F q * h .left .factor + h .right .factor;
+      is = divides-on (poly F) (mon F m) (mon F r) (pol F q) (pol F (remainder F r (whole F m))) (mon F (x .d)) (h .left .factor) (h .right .factor) ha (h .left .is) (h .right .is);
+    };
     right = record { factor = C F c * h .left .factor; is = hb ∙ ap (λ t. C F c * t) (h .left .is) ∙ sym (poly F .mul-assoc (C F c) (h .left .factor) (mon F (x .d))) };
   }
     where
@@ -139,7 +143,11 @@ module _ (K : Field) where
       (by (poly F) 1P (h .is) (ring (poly F) (mon F l ∷ mon F m ∷ h .factor ∷ []) (search quote depth 40) refl))))
     where
       le : (x z : List A) → Divides (poly F) (mon F z) (mon F x) → length z ≤ length x
-      le x z d = omega (arith, deg-bound K (suc (length x)) (length z) (coef F (mon F z)) (mon-degree z) (factor-below K (length x) (mon F x) (mon F z) (d .factor) (mon-degree x) (d .is)))
+      le x z d = omega (
+        arith,
+        deg-bound K (suc (length x)) (length z) (coef F (mon F z)) (mon-degree z)
+            (factor-below K (length x) (mon F x) (mon F z) (d .factor) (mon-degree x) (d .is)),
+      )
 
       len : length l ≡ length m
       len = omega (arith, le l m h, le m l k)

@@ -5,7 +5,7 @@
 use Prim.Native.Nat.{ℕ, zero, suc}
 use mathlib.Core.List.{List, [], _∷_, _++_}
 use mathlib.Core.Bool.{Bool, true, false}
-use lib.ListN.{length}
+use lib.ListN.{length, replicate}
 use Rattle.algebra.proofs.ring.CRing.{CRing}
 use Rattle.algebra.proofs.ring.Field.{Arith}
 
@@ -48,21 +48,15 @@ module _ (F : CRing) where
   slide a [] = ([], a)
   slide a (x ∷ r) = let s : List A × A = slide x r in (a ∷ s .0, s .1)
 
-  -- r - c m, for equal lengths
-  unfoldable pub less : A → List A → List A → List A
-  less c [] m = []
-  less c (x ∷ r) [] = x ∷ r
-  less c (x ∷ r) (y ∷ m) = (x ⊞ neg (c ⊠ y)) ∷ less c r m
-
-  unfoldable pub zeros : List A → List A
-  zeros [] = []
-  zeros (x ∷ r) = 𝟘 ∷ zeros r
-
   -- quotient, and remainder of m's length
   unfoldable pub divmod : List A → List A → List A × List A
-  unfolding slide less zeros
-  divmod m [] = ([], zeros m)
-  divmod m (a ∷ l) = let qr : List A × List A = divmod m l in let s : List A × A = slide a (qr .1) in (s .1 ∷ qr .0, less (s .1) (s .0) m)
+  unfolding slide addL negL scaleL
+  divmod m [] = ([], replicate (length m) 𝟘)
+  divmod m (a ∷ l) =
+      let qr : List A × List A = divmod m l in
+      let s : List A × A = slide a (qr .1) in
+      let c : A = s .1 in
+      (c ∷ qr .0, addL (s .0) (negL (scaleL c m)))
 
   unfoldable pub quotient : List A → List A → List A
   unfolding divmod

@@ -1,18 +1,19 @@
--- What a list of coefficients means in K[x]. Gives: `pol l` and, of a monic polynomial by its lower coefficients, `mon m`; the
--- operations of list.Ops as operations of K[x]; coefficients and bounds; that lists of one length with one meaning are equal.
+-- What a list of coefficients means in K[x]. Gives: `pol l`, the polynomial with the coefficients l, and `mon m`, the monic one with the lower
+-- coefficients m; the operations of list.Ops as operations of K[x]; bounds; that lists of one length with one meaning are equal.
 -- Shut (`unfoldable`): `pol`, `mon`.
-use Prim.Native.Nat.{ℕ, zero, suc, _<_}
+use Prim.Native.Nat.{ℕ, zero, suc, _≤_, _<_}
 use mathlib.Core.Path.{_≡_, refl, sym, ap, ap₂, _∙_}
 use mathlib.Core.List.{List, [], _∷_, _++_}
 use native.Mathlib.Omega.{arith}
-use lib.ListN.{length, length-append}
+use lib.ListN.{getD, length, replicate, length-append, List·getD-eq-default, List·getD-append}
+use lib.Seq.{getD-at}
 use Rattle.algebra.proofs.ring.CRing.{CRing, add-zer}
 use Rattle.algebra.proofs.ring.Quote.{ring, quote}
-use Rattle.algebra.proofs.poly.Series.{Ser, con}
+use Rattle.algebra.proofs.poly.Series.{con}
 use Rattle.algebra.proofs.poly.Bound.{Below, Monic}
-use Rattle.algebra.proofs.poly.Poly.{poly, coef, coef-add, coef-zer}
-use Rattle.algebra.proofs.poly.Term.{C, X, constants, coef-C, coef-X-zero, coef-X-suc}
-use Rattle.algebra.proofs.list.Ops.{addL, scaleL, mulL, negL, whole, zeros}
+use Rattle.algebra.proofs.poly.Poly.{poly, coef, mk, coef-mk, poly-ext, coef-add, coef-zer}
+use Rattle.algebra.proofs.poly.Term.{at, C, X, constants, coef-C, coef-X-zero, coef-X-suc}
+use Rattle.algebra.proofs.list.Ops.{addL, scaleL, mulL, negL, whole}
 
 module _ (F : CRing) where
   open CRing F using (El as A, add as _⊞_, zer as 𝟘, one as 𝟙)
@@ -22,64 +23,82 @@ module _ (F : CRing) where
 
   infixl 65 _+_
   infixl 70 _*_
-  -- a0 + x (a1 + x (..))
+  pub beyond : (l : List A) (n : ℕ) → length l ≤ n → getD l n 𝟘 ≡ 𝟘
+  beyond l n g = List·getD-eq-default l 𝟘 g
+
+  -- the coefficient at n is the list's, and 0 past its end
   unfoldable pub pol : List A → P
-  pol [] = 0P
-  pol (a ∷ l) = C F a + X F * pol l
+  pol l = mk F (length l) (λ n. getD l n 𝟘) (beyond l)
 
   unfoldable pub mon : List A → P
   unfolding pol whole
   mon m = pol (whole F m)
 
-  pub pol-nil : pol [] ≡ 0P
+  pub coef-pol : (l : List A) (n : ℕ) → coef F (pol l) n ≡ getD l n 𝟘
   unfolding pol
-  pol-nil = refl
+  coef-pol l n = at F (coef-mk F (beyond l)) n
+
+  pub pol-below : (l : List A) → Below F (length l) (coef F (pol l))
+  pol-below l n g = coef-pol l n ∙ beyond l n g
+
+  -- ---- by the first coefficient: a0 + x (a1 + x (..))
+  pub pol-nil : pol [] ≡ 0P
+  pol-nil = poly-ext F (λ n. coef-pol [] n ∙ sym (at F (coef-zer F) n))
 
   pub pol-cons : (a : A) (l : List A) → pol (a ∷ l) ≡ C F a + X F * pol l
-  unfolding pol
-  pol-cons a l = refl
+  unfolding con
+  pol-cons a l = poly-ext F (λ n. coef-pol (a ∷ l) n ∙ sym (at F (coef-add F (C F a) (X F * pol l)) n ∙ ap (λ t. t ⊞ coef F (X F * pol l) n) (at F (coef-C F a) n) ∙ go n))
+    where
+      go : (n : ℕ) → con F a n ⊞ coef F (X F * pol l) n ≡ getD (a ∷ l) n 𝟘
+      go zero = ap (λ t. a ⊞ t) (coef-X-zero F (pol l)) ∙ add-zer F a
+      go (suc n) = ap (λ t. 𝟘 ⊞ t) (coef-X-suc F (pol l) n ∙ coef-pol l n) ∙ F .zer-add (getD l n 𝟘)
 
   pub pol-whole : (m : List A) → pol (whole F m) ≡ mon m
   unfolding mon
   pol-whole m = refl
 
   pub mon-nil : mon [] ≡ 1P
-  unfolding mon pol whole
-  mon-nil = ap (λ t. t + X F * 0P) ((constants F) .h-one) ∙ ring (poly F) (X F ∷ []) (search quote depth 40) refl
+  unfolding mon whole
+  mon-nil = pol-cons 𝟙 [] ∙ ap₂ (λ s t. s + X F * t) ((constants F) .h-one) pol-nil ∙ ring (poly F) (X F ∷ []) (search quote depth 40) refl
 
   pub mon-cons : (a : A) (m : List A) → mon (a ∷ m) ≡ C F a + X F * mon m
-  unfolding mon pol whole
-  mon-cons a m = refl
+  unfolding mon whole
+  mon-cons a m = pol-cons a (whole F m)
 
   -- ---- the operations
   pub pol-add : (l m : List A) → pol (addL F l m) ≡ pol l + pol m
-  unfolding addL pol
-  pol-add [] m = sym (poly F .zer-add (pol m))
-  pol-add (a ∷ l) [] = sym (add-zer (poly F) (C F a + X F * pol l))
-  pol-add (a ∷ l) (b ∷ m) = ap₂ (λ s t. s + X F * t) ((constants F) .h-add a b) (pol-add l m)
+  unfolding addL
+  pol-add [] m = sym (ap (λ t. t + pol m) pol-nil ∙ poly F .zer-add (pol m))
+  pol-add (a ∷ l) [] = sym (ap (λ t. pol (a ∷ l) + t) pol-nil ∙ add-zer (poly F) (pol (a ∷ l)))
+  pol-add (a ∷ l) (b ∷ m) = pol-cons (a ⊞ b) (addL F l m) ∙ ap₂ (λ s t. s + X F * t) ((constants F) .h-add a b) (pol-add l m)
       ∙ ring (poly F) (C F a ∷ C F b ∷ X F ∷ pol l ∷ pol m ∷ []) (search quote depth 40) refl
+      ∙ sym (ap₂ _+_ (pol-cons a l) (pol-cons b m))
 
   pub pol-scale : (c : A) (l : List A) → pol (scaleL F c l) ≡ C F c * pol l
-  unfolding scaleL pol
-  pol-scale c [] = ring (poly F) (C F c ∷ []) (search quote depth 40) refl
-  pol-scale c (a ∷ l) = ap₂ (λ s t. s + X F * t) ((constants F) .h-mul c a) (pol-scale c l)
+  unfolding scaleL
+  pol-scale c [] = rw pol-nil (ring (poly F) (C F c ∷ []) (search quote depth 40) refl)
+  pol-scale c (a ∷ l) = pol-cons (F .mul c a) (scaleL F c l) ∙ ap₂ (λ s t. s + X F * t) ((constants F) .h-mul c a) (pol-scale c l)
       ∙ ring (poly F) (C F c ∷ C F a ∷ X F ∷ pol l ∷ []) (search quote depth 40) refl
+      ∙ sym (ap (λ t. C F c * t) (pol-cons a l))
 
   pub pol-neg : (l : List A) → pol (negL F l) ≡ neg (pol l)
-  unfolding negL pol
-  pol-neg [] = ring (poly F) [] (search quote depth 40) refl
-  pol-neg (a ∷ l) = ap₂ (λ s t. s + X F * t) ((constants F) .h-neg a) (pol-neg l) ∙ ring (poly F) (C F a ∷ X F ∷ pol l ∷ []) (search quote depth 40) refl
+  unfolding negL
+  pol-neg [] = rw pol-nil (ring (poly F) [] (search quote depth 40) refl)
+  pol-neg (a ∷ l) = pol-cons (F .neg a) (negL F l) ∙ ap₂ (λ s t. s + X F * t) ((constants F) .h-neg a) (pol-neg l)
+      ∙ ring (poly F) (C F a ∷ X F ∷ pol l ∷ []) (search quote depth 40) refl
+      ∙ sym (ap neg (pol-cons a l))
 
   pub pol-mul : (l m : List A) → pol (mulL F l m) ≡ pol l * pol m
-  unfolding mulL pol
-  pol-mul [] m = ring (poly F) (pol m ∷ []) (search quote depth 40) refl
-  pol-mul (a ∷ l) m = pol-add (scaleL F a m) (𝟘 ∷ mulL F l m) ∙ ap₂ _+_ (pol-scale a m) (ap₂ (λ s t. s + X F * t) ((constants F) .h-zer) (pol-mul l m))
+  unfolding mulL
+  pol-mul [] m = rw pol-nil (ring (poly F) (pol m ∷ []) (search quote depth 40) refl)
+  pol-mul (a ∷ l) m = pol-add (scaleL F a m) (𝟘 ∷ mulL F l m)
+      ∙ ap₂ _+_ (pol-scale a m) (pol-cons 𝟘 (mulL F l m) ∙ ap₂ (λ s t. s + X F * t) ((constants F) .h-zer) (pol-mul l m))
       ∙ ring (poly F) (C F a ∷ X F ∷ pol l ∷ pol m ∷ []) (search quote depth 40) refl
+      ∙ sym (ap (λ t. t * pol m) (pol-cons a l))
 
-  pub pol-zeros : (m : List A) → pol (zeros F m) ≡ 0P
-  unfolding zeros pol
-  pol-zeros [] = refl
-  pol-zeros (x ∷ m) = ap₂ (λ s t. s + X F * t) ((constants F) .h-zer) (pol-zeros m) ∙ ring (poly F) (X F ∷ []) (search quote depth 40) refl
+  pub pol-zeros : (n : ℕ) → pol (replicate n 𝟘) ≡ 0P
+  pol-zeros zero = pol-nil
+  pol-zeros (suc n) = pol-cons 𝟘 (replicate n 𝟘) ∙ ap₂ (λ s t. s + X F * t) ((constants F) .h-zer) (pol-zeros n) ∙ ring (poly F) (X F ∷ []) (search quote depth 40) refl
 
   -- ---- lengths
   pub length-neg : (l : List A) → length (negL F l) ≡ length l
@@ -87,72 +106,39 @@ module _ (F : CRing) where
   length-neg [] = refl
   length-neg (a ∷ l) = ap suc (length-neg l)
 
-  pub length-zeros : (l : List A) → length (zeros F l) ≡ length l
-  unfolding zeros
-  length-zeros [] = refl
-  length-zeros (a ∷ l) = ap suc (length-zeros l)
+  pub length-scale : (c : A) (l : List A) → length (scaleL F c l) ≡ length l
+  unfolding scaleL
+  length-scale c [] = refl
+  length-scale c (a ∷ l) = ap suc (length-scale c l)
 
-  -- ---- coefficients and bounds
-  abbrev pub nth : List A → ℕ → A
-  nth [] n = 𝟘
-  nth (a ∷ l) zero = a
-  nth (a ∷ l) (suc n) = nth l n
+  pub length-add : (l m : List A) → length m ≡ length l → length (addL F l m) ≡ length l
+  unfolding addL
+  length-add [] m e = e
+  length-add (a ∷ l) [] e = refl
+  length-add (a ∷ l) (b ∷ m) e = ap suc (length-add l m (omega arith))
 
-  coef-cons : (a : A) (p : P) (n : ℕ) → coef F (C F a + X F * p) n ≡ con F a n ⊞ coef F (X F * p) n
-  coef-cons a p n = ap (λ (s : Ser F). s n) (coef-add F (C F a) (X F * p)) ∙ ap (λ (s : Ser F). s n ⊞ coef F (X F * p) n) (coef-C F a)
-
-  pub coef-pol : (l : List A) (n : ℕ) → coef F (pol l) n ≡ nth l n
-  unfolding con pol
-  coef-pol [] n = ap (λ (s : Ser F). s n) (coef-zer F)
-  coef-pol (a ∷ l) zero = coef-cons a (pol l) 0 ∙ ap (λ t. a ⊞ t) (coef-X-zero F (pol l)) ∙ add-zer F a
-  coef-pol (a ∷ l) (suc n) = coef-cons a (pol l) (suc n) ∙ ap (λ t. 𝟘 ⊞ t) (coef-X-suc F (pol l) n ∙ coef-pol l n) ∙ F .zer-add (nth l n)
-
-  pub nth-beyond : (l : List A) → Below F (length l) (nth l)
-  nth-beyond [] n g = refl
-  nth-beyond (a ∷ l) zero g = absurd (omega arith)
-  nth-beyond (a ∷ l) (suc n) g = nth-beyond l n (omega arith)
-
-  pub pol-below : (l : List A) → Below F (length l) (coef F (pol l))
-  pol-below l n g = coef-pol l n ∙ nth-beyond l n g
-
-  nth-whole : (m : List A) → nth (m ++ (𝟙 ∷ [])) (length m) ≡ 𝟙
-  nth-whole [] = refl
-  nth-whole (a ∷ m) = nth-whole m
-
+  -- ---- monic ones
   pub mon-monic : (m : List A) → Monic F (length m) (coef F (mon m))
   unfolding mon whole
   mon-monic m = record {
     below = λ k l. pol-below (m ++ (𝟙 ∷ [])) k (omega (arith, length-append m (𝟙 ∷ [])));
-    top = coef-pol (m ++ (𝟙 ∷ [])) (length m) ∙ nth-whole m;
+    top = coef-pol (m ++ (𝟙 ∷ [])) (length m) ∙ getD-at m 𝟙 [] 𝟘 (length m) refl;
   }
 
-  nth-front : (m : List A) (k : ℕ) → k < length m → nth (m ++ (𝟙 ∷ [])) k ≡ nth m k
-  nth-front [] k l = absurd (omega arith)
-  nth-front (a ∷ m) zero l = refl
-  nth-front (a ∷ m) (suc k) l = nth-front m k (omega arith)
-
   -- the lower coefficients of a monic one
-  pub coef-mon : (m : List A) (k : ℕ) → k < length m → coef F (mon m) k ≡ nth m k
+  pub coef-mon : (m : List A) (k : ℕ) → k < length m → coef F (mon m) k ≡ getD m k 𝟘
   unfolding mon whole
-  coef-mon m k l = coef-pol (m ++ (𝟙 ∷ [])) k ∙ nth-front m k l
+  coef-mon m k l = coef-pol (m ++ (𝟙 ∷ [])) k ∙ List·getD-append m (𝟙 ∷ []) 𝟘 k l
 
   -- ---- lists of one length with one meaning are equal
-  same-nth : (l m : List A) → length l ≡ length m → ((k : ℕ) → nth l k ≡ nth m k) → l ≡ m
-  same-nth [] [] e h = refl
-  same-nth [] (b ∷ m) e h = absurd (omega arith)
-  same-nth (a ∷ l) [] e h = absurd (omega arith)
-  same-nth (a ∷ l) (b ∷ m) e h = ap₂ _∷_ (h 0) (same-nth l m (omega arith) (λ k. h (suc k)))
+  same-at : (l m : List A) → length l ≡ length m → ((k : ℕ) → k < length l → getD l k 𝟘 ≡ getD m k 𝟘) → l ≡ m
+  same-at [] [] e h = refl
+  same-at [] (b ∷ m) e h = absurd (omega arith)
+  same-at (a ∷ l) [] e h = absurd (omega arith)
+  same-at (a ∷ l) (b ∷ m) e h = ap₂ _∷_ (h 0 (omega arith)) (same-at l m (omega arith) (λ k i. h (suc k) (omega arith)))
 
   pub pol-inj : (l m : List A) → length l ≡ length m → pol l ≡ pol m → l ≡ m
-  pol-inj l m e h = same-nth l m e (λ k. sym (coef-pol l k) ∙ ap (λ (t : P). coef F t k) h ∙ coef-pol m k)
+  pol-inj l m e h = same-at l m e (λ k i. sym (coef-pol l k) ∙ ap (λ (t : P). coef F t k) h ∙ coef-pol m k)
 
   pub mon-inj : (l m : List A) → length l ≡ length m → mon l ≡ mon m → l ≡ m
-  unfolding mon whole
-  mon-inj l m e h = same-nth l m e (λ k. drop-one l m k e (sym (coef-pol (l ++ (𝟙 ∷ [])) k) ∙ ap (λ (t : P). coef F t k) h ∙ coef-pol (m ++ (𝟙 ∷ [])) k))
-    where
-      drop-one : (x z : List A) (k : ℕ) → length x ≡ length z → nth (x ++ (𝟙 ∷ [])) k ≡ nth (z ++ (𝟙 ∷ [])) k → nth x k ≡ nth z k
-      drop-one [] [] k e p = refl
-      drop-one [] (b ∷ z) k e p = absurd (omega arith)
-      drop-one (a ∷ x) [] k e p = absurd (omega arith)
-      drop-one (a ∷ x) (b ∷ z) zero e p = p
-      drop-one (a ∷ x) (b ∷ z) (suc k) e p = drop-one x z k (omega arith) p
+  mon-inj l m e h = same-at l m e (λ k i. sym (coef-mon l k i) ∙ ap (λ (t : P). coef F t k) h ∙ coef-mon m k (omega arith))

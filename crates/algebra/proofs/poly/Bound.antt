@@ -51,7 +51,8 @@ module _ (F : CRing) where
       is-con zero = refl
       is-con (suc i) = h (suc i) (omega arith)
   lead-mul (suc m) n zero p q h g e = absurd (omega arith)
-  lead-mul (suc m) n (suc k) p q h g e = ap₂ _⊕_ (ap (λ t. p zero ⊗ t) (g (suc k) (omega arith)) ∙ mul-zer F (p zero)) (lead-mul m n k (tail F p) q (below-tail h) g (omega arith)) ∙ zer-add (p (suc m) ⊗ q n)
+  lead-mul (suc m) n (suc k) p q h g e = ap₂ _⊕_ (ap (λ t. p zero ⊗ t) (g (suc k) (omega arith)) ∙ mul-zer F (p zero))
+      (lead-mul m n k (tail F p) q (below-tail h) g (omega arith)) ∙ zer-add (p (suc m) ⊗ q n)
 
   pub record Monic (n : ℕ) (p : Ser F) : Type 0 where
     pub below : Below (suc n) p

@@ -15,15 +15,13 @@ use Rattle.algebra.proofs.poly.Poly.{poly, coef, poly-ext, coef-add, co
 use Rattle.algebra.proofs.poly.Term.{at, termS, termS-at, termS-off, term, coef-term}
 
 module _ (F : CRing) where
-  open CRing F using (El as A, add as _⊕_, mul as _⊗_, neg, zer as 𝟘, one as 𝟙, zer-add)
+  open CRing F using (El as A, add as _⊕_, neg, zer as 𝟘, zer-add)
 
   infixl 65 _⊕_
-  infixl 70 _⊗_
-  open CRing (poly F) using (El as Po, add as _+P_, mul as _*P_, neg as negP, zer as 0P, one as 1P)
+  open CRing (poly F) using (El as Po, add as _+P_, neg as negP, zer as 0P)
 
   infixl 65 _+P_
-  infixl 70 _*P_
-  -- two series that are equal at F every place but k, where they differ by a
+  -- two series that are equal at every place but k, where they differ by a
   pub put-is : (p q : Po) (a : A) (k : ℕ) → ((n : ℕ) → (n ≡ k → ⊥) → coef F q n ≡ coef F p n) → coef F q k ≡ coef F p k ⊕ a → q ≡ p +P term F a k
   put-is p q a k off on = poly-ext F (λ n. go n (ℕ-discrete n k) ∙ sym (at F (coef-add F p (term F a k)) n ∙ ap (λ t. coef F p n ⊕ t) (at F (coef-term F a k) n)))
     where
@@ -39,7 +37,8 @@ module _ (F : CRing) where
   pub part-below : (n : ℕ) (f : Ser F) → Below F n (coef F (part n f))
   unfolding part
   part-below zero f k l = at F (coef-zer F) k
-  part-below (suc n) f k l = at F (coef-add F (part n f) (term F (f n) n)) k ∙ ap₂ _⊕_ (part-below n f k (omega arith)) (at F (coef-term F (f n) n) k ∙ termS-off F (f n) n k (λ e. omega arith)) ∙ zer-add 𝟘
+  part-below (suc n) f k l = at F (coef-add F (part n f) (term F (f n) n)) k
+      ∙ ap₂ _⊕_ (part-below n f k (omega arith)) (at F (coef-term F (f n) n) k ∙ termS-off F (f n) n k (λ e. omega arith)) ∙ zer-add 𝟘
 
   part-same : (n : ℕ) (f g : Ser F) → ((k : ℕ) → k < n → f k ≡ g k) → part n f ≡ part n g
   unfolding part
@@ -56,7 +55,8 @@ module _ (F : CRing) where
       p' = p +P negP (term F (coef F p n) n)
 
       is : (k : ℕ) → coef F p' k ≡ coef F p k ⊕ neg (termS F (coef F p n) n k)
-      is k = at F (coef-add F p (negP (term F (coef F p n) n))) k ∙ ap (λ t. coef F p k ⊕ t) (at F (coef-neg F (term F (coef F p n) n)) k ∙ ap neg (at F (coef-term F (coef F p n) n) k))
+      is k = at F (coef-add F p (negP (term F (coef F p n) n))) k
+          ∙ ap (λ t. coef F p k ⊕ t) (at F (coef-neg F (term F (coef F p n) n)) k ∙ ap neg (at F (coef-term F (coef F p n) n) k))
 
       low : (k : ℕ) → k < n → coef F p k ≡ coef F p' k
       low k l = sym (is k ∙ ap (λ t. coef F p k ⊕ neg t) (termS-off F (coef F p n) n k (λ e. omega arith)) ∙ ap (λ t. coef F p k ⊕ t) (neg-zer F) ∙ add-zer F (coef F p k))

@@ -4,13 +4,13 @@
 -- most that of the product (`factor-below`).
 -- Open: `Degree`.
 use Prim.Native.Nat.{ℕ, zero, suc, _+_, _≤_, _<_, zero-le}
-use mathlib.Core.Path.{_≡_, refl, sym, ap, ap₂, _∙_, subst}
+use mathlib.Core.Path.{_≡_, refl, sym, ap, ap₂, _∙_, subst, fun-ext}
 use mathlib.Core.List.{[], _∷_}
 use mathlib.Core.Logic.{_≢_, _⊎_, inl, inr, ∥∥₁-elim}
 use native.Mathlib.Omega.{arith}
 use mathlib.Core.HLevel.{Π-prop}
 use native.Mathlib.Decide.{ℕ-discrete, decLe}
-use Rattle.algebra.proofs.ring.CRing.{CRing, add-zer, mul-zer, zer-mul, mul-one, eq-of-sub}
+use Rattle.algebra.proofs.ring.CRing.{CRing, mul-zer, zer-mul, mul-one, eq-of-sub}
 use Rattle.algebra.proofs.ring.Quote.{ring, quote, by}
 use Rattle.algebra.proofs.ring.Field.{Field, no-zero-divisors, neg-ne}
 use Rattle.algebra.proofs.poly.Series.{Ser, addS, negS, con, mulS}
@@ -49,10 +49,7 @@ module _ (K : Field) where
   }
 
   pub deg-add-right : {m n : ℕ} {p q : Ser F} → Deg n p → Below F m q → m ≤ n → Deg n (addS F p q)
-  deg-add-right {m} {n} {p} {q} g h l = record {
-    below = λ k i. ap₂ _⊞_ (g .below k i) (h k (omega arith)) ∙ zer-add 𝟘;
-    top = λ e. g .top (sym (ap (λ t. p n ⊞ t) (h n l) ∙ add-zer F (p n)) ∙ e);
-  }
+  deg-add-right {m} {n} {p} {q} g h l = subst (Deg n) (fun-ext (λ k. F .add-comm (q k) (p k))) (deg-add-left h g l)
 
   -- a bounded series is zero or has a degree
   pub deg-of : (n : ℕ) (p : Ser F) → Below F n p → ((k : ℕ) → p k ≡ 𝟘) ⊎ ((m : ℕ) × Deg m p)
@@ -102,9 +99,6 @@ module _ (K : Field) where
   mul-ne p q hp hq e = by-deg (λ (x y : ⊥). absurd x) p hp (λ m dm. by-deg (λ (x y : ⊥). absurd x) q hq (λ n dn. deg-ne (degree-mul p q dm dn) e))
 
   -- a factor of a nonzero polynomial is nonzero
-  pub left-ne : (p q : P) → p * q ≢ 0P → p ≢ 0P
-  left-ne p q h e = h (ap (λ t. t * q) e ∙ zer-mul (poly F) q)
-
   pub right-ne : (p q : P) → p * q ≢ 0P → q ≢ 0P
   right-ne p q h e = h (ap (λ t. p * t) e ∙ mul-zer (poly F) p)
 
@@ -156,7 +150,10 @@ module _ (K : Field) where
       scaled k = ap (λ (t : P). coef F t k) e ∙ ap (coef F (C F c * q)) {x = k} {y = 0 + k} (omega arith) ∙ coef-shift F c 0 k q
 
       upper : m < suc n
-      upper = deg-bound (suc n) m (coef F p) (record { below = λ k l. scaled k ∙ ap (λ t. c ⊗ t) (hq .below k l) ∙ mul-zer F c; top = λ z. nz (sym (mul-one F c) ∙ sym (ap (λ t. c ⊗ t) (hq .top)) ∙ sym (scaled m) ∙ z) }) (hp .below)
+      upper = deg-bound (suc n) m (coef F p) (record {
+        below = λ k l. scaled k ∙ ap (λ t. c ⊗ t) (hq .below k l) ∙ mul-zer F c;
+        top = λ z. nz (sym (mul-one F c) ∙ sym (ap (λ t. c ⊗ t) (hq .top)) ∙ sym (scaled m) ∙ z);
+      }) (hp .below)
 
       lower : n < suc m
       lower = deg-bound (suc m) n (coef F p) (deg-monic hp) (λ k l. scaled k ∙ ap (λ t. c ⊗ t) (hq .below k l) ∙ mul-zer F c)

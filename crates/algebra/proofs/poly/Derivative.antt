@@ -41,7 +41,8 @@ module _ (F : CRing) where
   leibniz p q zero = ring F (p 0 ∷ p 1 ∷ q 0 ∷ q 1 ∷ []) (search quote depth 40) refl
   leibniz p q (suc n) =
       ap (λ t. mulS F p q (suc (suc n)) ⊕ t) (der-add (sca F (p 0) (tail F q)) (mulS F (tail F p) q) n ∙ ap₂ _⊕_ (der-sca (p 0) (tail F q) n) (leibniz (tail F p) q n))
-      ∙ ring F (p 0 ∷ p 1 ∷ q (suc n) ∷ q (suc (suc n)) ∷ mulS F (tail F (tail F p)) q n ∷ der (tail F q) n ∷ mulS F (der (tail F p)) q n ∷ mulS F (tail F p) (der q) n ∷ []) (search quote depth 40) refl
+      ∙ ring F (p 0 ∷ p 1 ∷ q (suc n) ∷ q (suc (suc n)) ∷ mulS F (tail F (tail F p)) q n ∷ der (tail F q) n ∷ mulS F (der (tail F p)) q n
+      ∷ mulS F (tail F p) (der q) n ∷ []) (search quote depth 40) refl
       ∙ ap (λ t. p 1 ⊗ q (suc n) ⊕ t ⊕ mulS F p (der q) (suc n)) (sym (add-mulS F (tail F (tail F p)) (der (tail F p)) q n))
 
   pub der-zero : (p : Ser F) (k : ℕ) → ((i : ℕ) → k < i → p i ≡ 𝟘) → der p k ≡ 𝟘

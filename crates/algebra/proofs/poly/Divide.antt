@@ -14,7 +14,7 @@ use Rattle.algebra.proofs.poly.Poly.{poly, coef, coef-bounded, poly-ext
 use Rattle.algebra.proofs.poly.Term.{at, term, coef-shift}
 
 module _ (F : CRing) where
-  open CRing F using (El as A, add as _⊕_, mul as _⊗_, neg, zer as 𝟘, one as 𝟙, zer-add)
+  open CRing F using (El as A, add as _⊕_, mul as _⊗_, neg, zer as 𝟘)
 
   infixl 65 _⊕_
   infixl 70 _⊗_
@@ -28,7 +28,8 @@ module _ (F : CRing) where
   short-go d (suc n) u z m h b = short-go d n u z m h (λ k l. go k l (ℕ-discrete k n))
     where
       top : coef F z n ≡ 𝟘
-      top = sym (F .one-mul (coef F z n)) ∙ ap (λ t. t ⊗ coef F z n) (sym (m .top)) ∙ sym (lead-mul F d n (d + n) (coef F u) (coef F z) (m .below) b refl) ∙ sym (at F (coef-mul F u z) (d + n)) ∙ h (d + n) (omega arith)
+      top = sym (F .one-mul (coef F z n)) ∙ ap (λ t. t ⊗ coef F z n) (sym (m .top)) ∙ sym (lead-mul F d n (d + n) (coef F u) (coef F z) (m .below) b refl)
+          ∙ sym (at F (coef-mul F u z) (d + n)) ∙ h (d + n) (omega arith)
 
       go : (k : ℕ) → n ≤ k → Dec (k ≡ n) → coef F z k ≡ 𝟘
       go k l (yes e) = ap (coef F z) e ∙ top
@@ -52,7 +53,8 @@ module _ (F : CRing) where
 
   -- one step: the leading term c x^n of p goes, n being at least d
   falls : (d n : ℕ) (u p : Po) → Monic F d (coef F u) → d ≤ n → Below F (suc n) (coef F p) → Below F n (coef F (p +P negP (term F (coef F p n) (n - d) *P u)))
-  falls d n u p m l b k g = at F (coef-add F p (negP (term F c (n - d) *P u))) k ∙ ap (λ t. coef F p k ⊕ t) (at F (coef-neg F (term F c (n - d) *P u)) k ∙ ap neg shifted) ∙ go (ℕ-discrete k n)
+  falls d n u p m l b k g = at F (coef-add F p (negP (term F c (n - d) *P u))) k
+      ∙ ap (λ t. coef F p k ⊕ t) (at F (coef-neg F (term F c (n - d) *P u)) k ∙ ap neg shifted) ∙ go (ℕ-discrete k n)
     where
       c : A
       c = coef F p n
@@ -79,10 +81,15 @@ module _ (F : CRing) where
 
   -- there is one answer
   pub quotient-unique : (d : ℕ) (u p : Po) → Monic F d (coef F u) → (x y : Division d u p) → x .quotient ≡ y .quotient
-  quotient-unique d u p m x y = eq-of-sub (poly F) (x .quotient) (y .quotient) (short-multiple d u (x .quotient +P negP (y .quotient)) m (λ k l. at F (ap (coef F) diff) k ∙ at F (coef-add F (y .remainder) (negP (x .remainder))) k ∙ ap₂ _⊕_ (y .short k l) (at F (coef-neg F (x .remainder)) k ∙ ap neg (x .short k l)) ∙ ring F [] (search quote depth 40) refl))
+  quotient-unique d u p m x y = eq-of-sub (poly F) (x .quotient) (y .quotient)
+      (short-multiple d u (x .quotient +P negP (y .quotient)) m
+      (λ k l. at F (ap (coef F) diff) k ∙ at F (coef-add F (y .remainder) (negP (x .remainder))) k
+      ∙ ap₂ _⊕_ (y .short k l) (at F (coef-neg F (x .remainder)) k ∙ ap neg (x .short k l)) ∙ ring F [] (search quote depth 40) refl))
     where
       diff : u *P (x .quotient +P negP (y .quotient)) ≡ y .remainder +P negP (x .remainder)
-      diff = by (poly F) 1P (y .is) (by (poly F) (negP 1P) (x .is) (ring (poly F) (u ∷ p ∷ x .quotient ∷ y .quotient ∷ x .remainder ∷ y .remainder ∷ []) (search quote depth 40) refl))
+      diff = by (poly F) 1P (y .is) (by (poly F) (negP 1P) (x .is)
+          (ring (poly F) (u ∷ p ∷ x .quotient ∷ y .quotient ∷ x .remainder ∷ y .remainder ∷ []) (search quote depth 40) refl))
 
   pub remainder-unique : (d : ℕ) (u p : Po) → Monic F d (coef F u) → (x y : Division d u p) → x .remainder ≡ y .remainder
-  remainder-unique d u p m x y = by (poly F) (negP u) (quotient-unique d u p m x y) (by (poly F) (negP 1P) (x .is) (by (poly F) 1P (y .is) (ring (poly F) (u ∷ p ∷ x .quotient ∷ y .quotient ∷ x .remainder ∷ y .remainder ∷ []) (search quote depth 40) refl)))
+  remainder-unique d u p m x y = by (poly F) (negP u) (quotient-unique d u p m x y)
+      (by (poly F) (negP 1P) (x .is) (by (poly F) 1P (y .is) (ring (poly F) (u ∷ p ∷ x .quotient ∷ y .quotient ∷ x .remainder ∷ y .remainder ∷ []) (search quote depth 40) refl)))

@@ -41,12 +41,6 @@ module _ (F : CRing) where
   mulS p q zero = p zero * q zero
   mulS p q (suc n) = p zero * q (suc n) + mulS (tail p) q n
 
-  pub mul-addS : (p q r : Ser) (n : ℕ) → mulS p (addS q r) n ≡ mulS p q n + mulS p r n
-  unfolding mulS
-  mul-addS p q r zero = ring F (p 0 ∷ q 0 ∷ r 0 ∷ []) (search quote depth 40) refl
-  mul-addS p q r (suc n) = ap (λ t. p zero * (q (suc n) + r (suc n)) + t) (mul-addS (tail p) q r n)
-      ∙ ring F (p 0 ∷ q (suc n) ∷ r (suc n) ∷ mulS (tail p) q n ∷ mulS (tail p) r n ∷ []) (search quote depth 40) refl
-
   pub add-mulS : (p q r : Ser) (n : ℕ) → mulS (addS p q) r n ≡ mulS p r n + mulS q r n
   unfolding mulS
   add-mulS p q r zero = ring F (p 0 ∷ q 0 ∷ r 0 ∷ []) (search quote depth 40) refl
@@ -80,7 +74,8 @@ module _ (F : CRing) where
   pub mulS-assoc : (p q r : Ser) (n : ℕ) → mulS (mulS p q) r n ≡ mulS p (mulS q r) n
   unfolding mulS
   mulS-assoc p q r zero = mul-assoc (p 0) (q 0) (r 0)
-  mulS-assoc p q r (suc n) = ap (λ t. p zero * q zero * r (suc n) + t) (add-mulS (sca (p 0) (tail q)) (mulS (tail p) q) r n ∙ ap₂ _+_ (sca-mulS (p 0) (tail q) r n) (mulS-assoc (tail p) q r n))
+  mulS-assoc p q r (suc n) = ap (λ t. p zero * q zero * r (suc n) + t)
+      (add-mulS (sca (p 0) (tail q)) (mulS (tail p) q) r n ∙ ap₂ _+_ (sca-mulS (p 0) (tail q) r n) (mulS-assoc (tail p) q r n))
       ∙ ring F (p 0 ∷ q 0 ∷ r (suc n) ∷ mulS (tail q) r n ∷ mulS (tail p) (mulS q r) n ∷ []) (search quote depth 40) refl
 
   pub con-mulS : (c : A) (q : Ser) (n : ℕ) → mulS (con c) q n ≡ c * q n

@@ -8,13 +8,10 @@ pub record Divides (R : CRing) (d a : R .El) : Type 0 where
   pub is : a ≡ R .mul factor d
 
 module _ (R : CRing) where
-  open CRing R using (El as A, add as _+_, mul as _*_, neg, zer as 𝟘, one as 𝟙, mul-assoc, mul-comm, one-mul, add-mul)
+  open CRing R using (El as A, add as _+_, mul as _*_, neg, zer as 𝟘, mul-assoc, add-mul)
 
   infixl 65 _+_
   infixl 70 _*_
-  pub divides-self : (a : A) → Divides R a a
-  divides-self a = record { factor = 𝟙; is = sym (one-mul a) }
-
   pub divides-zer : (d : A) → Divides R d 𝟘
   divides-zer d = record { factor = 𝟘; is = sym (zer-mul R d) }
 

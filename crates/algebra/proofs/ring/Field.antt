@@ -1,6 +1,6 @@
 -- Rings to calculate in, and fields. Gives: `Arith`, a ring whose equality is decided, with a function for the inverse, of which nothing
--- is promised (so that a rule can calculate modulo any number); `Field`, an `Arith` whose inverse is right; and that a field has no
--- zero divisors.
+-- is promised (so that a rule can calculate modulo any number); `Field`, an `Arith` whose inverse is right; and that in a field
+-- products and opposites of nonzero elements are nonzero.
 use mathlib.Core.Path.{_≡_, sym, ap, _∙_}
 use mathlib.Core.Logic.{_≢_}
 use Rattle.algebra.proofs.ring.CRing.{CRing, mul-zer, neg-neg, neg-zer}

@@ -1,10 +1,11 @@
 -- Normal forms of ring expressions. Gives: expressions `Ex` over numbered atoms with their value `den` in a ring, and `solve`: two
 -- expressions whose normal forms are the same list of signed monomials have the same value in every commutative ring.
 -- Open (`abbrev`): all that computes, so that `refl` compares normal forms. Callers come through ring.Quote.
-use Prim.Native.Nat.{ℕ, zero, suc, _+_, _^_, compare, Ordering, Ordering·lt, Ordering·eq, Ordering·gt}
+use Prim.Native.Nat.{ℕ, _+_, _^_, compare, Ordering, Ordering·lt, Ordering·eq, Ordering·gt}
 use mathlib.Core.Path.{_≡_, refl, sym, ap, ap₂, _∙_}
 use mathlib.Core.List.{List, [], _∷_}
 use mathlib.Core.Bool.{Bool, true, false}
+use lib.ListN.{getD}
 use Rattle.algebra.proofs.ring.CRing.{CRing, add-zer, add-neg, add-left-comm, mul-left-comm, mul-one, mul-add, eq-of-sub, zer-mul, mul-zer, neg-mul, mul-neg, neg-neg, neg-zer, neg-of-add}
 
 pub data Ex : Type 0 where
@@ -82,17 +83,12 @@ abbrev pub Same : Ex → Ex → Type 0
 Same a b = let s : Sum = flat (pl a (ne b)) in plus s ≡ plus (opp s)
 
 module _ (R : CRing) where
-  open CRing R using (El as A, add as _⊕_, mul as _⊗_, neg, zer as 𝟘, one as 𝟙, add-assoc, add-comm, zer-add, neg-add, mul-assoc, mul-comm, one-mul, add-mul)
+  open CRing R using (El as A, add as _⊕_, mul as _⊗_, neg, zer as 𝟘, one as 𝟙, add-assoc, zer-add, mul-assoc, one-mul, add-mul)
 
   infixl 65 _⊕_
   infixl 70 _⊗_
-  abbrev pub nth : List A → ℕ → A
-  nth [] i = 𝟘
-  nth (x ∷ ρ) zero = x
-  nth (x ∷ ρ) (suc i) = nth ρ i
-
   abbrev pub den : List A → Ex → A
-  den ρ (va i) = nth ρ i
+  den ρ (va i) = getD ρ i 𝟘
   den ρ zr = 𝟘
   den ρ on = 𝟙
   den ρ (pl a b) = den ρ a ⊕ den ρ b
@@ -100,9 +96,13 @@ module _ (R : CRing) where
   den ρ (ne a) = neg (den ρ a)
 
   module _ (ρ : List A) where
+    -- the i-th atom
+    abbrev atom : ℕ → A
+    atom i = getD ρ i 𝟘
+
     abbrev mono : List ℕ → A
     mono [] = 𝟙
-    mono (i ∷ m) = nth ρ i ⊗ mono m
+    mono (i ∷ m) = atom i ⊗ mono m
 
     abbrev sg : Bool → A → A
     sg true a = a
@@ -122,26 +122,28 @@ module _ (R : CRing) where
 
     mono-cat : (m n : List ℕ) → mono (cat m n) ≡ mono m ⊗ mono n
     mono-cat [] n = sym (one-mul (mono n))
-    mono-cat (i ∷ m) n = ap (λ t. nth ρ i ⊗ t) (mono-cat m n) ∙ sym (mul-assoc (nth ρ i) (mono m) (mono n))
+    mono-cat (i ∷ m) n = ap (λ t. atom i ⊗ t) (mono-cat m n) ∙ sym (mul-assoc (atom i) (mono m) (mono n))
 
-    mono-ins : (i : ℕ) (m : List ℕ) → mono (ins i m) ≡ nth ρ i ⊗ mono m
+    mono-ins : (i : ℕ) (m : List ℕ) → mono (ins i m) ≡ atom i ⊗ mono m
     mono-ins i [] = refl
     mono-ins i (j ∷ m) = go (compare i j) (mono-ins i m)
       where
-        go : (o : Ordering) → mono (ins i m) ≡ nth ρ i ⊗ mono m → mono (elim o [ Ordering·lt ↦ i ∷ j ∷ m | Ordering·eq ↦ i ∷ j ∷ m | Ordering·gt ↦ j ∷ ins i m ]) ≡ nth ρ i ⊗ (nth ρ j ⊗ mono m)
+        go : (o : Ordering) → mono (ins i m) ≡ atom i ⊗ mono m
+            → mono (elim o [ Ordering·lt ↦ i ∷ j ∷ m | Ordering·eq ↦ i ∷ j ∷ m | Ordering·gt ↦ j ∷ ins i m ]) ≡ atom i ⊗ (atom j ⊗ mono m)
         go Ordering·lt h = refl
         go Ordering·eq h = refl
-        go Ordering·gt h = ap (λ t. nth ρ j ⊗ t) h ∙ mul-left-comm R (nth ρ j) (nth ρ i) (mono m)
+        go Ordering·gt h = ap (λ t. atom j ⊗ t) h ∙ mul-left-comm R (atom j) (atom i) (mono m)
 
     mono-sort : (m : List ℕ) → mono (sort m) ≡ mono m
     mono-sort [] = refl
-    mono-sort (i ∷ m) = mono-ins i (sort m) ∙ ap (λ t. nth ρ i ⊗ t) (mono-sort m)
+    mono-sort (i ∷ m) = mono-ins i (sort m) ∙ ap (λ t. atom i ⊗ t) (mono-sort m)
 
     val-ins : (k : ℕ) (m : List ℕ) (r : NF) → val (insN k m r) ≡ mono m ⊕ val r
     val-ins k m nil = ap (λ t. t ⊕ 𝟘) (add-zer R (mono m))
     val-ins k m (cons l n r) = go (compare k l) (val-ins k m r)
       where
-        go : (o : Ordering) → val (insN k m r) ≡ mono m ⊕ val r → val (elim o [ Ordering·lt ↦ cons k (m ∷ []) (cons l n r) | Ordering·eq ↦ cons l (m ∷ n) r | Ordering·gt ↦ cons l n (insN k m r) ]) ≡ mono m ⊕ (group n ⊕ val r)
+        go : (o : Ordering) → val (insN k m r) ≡ mono m ⊕ val r
+            → val (elim o [ Ordering·lt ↦ cons k (m ∷ []) (cons l n r) | Ordering·eq ↦ cons l (m ∷ n) r | Ordering·gt ↦ cons l n (insN k m r) ]) ≡ mono m ⊕ (group n ⊕ val r)
         go Ordering·lt h = ap (λ t. t ⊕ (group n ⊕ val r)) (add-zer R (mono m))
         go Ordering·eq h = add-assoc (mono m) (group n) (val r)
         go Ordering·gt h = ap (λ t. group n ⊕ t) h ∙ add-left-comm R (group n) (mono m) (val r)
@@ -166,14 +168,15 @@ module _ (R : CRing) where
 
     total-scale : (s : Bool) (k : ℕ) (m : List ℕ) (t : Sum) → total (scale s k m t) ≡ sg s (mono m) ⊗ total t
     total-scale s k m none = sym (mul-zer R (sg s (mono m)))
-    total-scale s k m (more t l n r) = ap₂ _⊕_ (ap (sg (same s t)) (mono-cat m n) ∙ sg-same s t (mono m) (mono n)) (total-scale s k m r) ∙ sym (mul-add R (sg s (mono m)) (sg t (mono n)) (total r))
+    total-scale s k m (more t l n r) = ap₂ _⊕_ (ap (sg (same s t)) (mono-cat m n) ∙ sg-same s t (mono m) (mono n)) (total-scale s k m r)
+        ∙ sym (mul-add R (sg s (mono m)) (sg t (mono n)) (total r))
 
     total-times : (s t : Sum) → total (times s t) ≡ total s ⊗ total t
     total-times none t = sym (zer-mul R (total t))
     total-times (more s k m r) t = total-both (scale s k m t) (times r t) ∙ ap₂ _⊕_ (total-scale s k m t) (total-times r t) ∙ sym (add-mul (sg s (mono m)) (total r) (total t))
 
     flat-sound : (e : Ex) → total (flat e) ≡ den ρ e
-    flat-sound (va i) = add-zer R (nth ρ i ⊗ 𝟙) ∙ mul-one R (nth ρ i)
+    flat-sound (va i) = add-zer R (atom i ⊗ 𝟙) ∙ mul-one R (atom i)
     flat-sound zr = refl
     flat-sound on = add-zer R 𝟙
     flat-sound (pl a b) = total-both (flat a) (flat b) ∙ ap₂ _⊕_ (flat-sound a) (flat-sound b)
@@ -182,8 +185,11 @@ module _ (R : CRing) where
 
     split : (s : Sum) → total s ≡ val (plus s) ⊕ neg (val (plus (opp s)))
     split none = sym (add-neg R 𝟘)
-    split (more true k m r) = ap₂ _⊕_ (sym (mono-sort m)) (split r) ∙ sym (add-assoc (mono (sort m)) (val (plus r)) (neg (val (plus (opp r))))) ∙ ap (λ t. t ⊕ neg (val (plus (opp r)))) (sym (val-ins k (sort m) (plus r)))
-    split (more false k m r) = ap₂ _⊕_ (ap neg (sym (mono-sort m))) (split r) ∙ add-left-comm R (neg (mono (sort m))) (val (plus r)) (neg (val (plus (opp r)))) ∙ ap (λ t. val (plus r) ⊕ t) (sym (neg-of-add R (mono (sort m)) (val (plus (opp r)))) ∙ ap neg (sym (val-ins k (sort m) (plus (opp r)))))
+    split (more true k m r) = ap₂ _⊕_ (sym (mono-sort m)) (split r) ∙ sym (add-assoc (mono (sort m)) (val (plus r)) (neg (val (plus (opp r)))))
+        ∙ ap (λ t. t ⊕ neg (val (plus (opp r)))) (sym (val-ins k (sort m) (plus r)))
+    split (more false k m r) = ap₂ _⊕_ (ap neg (sym (mono-sort m))) (split r) ∙ add-left-comm R (neg (mono (sort m))) (val (plus r)) (neg (val (plus (opp r))))
+        ∙ ap (λ t. val (plus r) ⊕ t) (sym (neg-of-add R (mono (sort m)) (val (plus (opp r)))) ∙ ap neg (sym (val-ins k (sort m) (plus (opp r)))))
 
     pub solve : (a b : Ex) → Same a b → den ρ a ≡ den ρ b
-    solve a b h = eq-of-sub R (den ρ a) (den ρ b) (sym (flat-sound (pl a (ne b))) ∙ split (flat (pl a (ne b))) ∙ ap (λ t. val t ⊕ neg (val (plus (opp (flat (pl a (ne b))))))) h ∙ add-neg R (val (plus (opp (flat (pl a (ne b)))))))
+    solve a b h = eq-of-sub R (den ρ a) (den ρ b) (sym (flat-sound (pl a (ne b))) ∙ split (flat (pl a (ne b)))
+        ∙ ap (λ t. val t ⊕ neg (val (plus (opp (flat (pl a (ne b))))))) h ∙ add-neg R (val (plus (opp (flat (pl a (ne b)))))))

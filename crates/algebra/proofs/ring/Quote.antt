@@ -6,8 +6,9 @@
 use Prim.Native.Nat.{ℕ, zero, suc}
 use mathlib.Core.Path.{_≡_, refl, sym, ap, ap₂, _∙_}
 use mathlib.Core.List.{List, [], _∷_}
+use lib.ListN.{getD}
 use Rattle.algebra.proofs.ring.CRing.{CRing, cancel-left}
-use Rattle.algebra.proofs.ring.Normal.{Ex, va, zr, on, pl, ti, ne, nth, den, Same, solve}
+use Rattle.algebra.proofs.ring.Normal.{Ex, va, zr, on, pl, ti, ne, den, Same, solve}
 
 module _ (R : CRing) where
   open CRing R using (El as A, add as _⊕_, mul as _⊗_, neg, zer as 𝟘, one as 𝟙)
@@ -16,7 +17,7 @@ module _ (R : CRing) where
   infixl 70 _⊗_
   pub record At (ρ : List A) (x : A) : Type 0 where
     pub at : ℕ
-    pub at-is : nth R ρ at ≡ x
+    pub at-is : getD ρ at 𝟘 ≡ x
 
   pub record Quo (ρ : List A) (x : A) : Type 0 where
     pub ex : Ex

@@ -60,7 +60,8 @@ no-divisor-sound p zero t e h k = absurd (omega arith)
 no-divisor-sound p (suc zero) t e h k = absurd (omega arith)
 no-divisor-sound p (suc (suc d)) t e h k = go (p % suc (suc d)) refl t (ℕ-discrete e (suc (suc d))) (λ u l. no-divisor-sound p (suc d) u e h l)
   where
-    go : (r : ℕ) → p % suc (suc d) ≡ r → IsTrue (elim r [ zero ↦ false | suc r ↦ no-divisor p (suc d) ]) → Dec (e ≡ suc (suc d)) → (IsTrue (no-divisor p (suc d)) → e ≤ suc d → 0 < p % e) → 0 < p % e
+    go : (r : ℕ) → p % suc (suc d) ≡ r → IsTrue (elim r [ zero ↦ false | suc r ↦ no-divisor p (suc d) ]) → Dec (e ≡ suc (suc d))
+        → (IsTrue (no-divisor p (suc d)) → e ≤ suc d → 0 < p % e) → 0 < p % e
     go zero q u w rec = absurd u
     go (suc r) q u (yes w) rec = subst (λ (x : ℕ). 0 < p % x) (sym w) (omega arith)
     go (suc r) q u (no w) rec = rec u (omega arith)

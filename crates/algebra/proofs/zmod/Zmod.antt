@@ -5,7 +5,7 @@
 use Prim.Native.Nat.{ℕ, suc, _+_, _*_, _-_, _/_, _%_, _≤_, _<_}
 use mathlib.Core.Path.{_≡_, refl, sym, ap, _∙_}
 use mathlib.Core.List.{[], _∷_}
-use mathlib.Core.HLevel.{hedberg, Σ-prop-path}
+use mathlib.Core.HLevel.{hedberg, Σ-set, Σ-prop-path, prop→set}
 use native.Mathlib.Omega.{arith}
 use native.Mathlib.Bridge.{le-prop}
 use native.Mathlib.Decide.{ℕ-discrete}
@@ -22,67 +22,81 @@ mod-mul-mod a b m = sym (ap (λ t. t % m) e ∙ mul-add-mod-self-left m ((a / m)
 pub mul-mod-mod : (a b m : ℕ) → a * (b % m) % m ≡ a * b % m
 mul-mod-mod a b m = ap (λ t. t % m) (mul-comm a (b % m)) ∙ mod-mul-mod b a m ∙ ap (λ t. t % m) (mul-comm b a)
 
-module _ (p : ℕ) (pos : 0 < p) where
-  abbrev pub Z : Type 0
-  Z = (n : ℕ) × (n < p)
+pub positive : (p : ℕ) → 0 < suc (p - 1)
+positive p = omega arith
 
-  pub z-path : {a b : Z} → a .0 ≡ b .0 → a ≡ b
-  z-path {a} {b} e = Σ-prop-path (λ (k : ℕ). le-prop {n = suc k} {m = p}) {u = a} {v = b} e
+module _ (p : ℕ) where
+  -- p itself, but for p = 0
+  abbrev q : ℕ
+  q = suc (p - 1)
+
+  abbrev pub Z : Type 0
+  Z = (n : ℕ) × (n < q)
 
   abbrev pub cast : ℕ → Z
-  cast n = (n % p, mod-lt n pos)
+  cast n = (n % q, mod-lt n (positive p))
+
+  pub z-path : {a b : Z} → a .0 ≡ b .0 → a ≡ b
+  z-path {a} {b} e = Σ-prop-path (λ (k : ℕ). le-prop {n = suc k} {m = q}) {u = a} {v = b} e
 
   pub cast-of : (a : Z) → cast (a .0) ≡ a
   cast-of a = z-path (mod-eq-of-lt (a .1))
 
-  unfoldable pub Z-discrete : Discrete Z
-  unfolding ℕ-discrete
-  Z-discrete a b = go (ℕ-discrete (a .0) (b .0))
-    where
-      go : Dec (a .0 ≡ b .0) → Dec (a ≡ b)
-      go (yes e) = yes (z-path e)
-      go (no n) = no (λ e. n (ap (λ (z : Z). z .0) e))
+  -- ---- the laws, on numbers
+  module _ (a b c : Z) where
+    pub Z-add-assoc : cast ((cast (a .0 + b .0)) .0 + c .0) ≡ cast (a .0 + (cast (b .0 + c .0)) .0)
+    Z-add-assoc = z-path (mod-add-mod (a .0 + b .0) q (c .0) ∙ ap (λ t. t % q) (add-assoc (a .0) (b .0) (c .0)) ∙ sym (add-mod-mod (a .0) (b .0 + c .0) q))
 
-  unfoldable pub residues : CRing
-  residues = record {
+    pub Z-mul-assoc : cast ((cast (a .0 * b .0)) .0 * c .0) ≡ cast (a .0 * (cast (b .0 * c .0)) .0)
+    Z-mul-assoc = z-path (mod-mul-mod (a .0 * b .0) (c .0) q ∙ ap (λ t. t % q) (mul-assoc (a .0) (b .0) (c .0)) ∙ sym (mul-mod-mod (a .0) (b .0 * c .0) q))
+
+    pub Z-add-mul : cast ((cast (a .0 + b .0)) .0 * c .0) ≡ cast ((cast (a .0 * c .0)) .0 + (cast (b .0 * c .0)) .0)
+    Z-add-mul = z-path (mod-mul-mod (a .0 + b .0) (c .0) q ∙ ap (λ t. t % q) (add-mul (a .0) (b .0) (c .0))
+        ∙ sym (mod-add-mod (a .0 * c .0) q (b .0 * c .0 % q) ∙ add-mod-mod (a .0 * c .0) (b .0 * c .0) q))
+
+  pub Z-zer-add : (a : Z) → cast ((cast 0) .0 + a .0) ≡ a
+  Z-zer-add a = z-path (mod-add-mod 0 q (a .0) ∙ ap (λ t. t % q) (zero-add (a .0)) ∙ mod-eq-of-lt (a .1))
+
+  pub Z-neg-add : (a : Z) → cast ((cast (q - a .0)) .0 + a .0) ≡ cast 0
+  Z-neg-add a = z-path (mod-add-mod (q - a .0) q (a .0) ∙ ap (λ t. t % q) {x = q - a .0 + a .0} {y = q} (omega (arith, a .1)) ∙ mod-self q ∙ sym (mod-eq-of-lt (positive p)))
+
+  pub Z-one-mul : (a : Z) → cast ((cast 1) .0 * a .0) ≡ a
+  Z-one-mul a = z-path (mod-mul-mod 1 (a .0) q ∙ ap (λ t. t % q) (one-mul (a .0)) ∙ mod-eq-of-lt (a .1))
+
+  pub Z-set : IsSet Z
+  Z-set = Σ-set (hedberg ℕ-discrete) (λ k. prop→set le-prop)
+
+  -- ---- the ring, and its elements as numbers
+  unfoldable pub zmod : CRing
+  zmod = record {
     El = Z;
     add = λ a b. cast (a .0 + b .0);
     mul = λ a b. cast (a .0 * b .0);
-    neg = λ a. cast (p - a .0);
+    neg = λ a. cast (q - a .0);
     zer = cast 0;
     one = cast 1;
-    isSet = hedberg Z-discrete;
-    add-assoc = λ a b c. z-path (mod-add-mod (a .0 + b .0) p (c .0) ∙ ap (λ t. t % p) (add-assoc (a .0) (b .0) (c .0)) ∙ sym (add-mod-mod (a .0) (b .0 + c .0) p));
-    add-comm = λ a b. z-path (ap (λ t. t % p) (add-comm (a .0) (b .0)));
-    zer-add = λ a. z-path (mod-add-mod 0 p (a .0) ∙ ap (λ t. t % p) (zero-add (a .0)) ∙ mod-eq-of-lt (a .1));
-    neg-add = λ a. z-path (mod-add-mod (p - a .0) p (a .0) ∙ ap (λ t. t % p) (sub-cancel (a .0) (a .1)) ∙ mod-self p ∙ sym (mod-eq-of-lt pos));
-    mul-assoc = λ a b c. z-path (mod-mul-mod (a .0 * b .0) (c .0) p ∙ ap (λ t. t % p) (mul-assoc (a .0) (b .0) (c .0)) ∙ sym (mul-mod-mod (a .0) (b .0 * c .0) p));
-    mul-comm = λ a b. z-path (ap (λ t. t % p) (mul-comm (a .0) (b .0)));
-    one-mul = λ a. z-path (mod-mul-mod 1 (a .0) p ∙ ap (λ t. t % p) (one-mul (a .0)) ∙ mod-eq-of-lt (a .1));
-    add-mul = λ a b c. z-path (mod-mul-mod (a .0 + b .0) (c .0) p ∙ ap (λ t. t % p) (add-mul (a .0) (b .0) (c .0)) ∙ sym (mod-add-mod (a .0 * c .0) p (b .0 * c .0 % p) ∙ add-mod-mod (a .0 * c .0) (b .0 * c .0) p));
+    isSet = Z-set;
+    add-assoc = Z-add-assoc;
+    add-comm = λ a b. ap cast (add-comm (a .0) (b .0));
+    zer-add = Z-zer-add;
+    neg-add = Z-neg-add;
+    mul-assoc = Z-mul-assoc;
+    mul-comm = λ a b. ap cast (mul-comm (a .0) (b .0));
+    one-mul = Z-one-mul;
+    add-mul = Z-add-mul;
   }
-    where
-      sub-cancel : (a : ℕ) → a < p → p - a + a ≡ p
-      sub-cancel a l = omega arith
 
-pub positive : (p : ℕ) → 0 < suc (p - 1)
-positive p = omega arith
+  unfoldable pub emb : ℕ → zmod .El
+  unfolding zmod
+  emb n = cast n
 
-unfoldable pub zmod : ℕ → CRing
-unfolding residues
-zmod p = residues (suc (p - 1)) (positive p)
+  unfoldable pub num : zmod .El → ℕ
+  unfolding zmod
+  num a = a .0
 
-unfoldable pub emb : (p : ℕ) → ℕ → zmod p .El
-unfolding zmod residues
-emb p n = cast (suc (p - 1)) (positive p) n
-
-unfoldable pub num : (p : ℕ) → zmod p .El → ℕ
-unfolding zmod residues
-num p a = a .0
-
-unfoldable pub zmod-dec : (p : ℕ) → Discrete (zmod p .El)
-unfolding zmod residues Z-discrete
-zmod-dec p = Z-discrete (suc (p - 1)) (positive p)
+  unfoldable pub zmod-dec : Discrete (zmod .El)
+  unfolding zmod ℕ-discrete
+  zmod-dec a b = elim (ℕ-discrete (a .0) (b .0)) [ yes e ↦ yes (z-path e) | no n ↦ no (λ e. n (ap (λ (z : Z). z .0) e)) ]
 
 module _ (p : ℕ) where
   open CRing (zmod p) using (El as A, add as _⊕_, mul as _⊗_, neg as ng, zer as 𝟘, one as 𝟙)
@@ -90,26 +104,26 @@ module _ (p : ℕ) where
   infixl 65 _⊕_
   infixl 70 _⊗_
   pub emb-num : (a : A) → emb p (num p a) ≡ a
-  unfolding zmod residues emb num
-  emb-num a = cast-of (suc (p - 1)) (positive p) a
+  unfolding zmod emb num
+  emb-num a = cast-of p a
 
   pub num-inj : {a b : A} → num p a ≡ num p b → a ≡ b
   num-inj {a} {b} e = sym (emb-num a) ∙ ap (emb p) e ∙ emb-num b
 
   pub emb-add : (m n : ℕ) → emb p (m + n) ≡ emb p m ⊕ emb p n
-  unfolding zmod residues emb
-  emb-add m n = let q : ℕ = suc (p - 1) in z-path q (positive p) (sym (mod-add-mod m q (n % q) ∙ add-mod-mod m n q))
+  unfolding zmod emb
+  emb-add m n = let q : ℕ = suc (p - 1) in z-path p (sym (mod-add-mod m q (n % q) ∙ add-mod-mod m n q))
 
   pub emb-mul : (m n : ℕ) → emb p (m * n) ≡ emb p m ⊗ emb p n
-  unfolding zmod residues emb
-  emb-mul m n = let q : ℕ = suc (p - 1) in z-path q (positive p) (sym (mod-mul-mod m (n % q) q ∙ mul-mod-mod m n q))
+  unfolding zmod emb
+  emb-mul m n = let q : ℕ = suc (p - 1) in z-path p (sym (mod-mul-mod m (n % q) q ∙ mul-mod-mod m n q))
 
   pub emb-zero : emb p 0 ≡ 𝟘
-  unfolding zmod residues emb
+  unfolding zmod emb
   emb-zero = refl
 
   pub emb-one : emb p 1 ≡ 𝟙
-  unfolding zmod residues emb
+  unfolding zmod emb
   emb-one = refl
 
   module _ (pos : 0 < p) where
@@ -117,11 +131,11 @@ module _ (p : ℕ) where
     same = omega arith
 
     pub num-emb : (n : ℕ) → num p (emb p n) ≡ n % p
-    unfolding zmod residues emb num
+    unfolding zmod emb num
     num-emb n = ap (λ (q : ℕ). n % q) same
 
     pub num-lt : (a : A) → num p a < p
-    unfolding zmod residues num
+    unfolding zmod num
     num-lt a = omega (arith, a .1)
 
     pub emb-p : emb p p ≡ 𝟘

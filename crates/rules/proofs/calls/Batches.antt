@@ -74,7 +74,8 @@ module _ (c : CurveRecord) where
       batch-more left a k from l e = ap₂ go (lt-leb (length s) a l) e
         where
           go : Bool → Checked (PairOf c) → Checked (Batch A)
-          go t x = choose t (taken (record { result = from; count = k })) (elim x [ refused n place ↦ refused n place | taken d ↦ batch-from c step s left (a + 1 + 16 * getD s a 0) (k + 1) (step from d) ])
+          go t x = choose t (taken (record { result = from; count = k }))
+              (elim x [ refused n place ↦ refused n place | taken d ↦ batch-from c step s left (a + 1 + 16 * getD s a 0) (k + 1) (step from d) ])
 
       batch-end : (left a k : ℕ) (from : A) → length s ≤ a → batch-from c step s left a k from ≡ taken (record { result = from; count = k })
       unfolding batch-from
@@ -99,7 +100,8 @@ module _ (c : CurveRecord) where
       elsewhere : {l l' a a' k k' : ℕ} (from : A) → l ≡ l' → a ≡ a' → k ≡ k' → batch-from c step s l a k from ≡ batch-from c step s l' a' k' from
       elsewhere {l} {l'} {a} {a'} {k} {k'} from e q m = ap (λ (x : ℕ). batch-from c step s x a k from) e ∙ ap₂ (λ (x y : ℕ). batch-from c step s l' x y from) q m
 
-      batch-go : (rs : List (List ℕ)) (front rest : List ℕ) (left more a k : ℕ) (from : A) → AllRecords rs → s ≡ front ++ (flatten rs ++ rest) → a ≡ length front → left ≡ length rs + more
+      batch-go : (rs : List (List ℕ)) (front rest : List ℕ) (left more a k : ℕ) (from : A) → AllRecords rs → s ≡ front ++ (flatten rs ++ rest) → a ≡ length front
+          → left ≡ length rs + more
           → batch-from c step s left a k from ≡ batch-from c step s more (a + length (flatten rs)) (k + length rs) (foldl step from (map pair-of rs))
       unfolding flatten
       batch-go [] front rest left more a k from h e q m = elsewhere from (omega arith) (omega arith) (omega arith)
@@ -150,7 +152,8 @@ module _ (c : CurveRecord) where
       parts (suc left) a k from {b} e = go (leb (length s) a) refl (divisor-at c (k + 1) false s a) refl e (λ d. parts left (a + 1 + 16 * getD s a 0) (k + 1) (step from d))
         where
           go : (t : Bool) → leb (length s) a ≡ t → (x : Checked (PairOf c)) → divisor-at c (k + 1) false s a ≡ x
-              → choose t (taken (record { result = from; count = k })) (elim x [ refused n place ↦ refused n place | taken d ↦ batch-from c step s left (a + 1 + 16 * getD s a 0) (k + 1) (step from d) ]) ≡ taken b
+              → choose t (taken (record { result = from; count = k }))
+              (elim x [ refused n place ↦ refused n place | taken d ↦ batch-from c step s left (a + 1 + 16 * getD s a 0) (k + 1) (step from d) ]) ≡ taken b
               → ((d : PairOf c) → batch-from c step s left (a + 1 + 16 * getD s a 0) (k + 1) (step from d) ≡ taken b → Parts left (a + 1 + 16 * getD s a 0)) → Parts (suc left) a
           go true q x m e rec = parts-end (suc left) a (leb-true (length s) a q)
           go false q (refused n place) m e rec = absurd (refused-taken e)

@@ -42,7 +42,8 @@ module _ (s : List ℕ) where
   one-off a b e h = drop-cons s a 0 h ∙ ap (λ (k : ℕ). getD s a 0 ∷ drop k s) e
 
   eight-off : (a : ℕ) → a + 8 ≤ length s
-      → drop a s ≡ getD s a 0 ∷ getD s (a + 1) 0 ∷ getD s (a + 2) 0 ∷ getD s (a + 3) 0 ∷ getD s (a + 4) 0 ∷ getD s (a + 4 + 1) 0 ∷ getD s (a + 4 + 2) 0 ∷ getD s (a + 4 + 3) 0 ∷ drop (a + 8) s
+      → drop a s ≡ getD s a 0 ∷ getD s (a + 1) 0 ∷ getD s (a + 2) 0 ∷ getD s (a + 3) 0 ∷ getD s (a + 4) 0 ∷ getD s (a + 4 + 1) 0 ∷ getD s (a + 4 + 2) 0
+      ∷ getD s (a + 4 + 3) 0 ∷ drop (a + 8) s
   eight-off a h = one-off a (a + 1) (omega arith) (omega arith) ∙ ap (_∷_ (getD s a 0)) (
       one-off (a + 1) (a + 2) (omega arith) (omega arith) ∙ ap (_∷_ (getD s (a + 1) 0)) (
       one-off (a + 2) (a + 3) (omega arith) (omega arith) ∙ ap (_∷_ (getD s (a + 2) 0)) (
@@ -55,14 +56,17 @@ module _ (s : List ℕ) where
   module _ (bytes : AreBytes s) where
     pub bytes-word : (a : ℕ) → a + 8 ≤ length s → drop a s ≡ bytes64 (word64 s a) ++ drop (a + 8) s
     unfolding word64
-    bytes-word a h = eight-off a h ∙ sym (ap (λ l. l ++ drop (a + 8) s) (bytes-of (getD s a 0) (getD s (a + 1) 0) (getD s (a + 2) 0) (getD s (a + 3) 0) (getD s (a + 4) 0) (getD s (a + 4 + 1) 0)
-        (getD s (a + 4 + 2) 0) (getD s (a + 4 + 3) 0) (bytes a) (bytes (a + 1)) (bytes (a + 2)) (bytes (a + 3)) (bytes (a + 4)) (bytes (a + 4 + 1)) (bytes (a + 4 + 2)) (bytes (a + 4 + 3))))
+    bytes-word a h = eight-off a h ∙ sym (ap (λ l. l ++ drop (a + 8) s)
+        (bytes-of (getD s a 0) (getD s (a + 1) 0) (getD s (a + 2) 0) (getD s (a + 3) 0) (getD s (a + 4) 0) (getD s (a + 4 + 1) 0)
+        (getD s (a + 4 + 2) 0) (getD s (a + 4 + 3) 0) (bytes a) (bytes (a + 1)) (bytes (a + 2)) (bytes (a + 3)) (bytes (a + 4)) (bytes (a + 4 + 1))
+        (bytes (a + 4 + 2)) (bytes (a + 4 + 3))))
 
     -- ---- many
     pub bytes-words : (n a : ℕ) → a + 8 * n ≤ length s → drop a s ≡ all-bytes (words s a n) ++ drop (a + 8 * n) s
     unfolding words all-bytes
     bytes-words zero a h = ap (λ (k : ℕ). drop k s) {x = a} {y = a + 8 * 0} (omega arith)
-    bytes-words (suc n) a h = bytes-word a (omega arith) ∙ ap (_++_ (bytes64 (word64 s a))) (bytes-words n (a + 8) (omega arith) ∙ ap (λ (k : ℕ). all-bytes (words s (a + 8) n) ++ drop k s) {x = a + 8 + 8 * n} {y = a + 8 * suc n} (omega arith))
+    bytes-words (suc n) a h = bytes-word a (omega arith) ∙ ap (_++_ (bytes64 (word64 s a)))
+        (bytes-words n (a + 8) (omega arith) ∙ ap (λ (k : ℕ). all-bytes (words s (a + 8) n) ++ drop k s) {x = a + 8 + 8 * n} {y = a + 8 * suc n} (omega arith))
         ∙ sym (append-assoc (bytes64 (word64 s a)) (all-bytes (words s (a + 8) n)) (drop (a + 8 * suc n) s))
 
 pub length-bytes : (l : List ℕ) → length (all-bytes l) ≡ 8 * length l
@@ -101,7 +105,8 @@ module _ (s t : List ℕ) where
   pub words-same : (n a b : ℕ) → Alike a b (8 * n) → words s a n ≡ words t b n
   unfolding words
   words-same zero a b h = refl
-  words-same (suc n) a b h = ap₂ _∷_ (word-same a b (λ i l. h i (omega arith))) (words-same n (a + 8) (b + 8) (λ i l. alike-at a b (8 * suc n) h (8 + i) (a + 8 + i) (b + 8 + i) (omega arith) (omega arith) (omega arith)))
+  words-same (suc n) a b h = ap₂ _∷_ (word-same a b (λ i l. h i (omega arith)))
+      (words-same n (a + 8) (b + 8) (λ i l. alike-at a b (8 * suc n) h (8 + i) (a + 8 + i) (b + 8 + i) (omega arith) (omega arith) (omega arith)))
 
 pub length-words : (s : List ℕ) (n a : ℕ) → length (words s a n) ≡ n
 unfolding words
@@ -110,7 +115,8 @@ length-words s (suc n) a = ap suc (length-words s n (a + 8))
 
 -- what stands behind a front of a bytes
 behind : (front z : List ℕ) (a i : ℕ) → length front ≡ a → getD (front ++ z) (a + i) 0 ≡ getD z (0 + i) 0
-behind front z a i e = ap (λ (k : ℕ). getD (front ++ z) k 0) {x = a + i} {y = length front + i} (omega arith) ∙ getD-append-add front z i 0 ∙ ap (λ (k : ℕ). getD z k 0) {x = i} {y = 0 + i} (omega arith)
+behind front z a i e = ap (λ (k : ℕ). getD (front ++ z) k 0) {x = a + i} {y = length front + i} (omega arith) ∙ getD-append-add front z i 0
+    ∙ ap (λ (k : ℕ). getD z k 0) {x = i} {y = 0 + i} (omega arith)
 
 -- numbers below 2^64 are read as they were written, wherever they stand
 pub word-behind : (front r : List ℕ) (x a : ℕ) → length front ≡ a → x < 18446744073709551616 → word64 (front ++ (bytes64 x ++ r)) a ≡ x

@@ -1,7 +1,7 @@
 -- "Place is k for 8 to 11 where the k-th divisor (from 1) is at fault, otherwise 0": of each call's rule.
 -- Open: `Alone`, `OfTwo`, `On`.
-use Prim.Native.Nat.{ℕ, _+_, _≤_}
-use mathlib.Core.Path.{_≡_, refl, sym, ap, _∙_, subst₂}
+use Prim.Native.Nat.{ℕ}
+use mathlib.Core.Path.{_≡_, refl, sym, ap, _∙_, subst, subst₂}
 use mathlib.Core.List.{List, [], _∷_, _++_}
 use mathlib.Core.Bool.{Bool, true, false}
 use mathlib.Core.Logic.{_⊎_, inl, inr}
@@ -12,11 +12,11 @@ use lib.Seq.{sets}
 use Rattle.rules.specs.Bytes.{number}
 use Rattle.rules.specs.Pair.{neutral, opposite}
 use Rattle.rules.specs.Sum.{sum, double}
-use Rattle.rules.specs.Multiple.{multiple, doublings, additions}
-use Rattle.rules.specs.Records.{Checked, refused, taken, choose, CurveRecord, curve, PairOf, numbers, read-curve, read-divisor, curve-bytes, divisor-bytes}
-use Rattle.rules.specs.Lists.{Batch, batch, first-repeat}
-use Rattle.rules.specs.Calls.{Answer, done, refusal, check, check-curve, check-divisor, Written, left-as-is, write, rewrite-curve, from-one, rewrite-divisor, double-call, opposite-call, add-call, Multiplied, not-multiplied, multiplied, multiply-call, Totalled, not-totalled, totalled, total-call, Repeated, no-repeat, repeat-call, Running, resume, Scanned, not-scanned, scan-call}
-use Rattle.rules.proofs.calls.Places.{At, None, Placed, curve-place, divisor-place, resume-place, Faulty, batch-place}
+use Rattle.rules.specs.Multiple.{multiple}
+use Rattle.rules.specs.Records.{Checked, refused, taken, choose, CurveRecord, curve, PairOf, read-curve, read-divisor, curve-bytes, divisor-bytes}
+use Rattle.rules.specs.Lists.{batch}
+use Rattle.rules.specs.Calls.{Answer, done, refusal, check, check-curve, check-divisor, Written, left-as-is, write, rewrite-curve, from-one, rewrite-divisor, double-call, opposite-call, add-call, Multiplied, not-multiplied, multiplied, multiply-call, Totalled, total-call, Repeated, repeat-call, Running, resume, Scanned, scan-call}
+use Rattle.rules.proofs.calls.Places.{At, None, Placed, elsewhere, curve-place, divisor-place, resume-place, Faulty, batch-place}
 
 -- ---- the calls: each keeps its places where it stops and where it goes on
 module _ {R : Type 0} (K : ℕ → ℕ → Type 0) (answer : R → Answer) where
@@ -39,15 +39,17 @@ module _ {R : Type 0} (K : ℕ → ℕ → Type 0) (answer : R → Answer) where
       → ((c : CurveRecord) → read-curve s ≡ taken c → Stands (go c)) → Stands (check (read-curve s) stop go)
   reads-curve s stop go is rest = reads (read-curve s) stop go (curve-place s) (λ n j e h. absurd h) is rest
 
-  ends : (r : R) (m : ℕ) → answer r .number ≡ m → answer r .place ≡ 0 → (8 ≤ m → m ≤ 11 → ⊥) → Stands r
-  ends r m e q h = (λ l u. absurd (h (omega (arith, e, l)) (omega (arith, e, u))), λ l. q, λ l. q)
-
 -- the one divisor of a call; the first or the second of two
 abbrev pub Alone : ℕ → ℕ → Type 0
 Alone n j = j ≡ 1
 
 abbrev pub OfTwo : CurveRecord → List ℕ → List ℕ → ℕ → ℕ → Type 0
 OfTwo c a b n j = ((j ≡ 1) × (read-divisor c 1 a ≡ refused n 1)) ⊎ ((j ≡ 2) × (read-divisor c 2 b ≡ refused n 2))
+
+-- the one divisor of a call
+reads-alone : {R : Type 0} (answer : R → Answer) (c : CurveRecord) (a : List ℕ) (stop : ℕ → ℕ → R) (go : PairOf c → R) → ((n j : ℕ) → answer (stop n j) ≡ refusal n j)
+    → ((x : PairOf c) → read-divisor c 1 a ≡ taken x → Stands Alone answer (go x)) → Stands Alone answer (check (read-divisor c 1 a) stop go)
+reads-alone answer c a stop go is rest = reads Alone answer (read-divisor c 1 a) stop go (divisor-place c 1 true a 0) (λ n j e h. h) is rest
 
 write-stands : (K : ℕ → ℕ → Type 0) (out bytes : List ℕ) → Stands K (λ (w : Written). w .answer) (write out bytes)
 write-stands K out bytes = go (ltb (length out) (length bytes))
@@ -56,8 +58,8 @@ write-stands K out bytes = go (ltb (length out) (length bytes))
     went = record { answer = done (length bytes); out = sets out 0 bytes }
 
     go : (t : Bool) → Stands K (λ (w : Written). w .answer) (choose t (left-as-is out 13 0) went)
-    go true = ends K (λ (w : Written). w .answer) (left-as-is out 13 0) 13 refl refl (λ l u. omega arith)
-    go false = ends K (λ (w : Written). w .answer) went 0 refl refl (λ l u. omega arith)
+    go true = elsewhere K (λ l u. omega arith) refl
+    go false = elsewhere K (λ l u. omega arith) refl
 
 -- on the curve of the record s
 abbrev pub On : List ℕ → (CurveRecord → ℕ → ℕ → Type 0) → ℕ → ℕ → Type 0
@@ -69,12 +71,12 @@ module _ (s : List ℕ) where
 
   pub check-curve-place : At None (check-curve s .number) (check-curve s .place)
   unfolding check-curve
-  check-curve-place = reads-curve None same s refusal (λ c. done 0) (λ n j. refl) (λ c e. ends None same (done 0) 0 refl refl (λ l u. omega arith))
+  check-curve-place = reads-curve None same s _ _ (λ n j. refl) (λ c e. elsewhere None (λ l u. omega arith) refl)
 
   pub check-divisor-place : (a : List ℕ) → At Alone (check-divisor s a .number) (check-divisor s a .place)
   unfolding check-divisor
-  check-divisor-place a = reads-curve Alone same s refusal (λ c. check (read-divisor c 1 a) refusal (λ x. done 0)) (λ n j. refl)
-      (λ c e. reads Alone same (read-divisor c 1 a) refusal (λ x. done 0) (divisor-place c 1 true a 0) (λ n j e h. h) (λ n j. refl) (λ x e. ends Alone same (done 0) 0 refl refl (λ l u. omega arith)))
+  check-divisor-place a = reads-curve Alone same s _ _ (λ n j. refl) (λ c e.
+      reads-alone same c a _ _ (λ n j. refl) (λ x e. elsewhere Alone (λ l u. omega arith) refl))
 
 module _ (s out : List ℕ) where
   abbrev of-written : Written → Answer
@@ -82,17 +84,11 @@ module _ (s out : List ℕ) where
 
   pub rewrite-curve-place : At None (rewrite-curve s out .answer .number) (rewrite-curve s out .answer .place)
   unfolding rewrite-curve
-  rewrite-curve-place = reads-curve None of-written s (left-as-is out) (λ c. write out (curve-bytes c)) (λ n j. refl) (λ c e. write-stands None out (curve-bytes c))
+  rewrite-curve-place = reads-curve None of-written s _ _ (λ n j. refl) (λ c e. write-stands None out (curve-bytes c))
 
   one-place : (f : (c : CurveRecord) → PairOf c → PairOf c) (a : List ℕ) → Stands Alone of-written (from-one f s a out)
-  one-place f a = reads-curve Alone of-written s (left-as-is out) next (λ n j. refl)
-      (λ c e. reads Alone of-written (read-divisor c 1 a) (left-as-is out) (last c) (divisor-place c 1 true a 0) (λ n j e h. h) (λ n j. refl) (λ x e. write-stands Alone out (divisor-bytes (c .p) (f c x))))
-    where
-      last : (c : CurveRecord) → PairOf c → Written
-      last c x = write out (divisor-bytes (c .p) (f c x))
-
-      next : CurveRecord → Written
-      next c = check (read-divisor c 1 a) (left-as-is out) (last c)
+  one-place f a = reads-curve Alone of-written s _ _ (λ n j. refl) (λ c e.
+      reads-alone of-written c a _ _ (λ n j. refl) (λ x e. write-stands Alone out (divisor-bytes (c .p) (f c x))))
 
   pub rewrite-place : (a : List ℕ) → At Alone (rewrite-divisor s a out .answer .number) (rewrite-divisor s a out .answer .place)
   unfolding rewrite-divisor
@@ -108,54 +104,38 @@ module _ (s out : List ℕ) where
 
   pub add-place : (a b : List ℕ) → At (On s (λ c. OfTwo c a b)) (add-call s a b out .answer .number) (add-call s a b out .answer .place)
   unfolding add-call
-  add-place a b = reads-curve K of-written s (left-as-is out) next (λ n j. refl)
-      (λ c e. reads K of-written (read-divisor c 1 a) (left-as-is out) (two c) (divisor-place c 1 true a 0) (λ n j q h. (c, e, inl (h, q ∙ ap (refused n) h))) (λ n j. refl)
-      (λ x q. reads K of-written (read-divisor c 2 b) (left-as-is out) (last c x) (divisor-place c 2 true b 0) (λ n j q h. (c, e, inr (h, q ∙ ap (refused n) h))) (λ n j. refl)
-      (λ y q. write-stands K out (divisor-bytes (c .p) (sum (curve c) x y)))))
+  add-place a b = reads-curve K of-written s _ _ (λ n j. refl) (λ c e.
+      reads K of-written (read-divisor c 1 a) _ _ (divisor-place c 1 true a 0) (λ n j q h. (c, e, inl (h, q ∙ ap (refused n) h))) (λ n j. refl) (λ x q.
+      reads K of-written (read-divisor c 2 b) _ _ (divisor-place c 2 true b 0) (λ n j q h. (c, e, inr (h, q ∙ ap (refused n) h))) (λ n j. refl) (λ y q.
+      write-stands K out (divisor-bytes (c .p) (sum (curve c) x y)))))
     where
       K : ℕ → ℕ → Type 0
       K = On s (λ c. OfTwo c a b)
 
-      last : (c : CurveRecord) → PairOf c → PairOf c → Written
-      last c x y = write out (divisor-bytes (c .p) (sum (curve c) x y))
-
-      two : (c : CurveRecord) → PairOf c → Written
-      two c x = check (read-divisor c 2 b) (left-as-is out) (last c x)
-
-      next : CurveRecord → Written
-      next c = check (read-divisor c 1 a) (left-as-is out) (two c)
-
   -- counts don't change the answer
+  counted : (K : ℕ → ℕ → Type 0) {R : Type 0} (answer : R → Answer) (t : Bool) (x y : R) (w : Written) → answer x ≡ w .answer → answer y ≡ w .answer
+      → Stands K of-written w → Stands K answer (choose t x y)
+  counted K answer true x y w e h p = subst (λ (z : Answer). At K (z .number) (z .place)) (sym e) p
+  counted K answer false x y w e h p = subst (λ (z : Answer). At K (z .number) (z .place)) (sym h) p
+
   pub multiply-place : (a scalar : List ℕ) → At Alone (multiply-call s a scalar out .written .answer .number) (multiply-call s a scalar out .written .answer .place)
   unfolding multiply-call
-  multiply-place a scalar = reads-curve Alone answer s (not-multiplied out) next (λ n j. refl)
-      (λ c e. reads Alone answer (read-divisor c 1 a) (not-multiplied out) (λ x. last c x (ltb 32 (length scalar))) (divisor-place c 1 true a 0) (λ n j e h. h) (λ n j. refl) (λ x e. go c x (ltb 32 (length scalar))))
+  multiply-place a scalar = reads-curve Alone answer s _ _ (λ n j. refl) (λ c e.
+      reads-alone answer c a _ _ (λ n j. refl) (λ x e. go (ltb 32 (length scalar)) (divisor-bytes (c .p) (multiple (curve c) (number scalar) x))))
     where
       answer : Multiplied → Answer
       answer m = m .written .answer
 
-      last : (c : CurveRecord) → PairOf c → Bool → Multiplied
-      last c x t = choose t (not-multiplied out 12 0) (multiplied (write out (divisor-bytes (c .p) (multiple (curve c) (number scalar) x))) (number scalar))
-
-      next : CurveRecord → Multiplied
-      next c = check (read-divisor c 1 a) (not-multiplied out) (λ x. last c x (ltb 32 (length scalar)))
-
-      counted : (w : Written) (t : Bool) → Stands Alone of-written w
-          → Stands Alone answer (choose t (record { written = w; doublings = doublings (number scalar); additions = additions (number scalar) }) (record { written = w; doublings = 0; additions = 0 }))
-      counted w true p = p
-      counted w false p = p
-
-      go : (c : CurveRecord) (x : PairOf c) (t : Bool) → Stands Alone answer (last c x t)
-      go c x true = ends Alone answer (not-multiplied out 12 0) 12 refl refl (λ l u. omega arith)
-      go c x false =
-          let w : Written = write out (divisor-bytes (c .p) (multiple (curve c) (number scalar) x)) in
-          counted w (eqb (w .answer .number) 0) (write-stands Alone out (divisor-bytes (c .p) (multiple (curve c) (number scalar) x)))
+      go : (t : Bool) (bytes : List ℕ) → Stands Alone answer (choose t (not-multiplied out 12 0) (multiplied (write out bytes) (number scalar)))
+      go true bytes = elsewhere Alone (λ l u. omega arith) refl
+      go false bytes = counted Alone answer (eqb (write out bytes .answer .number) 0) _ _ (write out bytes) refl refl (write-stands Alone out bytes)
 
   pub total-place : (records : List ℕ) → At (On s (λ c. Faulty c records)) (total-call s records out .written .answer .number) (total-call s records out .written .answer .place)
   unfolding total-call
-  total-place records = reads-curve K answer s (not-totalled out) next (λ n j. refl)
-      (λ c e. reads K answer (batch c (sum (curve c)) records neutral) (not-totalled out) (last c) (batch-place c (sum (curve c)) records neutral) (λ n j q h. (c, e, h)) (λ n j. refl)
-      (λ b q. counted (write out (divisor-bytes (c .p) (b .result))) (b .count) (eqb (write out (divisor-bytes (c .p) (b .result)) .answer .number) 0) (write-stands K out (divisor-bytes (c .p) (b .result)))))
+  total-place records = reads-curve K answer s _ _ (λ n j. refl) (λ c e.
+      reads K answer (batch c (sum (curve c)) records neutral) _ _ (batch-place c (sum (curve c)) records neutral) (λ n j q h. (c, e, h)) (λ n j. refl) (λ b q.
+      let bytes : List ℕ = divisor-bytes (c .p) (b .result) in
+      counted K answer (eqb (write out bytes .answer .number) 0) _ _ (write out bytes) refl refl (write-stands K out bytes)))
     where
       K : ℕ → ℕ → Type 0
       K = On s (λ c. Faulty c records)
@@ -163,22 +143,12 @@ module _ (s out : List ℕ) where
       answer : Totalled → Answer
       answer m = m .written .answer
 
-      last : (c : CurveRecord) → Batch (PairOf c) → Totalled
-      last c b = totalled (write out (divisor-bytes (c .p) (b .result))) (b .count)
-
-      next : CurveRecord → Totalled
-      next c = check (batch c (sum (curve c)) records neutral) (not-totalled out) (last c)
-
-      counted : (w : Written) (n : ℕ) (t : Bool) → Stands K of-written w → Stands K answer (choose t (record { written = w; count = n }) (record { written = w; count = 0 }))
-      counted w n true p = p
-      counted w n false p = p
-
 module _ (s : List ℕ) where
   pub repeat-place : (records : List ℕ) → At (On s (λ c. Faulty c records)) (repeat-call s records .answer .number) (repeat-call s records .answer .place)
   unfolding repeat-call
-  repeat-place records = reads-curve K answer s no-repeat next (λ n j. refl)
-      (λ c e. reads K answer (batch c (λ l d. l ++ (d ∷ [])) records []) no-repeat (last c) (batch-place c (λ l d. l ++ (d ∷ [])) records []) (λ n j q h. (c, e, h)) (λ n j. refl)
-      (λ b q. ends K answer (last c b) 0 refl refl (λ l u. omega arith)))
+  repeat-place records = reads-curve K answer s _ _ (λ n j. refl) (λ c e.
+      reads K answer (batch c (λ l d. l ++ (d ∷ [])) records []) _ _ (batch-place c (λ l d. l ++ (d ∷ [])) records []) (λ n j q h. (c, e, h)) (λ n j. refl) (λ b q.
+      elsewhere K (λ l u. omega arith) refl))
     where
       K : ℕ → ℕ → Type 0
       K = On s (λ c. Faulty c records)
@@ -186,26 +156,11 @@ module _ (s : List ℕ) where
       answer : Repeated → Answer
       answer m = m .answer
 
-      last : (c : CurveRecord) → Batch (List (PairOf c)) → Repeated
-      last c b = record { answer = done 0; repeat = first-repeat (c .p) (b .result) }
-
-      next : CurveRecord → Repeated
-      next c = check (batch c (λ l d. l ++ (d ∷ [])) records []) no-repeat (last c)
-
   pub scan-place : (t : Running) (a : List ℕ) → At Alone (scan-call t s a .answer .number) (scan-call t s a .answer .place)
   unfolding scan-call
-  scan-place t a = reads-curve Alone answer s (not-scanned t) next (λ n j. refl)
-      (λ c e. reads Alone answer (resume c t) (not-scanned t) (two c) (resume-place c t) (λ n j e h. absurd h) (λ n j. refl)
-      (λ x e. reads Alone answer (read-divisor c 1 a) (not-scanned t) (last c x) (divisor-place c 1 true a 0) (λ n j e h. h) (λ n j. refl) (λ y e. ends Alone answer (last c x y) 0 refl refl (λ l u. omega arith))))
+  scan-place t a = reads-curve Alone answer s _ _ (λ n j. refl) (λ c e.
+      reads Alone answer (resume c t) _ _ (resume-place c t) (λ n j e h. absurd h) (λ n j. refl) (λ x e.
+      reads-alone answer c a _ _ (λ n j. refl) (λ y e. elsewhere Alone (λ l u. omega arith) refl)))
     where
       answer : Scanned → Answer
       answer m = m .answer
-
-      last : (c : CurveRecord) → PairOf c → PairOf c → Scanned
-      last c x y = let z : PairOf c = sum (curve c) x y in record { answer = done 0; total = record { u = numbers (c .p) (z .u); v = numbers (c .p) (z .v); count = t .count + 1 } }
-
-      two : (c : CurveRecord) → PairOf c → Scanned
-      two c x = check (read-divisor c 1 a) (not-scanned t) (last c x)
-
-      next : CurveRecord → Scanned
-      next c = check (resume c t) (not-scanned t) (two c)

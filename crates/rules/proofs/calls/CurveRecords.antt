@@ -14,7 +14,7 @@ use Rattle.algebra.proofs.zmod.Zmod.{zmod}
 use Rattle.algebra.proofs.zmod.Prime.{Prime, prime-by-test}
 use Rattle.rules.specs.Bytes.{word64, words, bytes64, all-bytes}
 use Rattle.rules.specs.Tests.{square-free?}
-use Rattle.rules.specs.Records.{taken, both, either, limit, odd-prime?, below?, elements, numbers, CurveRecord, curve, read-curve, curve-bytes}
+use Rattle.rules.specs.Records.{taken, both, either, odd-prime?, below?, elements, numbers, CurveRecord, curve, read-curve, curve-bytes}
 use Rattle.rules.proofs.calls.Tests.{passed, missed, taken-inj, both-true, either-true, is-true}
 use Rattle.rules.proofs.calls.Bytes.{AreBytes, one-off, bytes-word, bytes-words, length-bytes, length-words, word-behind, words-behind}
 use Rattle.rules.proofs.calls.Elements.{elements-numbers, numbers-elements, length-elements, length-numbers, numbers-below}
@@ -43,8 +43,19 @@ curve-read s e =
     let t5 = passed _ _ _ _ (t4 .1) in
     let t6 = passed _ _ _ _ (t5 .1) in
     let t7 = passed _ _ _ _ (t6 .1) in
-    let t8 = passed _ _ _ _ (t7 .1) in
-    (record { six = ltb-false _ _ (t1 .0); mark = t2 .0; version = t3 .0; genus = t4 .0; long = eqb-true _ _ (t5 .0); prime = t6 .0; below = t7 .0; free = t8 .0 }, taken-inj (t8 .1))
+    let t8 = passed _ _ _ _ (t7 .1) in (
+      record {
+        six = ltb-false _ _ (t1 .0);
+        mark = t2 .0;
+        version = t3 .0;
+        genus = t4 .0;
+        long = eqb-true _ _ (t5 .0);
+        prime = t6 .0;
+        below = t7 .0;
+        free = t8 .0;
+      },
+      taken-inj (t8 .1),
+    )
 
 pub curve-taken : (s : List ℕ) → CurveBytes s → read-curve s ≡ taken (curve-of s)
 unfolding read-curve
@@ -68,7 +79,7 @@ unfolding odd-prime?
 odd-prime {p} e =
     let t = both-true _ _ e in
     let r = both-true _ _ (t .1) in
-    record { is = prime-by-test p (is-true (r .1)); least = leb-true 3 p (t .0); greatest = leb-true p limit (r .0) }
+    record { is = prime-by-test p (is-true (r .1)); least = leb-true 3 p (t .0); greatest = leb-true p 2147483647 (r .0) }
 
 genus-is : (g : ℕ) → either (eqb g 2) (eqb g 3) ≡ true → (2 ≤ g) × (g ≤ 3)
 genus-is g e = go (either-true _ _ e)
@@ -86,7 +97,13 @@ is-genus g l m = go (ℕ-discrete g 2)
 
 pub accepts-of : (s : List ℕ) → CurveBytes s → Accepts (curve-of s)
 accepts-of s h = let g = genus-is (getD s 5 0) (h .genus) in
-    record { least = g .0; greatest = g .1; prime = h .prime; odd = length-elements (word64 s 6) (words s 14 (suc (getD s 5 0 + getD s 5 0))) ∙ length-words s (suc (getD s 5 0 + getD s 5 0)) 14; free = h .free }
+    record {
+      least = g .0;
+      greatest = g .1;
+      prime = h .prime;
+      odd = length-elements (word64 s 6) (words s 14 (suc (getD s 5 0 + getD s 5 0))) ∙ length-words s (suc (getD s 5 0 + getD s 5 0)) 14;
+      free = h .free;
+    }
 
 pub accepts : (s : List ℕ) {c : CurveRecord} → read-curve s ≡ taken c → Accepts c
 accepts s e = let r = curve-read s e in subst Accepts (r .1) (accepts-of s (r .0))
@@ -99,7 +116,8 @@ module _ (s : List ℕ) (bytes : AreBytes s) (h : CurveBytes s) where
   tail : drop 6 s ≡ bytes64 (word64 s 6) ++ all-bytes (words s 14 n)
   unfolding n
   tail = bytes-word s bytes 6 (omega (arith, h .long, genus-is (getD s 5 0) (h .genus)))
-      ∙ ap (_++_ (bytes64 (word64 s 6))) (bytes-words s bytes n 14 (omega (arith, h .long)) ∙ ap (_++_ (all-bytes (words s 14 n))) (drop-of-length-le s {i = 14 + 8 * n} (omega (arith, h .long))) ∙ append-nil (all-bytes (words s 14 n)))
+      ∙ ap (_++_ (bytes64 (word64 s 6))) (bytes-words s bytes n 14 (omega (arith, h .long))
+      ∙ ap (_++_ (all-bytes (words s 14 n))) (drop-of-length-le s {i = 14 + 8 * n} (omega (arith, h .long))) ∙ append-nil (all-bytes (words s 14 n)))
 
   pub curve-written-of : curve-bytes (curve-of s) ≡ s
   unfolding curve-bytes n
@@ -134,7 +152,8 @@ module _ (c : CurveRecord) (h : Accepts c) where
   low-read : words (curve-bytes c) 14 (suc (c .g + c .g)) ≡ l
   unfolding curve-bytes
   low-read = ap (λ z. words (72 ∷ 74 ∷ 67 ∷ 0 ∷ 1 ∷ c .g ∷ (bytes64 (c .p) ++ z)) 14 (suc (c .g + c .g))) (sym (append-nil (all-bytes l)))
-      ∙ words-behind (c .p) (omega (arith, (odd-prime (h .prime)) .greatest)) (72 ∷ 74 ∷ 67 ∷ 0 ∷ 1 ∷ c .g ∷ bytes64 (c .p)) l [] (suc (c .g + c .g)) 14 refl (length-numbers (c .p) (c .low) ∙ h .odd) (numbers-below (c .p) pos (c .low))
+      ∙ words-behind (c .p) (omega (arith, (odd-prime (h .prime)) .greatest)) (72 ∷ 74 ∷ 67 ∷ 0 ∷ 1 ∷ c .g ∷ bytes64 (c .p)) l [] (suc (c .g + c .g)) 14 refl
+      (length-numbers (c .p) (c .low) ∙ h .odd) (numbers-below (c .p) pos (c .low))
 
   curve-same : curve-of (curve-bytes c) ≡ c
   unfolding curve-bytes

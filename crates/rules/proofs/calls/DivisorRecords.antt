@@ -117,12 +117,15 @@ module _ (c : CurveRecord) (ok : Accepts c) where
 
     u-read : us-at s 0 ≡ numbers (c .p) (d .u)
     unfolding divisor-bytes
-    u-read = words-behind (c .p) fit (length (d .u) ∷ []) (numbers (c .p) (d .u)) (all-bytes (numbers (c .p) (d .v))) (length (d .u)) 1 refl (length-numbers (c .p) (d .u)) (numbers-below (c .p) pos (d .u))
+    u-read = words-behind (c .p) fit (length (d .u) ∷ []) (numbers (c .p) (d .u)) (all-bytes (numbers (c .p) (d .v))) (length (d .u)) 1 refl
+        (length-numbers (c .p) (d .u)) (numbers-below (c .p) pos (d .u))
 
     v-read : vs-at s 0 ≡ numbers (c .p) (d .v)
     unfolding divisor-bytes
-    v-read = ap (λ z. words (length (d .u) ∷ (all-bytes (numbers (c .p) (d .u)) ++ z)) (1 + 8 * length (d .u)) (length (d .u))) (sym (append-nil (all-bytes (numbers (c .p) (d .v)))))
-        ∙ words-behind (c .p) fit (length (d .u) ∷ all-bytes (numbers (c .p) (d .u))) (numbers (c .p) (d .v)) [] (length (d .u)) (1 + 8 * length (d .u)) (omega (arith, length-bytes (numbers (c .p) (d .u)), length-numbers (c .p) (d .u)))
+    v-read = ap (λ z. words (length (d .u) ∷ (all-bytes (numbers (c .p) (d .u)) ++ z)) (1 + 8 * length (d .u)) (length (d .u)))
+        (sym (append-nil (all-bytes (numbers (c .p) (d .v)))))
+        ∙ words-behind (c .p) fit (length (d .u) ∷ all-bytes (numbers (c .p) (d .u))) (numbers (c .p) (d .v)) [] (length (d .u)) (1 + 8 * length (d .u))
+        (omega (arith, length-bytes (numbers (c .p) (d .u)), length-numbers (c .p) (d .u)))
         (length-numbers (c .p) (d .v) ∙ valid .fits) (numbers-below (c .p) pos (d .v))
 
     pair-same : pair-at c s 0 ≡ d
@@ -165,7 +168,8 @@ module _ (c : CurveRecord) (s r : List ℕ) (a b : ℕ) (alike : Alike s r a b (
 
   same-vs : vs-at s a ≡ vs-at r b
   same-vs = ap (λ (n : ℕ). words s (a + 1 + 8 * n) n) same-weight ∙ words-same s r (getD r b 0) (a + 1 + 8 * getD r b 0) (b + 1 + 8 * getD r b 0)
-      (λ i l. alike-at s r a b (1 + 16 * getD r b 0) alike (1 + 8 * getD r b 0 + i) (a + 1 + 8 * getD r b 0 + i) (b + 1 + 8 * getD r b 0 + i) (omega arith) (omega arith) (omega arith))
+      (λ i l. alike-at s r a b (1 + 16 * getD r b 0) alike (1 + 8 * getD r b 0 + i) (a + 1 + 8 * getD r b 0 + i) (b + 1 + 8 * getD r b 0 + i) (omega arith)
+      (omega arith) (omega arith))
 
   same-pair : pair-at c s a ≡ pair-at c r b
   same-pair = ap₂ (made-of c) same-us same-vs

@@ -12,14 +12,15 @@ use Rattle.rules.specs.Pair.{Valid, neutral, opposite}
 use Rattle.rules.specs.Sum.{sum, double}
 use Rattle.rules.specs.Multiple.{multiple, total}
 use Rattle.rules.specs.Records.{taken, choose, CurveRecord, curve, PairOf, read-curve, read-divisor, divisor-bytes}
-use Rattle.rules.specs.Lists.{Batch, batch, most}
-use Rattle.rules.specs.Calls.{check, Written, left-as-is, write, from-one, rewrite-divisor, double-call, opposite-call, add-call, Multiplied, not-multiplied, multiplied, multiply-call, Totalled, not-totalled, totalled, total-call}
+use Rattle.rules.specs.Lists.{batch}
+use Rattle.rules.specs.Calls.{Written, left-as-is, write, from-one, rewrite-divisor, double-call, opposite-call, add-call, Multiplied, not-multiplied, multiplied, multiply-call, Totalled, not-totalled, totalled, total-call}
 use Rattle.rules.proofs.Demand3.{Demand3}
 use Rattle.rules.proofs.calls.CurveRecords.{Accepts, accepts}
 use Rattle.rules.proofs.calls.Accepted.{accepts-laws}
 use Rattle.rules.proofs.calls.DivisorRecords.{divisor-valid, divisor-reread}
 use Rattle.rules.proofs.calls.Batches.{MadeOf, pair-of, records-valid, batch-made, batch-is}
-use Rattle.rules.proofs.calls.Refusals.{check-taken, went-on, curve-took, divisor-numbered, batch-numbered}
+use Rattle.rules.proofs.calls.Refusals.{check-taken, went-on, curve-took, divisor-numbered}
+use Rattle.rules.proofs.calls.Places.{batch-numbered}
 use Rattle.rules.proofs.calls.Written.{front, front-is}
 use Rattle.rules.proofs.calls.Taken.{one-is, add-is, multiply-written, total-is, total-written}
 
@@ -48,7 +49,7 @@ module _ (s a out : List ℕ) {c : CurveRecord} (ec : read-curve s ≡ taken c) 
 
   one-done : (f : (c : CurveRecord) → PairOf c → PairOf c) → Closed f → answered (from-one f s a out) ≡ 0 → OneDone f c a out (from-one f s a out)
   one-done f closed e =
-      let r = went-on answered (read-divisor c 1 a) (left-as-is out) (λ x. write out (divisor-bytes (c .p) (f c x))) (λ n k. refl) (divisor-numbered c 1 true a 0) (ap answered (sym (check-taken _ _ _ ec)) ∙ e) in
+      let r = went-on answered (read-divisor c 1 a) _ _ (λ n k. refl) (divisor-numbered c 1 true a 0) (ap answered (sym (check-taken _ _ _ ec)) ∙ e) in
       finish (r .0) (r .1)
     where
       finish : (x : PairOf c) → read-divisor c 1 a ≡ taken x → OneDone f c a out (from-one f s a out)
@@ -72,7 +73,7 @@ module _ (s a out : List ℕ) {c : CurveRecord} (ec : read-curve s ≡ taken c) 
       → (length scalar ≤ 32) × OneDone (λ c x. multiple (curve c) (number scalar) x) c a out ((multiply-call s a scalar out) .written)
   unfolding multiply-call
   multiply-done scalar e =
-      let r = went-on num (read-divisor c 1 a) (not-multiplied out) (λ x. go x (ltb 32 (length scalar))) (λ n k. refl) (divisor-numbered c 1 true a 0) (ap num (sym (check-taken _ _ _ ec)) ∙ e) in
+      let r = went-on num (read-divisor c 1 a) _ _ (λ n k. refl) (divisor-numbered c 1 true a 0) (ap num (sym (check-taken _ _ _ ec)) ∙ e) in
       let l : length scalar ≤ 32 = short (r .0) (ltb 32 (length scalar)) refl (r .2) in
       (l, finish (r .0) (r .1) l)
     where
@@ -86,9 +87,15 @@ module _ (s a out : List ℕ) {c : CurveRecord} (ec : read-curve s ≡ taken c) 
       short x true q e = absurd (omega arith)
       short x false q e = ltb-false 32 (length scalar) q
 
-      finish : (x : PairOf c) → read-divisor c 1 a ≡ taken x → length scalar ≤ 32 → OneDone (λ c x. multiple (curve c) (number scalar) x) c a out ((multiply-call s a scalar out) .written)
+      finish : (x : PairOf c) → read-divisor c 1 a ≡ taken x → length scalar ≤ 32
+          → OneDone (λ c x. multiple (curve c) (number scalar) x) c a out ((multiply-call s a scalar out) .written)
       finish x h l = let is = multiply-written s ec a h out scalar l in
-          record { x = x; a-is = h; is = is; back = read-back c ok (multiple (curve c) (number scalar) x) ((accepts-laws c ok) .multiple-closed (number scalar) x (divisor-valid c 1 true a 0 h)) out is e }
+          record {
+            x = x;
+            a-is = h;
+            is = is;
+            back = read-back c ok (multiple (curve c) (number scalar) x) ((accepts-laws c ok) .multiple-closed (number scalar) x (divisor-valid c 1 true a 0 h)) out is e;
+          }
 
 -- ---- the sum of two
 pub record AddDone (c : CurveRecord) (a b out : List ℕ) (w : Written) : Type 0 where
@@ -102,13 +109,10 @@ pub record AddDone (c : CurveRecord) (a b out : List ℕ) (w : Written) : Type 0
 pub add-done : (s a b out : List ℕ) {c : CurveRecord} → read-curve s ≡ taken c → answered (add-call s a b out) ≡ 0 → AddDone c a b out (add-call s a b out)
 unfolding add-call
 add-done s a b out {c} ec e =
-    let r = went-on answered (read-divisor c 1 a) (left-as-is out) next (λ n k. refl) (divisor-numbered c 1 true a 0) (ap answered (sym (check-taken _ _ _ ec)) ∙ e) in
-    let q = went-on answered (read-divisor c 2 b) (left-as-is out) (λ y. write out (divisor-bytes (c .p) (sum (curve c) (r .0) y))) (λ n k. refl) (divisor-numbered c 2 true b 0) (r .2) in
+    let r = went-on answered (read-divisor c 1 a) _ _ (λ n k. refl) (divisor-numbered c 1 true a 0) (ap answered (sym (check-taken _ _ _ ec)) ∙ e) in
+    let q = went-on answered (read-divisor c 2 b) _ _ (λ n k. refl) (divisor-numbered c 2 true b 0) (r .2) in
     finish (r .0) (q .0) (r .1) (q .1)
   where
-    next : PairOf c → Written
-    next x = check (read-divisor c 2 b) (left-as-is out) (λ y. write out (divisor-bytes (c .p) (sum (curve c) x y)))
-
     finish : (x y : PairOf c) → read-divisor c 1 a ≡ taken x → read-divisor c 2 b ≡ taken y → AddDone c a b out (add-call s a b out)
     finish x y h h' =
         let ok = accepts s ec in
@@ -125,17 +129,15 @@ pub record TotalDone (c : CurveRecord) (records out : List ℕ) (w : Totalled) :
   pub is : w ≡ totalled (write out (divisor-bytes (c .p) (total-of c (made .records)))) (length (made .records))
   pub back : (k : ℕ) → read-divisor c k (front (w .written)) ≡ taken (total-of c (made .records))
 
-pub total-done : (s records out : List ℕ) {c : CurveRecord} → read-curve s ≡ taken c → answered ((total-call s records out) .written) ≡ 0 → TotalDone c records out (total-call s records out)
+pub total-done : (s records out : List ℕ) {c : CurveRecord} → read-curve s ≡ taken c → answered ((total-call s records out) .written) ≡ 0
+    → TotalDone c records out (total-call s records out)
 unfolding total-call total
 total-done s records out {c} ec e =
-    let r = went-on num (batch c (sum (curve c)) records neutral) (not-totalled out) next (λ n k. refl) (batch-numbered c (sum (curve c)) records most 0 0 neutral) (ap num (sym (check-taken _ _ _ ec)) ∙ e) in
+    let r = went-on num (batch c (sum (curve c)) records neutral) _ _ (λ n k. refl) (batch-numbered c (sum (curve c)) records neutral) (ap num (sym (check-taken _ _ _ ec)) ∙ e) in
     finish (batch-made c (sum (curve c)) records neutral (r .1))
   where
     num : Totalled → ℕ
     num m = answered (m .written)
-
-    next : Batch (PairOf c) → Totalled
-    next b = totalled (write out (divisor-bytes (c .p) (b .result))) (b .count)
 
     finish : MadeOf c records → TotalDone c records out (total-call s records out)
     finish made =

@@ -1,6 +1,6 @@
 -- "On any other number length and counts are 0 and output and running total are unchanged": of each call's rule.
 -- Open: `Kept`, and `KeptM`, `KeptT`, `KeptR`, `KeptS` for a multiple, a total, a repeat and a scan.
-use Prim.Native.Nat.{ℕ, _+_}
+use Prim.Native.Nat.{ℕ}
 use mathlib.Core.Path.{_≡_, refl}
 use mathlib.Core.List.{List, [], _∷_, _++_}
 use mathlib.Core.Bool.{Bool, true, false}
@@ -12,9 +12,9 @@ use Rattle.rules.specs.Bytes.{number}
 use Rattle.rules.specs.Pair.{neutral, opposite}
 use Rattle.rules.specs.Sum.{sum, double}
 use Rattle.rules.specs.Multiple.{multiple, doublings, additions}
-use Rattle.rules.specs.Records.{Checked, refused, taken, choose, CurveRecord, curve, PairOf, numbers, read-curve, read-divisor, curve-bytes, divisor-bytes}
-use Rattle.rules.specs.Lists.{Batch, batch, first-repeat}
-use Rattle.rules.specs.Calls.{check, done, Written, left-as-is, write, rewrite-curve, from-one, rewrite-divisor, double-call, opposite-call, add-call, Multiplied, not-multiplied, multiplied, multiply-call, Totalled, not-totalled, totalled, total-call, Repeated, no-repeat, repeat-call, Running, resume, Scanned, not-scanned, scan-call}
+use Rattle.rules.specs.Records.{Checked, refused, taken, choose, CurveRecord, curve, PairOf, read-curve, read-divisor, curve-bytes, divisor-bytes}
+use Rattle.rules.specs.Lists.{batch}
+use Rattle.rules.specs.Calls.{check, done, Written, left-as-is, write, rewrite-curve, from-one, rewrite-divisor, double-call, opposite-call, add-call, Multiplied, not-multiplied, multiplied, multiply-call, Totalled, totalled, total-call, Repeated, repeat-call, Running, resume, Scanned, scan-call}
 
 -- whatever is so of a refusal and of all that it may go on with
 always : {A R : Type 0} (K : R → Type 0) (x : Checked A) (stop : ℕ → ℕ → R) (go : A → R) → ((n k : ℕ) → K (stop n k)) → ((a : A) → K (go a)) → K (check x stop go)
@@ -40,18 +40,13 @@ module _ (out : List ℕ) where
       go false h = absurd (h refl)
 
   kept-one : (f : (c : CurveRecord) → PairOf c → PairOf c) (s a : List ℕ) → Kept (from-one f s a out)
-  kept-one f s a = always Kept (read-curve s) (left-as-is out) next (λ n k h. (refl, refl)) (λ c. always Kept (read-divisor c 1 a) (left-as-is out) (last c) (λ n k h. (refl, refl)) (λ x. kept-write (divisor-bytes (c .p) (f c x))))
-    where
-      last : (c : CurveRecord) → PairOf c → Written
-      last c x = write out (divisor-bytes (c .p) (f c x))
-
-      next : CurveRecord → Written
-      next c = check (read-divisor c 1 a) (left-as-is out) (last c)
+  kept-one f s a = always Kept (read-curve s) _ _ (λ n k h. (refl, refl)) (λ c.
+      always Kept (read-divisor c 1 a) _ _ (λ n k h. (refl, refl)) (λ x. kept-write (divisor-bytes (c .p) (f c x))))
 
   module _ (s : List ℕ) where
     pub rewrite-curve-kept : Kept (rewrite-curve s out)
     unfolding rewrite-curve
-    rewrite-curve-kept = always Kept (read-curve s) (left-as-is out) (λ c. write out (curve-bytes c)) (λ n k h. (refl, refl)) (λ c. kept-write (curve-bytes c))
+    rewrite-curve-kept = always Kept (read-curve s) _ _ (λ n k h. (refl, refl)) (λ c. kept-write (curve-bytes c))
 
     pub rewrite-kept : (a : List ℕ) → Kept (rewrite-divisor s a out)
     unfolding rewrite-divisor
@@ -67,40 +62,27 @@ module _ (out : List ℕ) where
 
     pub add-kept : (a b : List ℕ) → Kept (add-call s a b out)
     unfolding add-call
-    add-kept a b = always Kept (read-curve s) (left-as-is out) next (λ n k h. (refl, refl)) (λ c. always Kept (read-divisor c 1 a) (left-as-is out) (two c) (λ n k h. (refl, refl))
-        (λ x. always Kept (read-divisor c 2 b) (left-as-is out) (last c x) (λ n k h. (refl, refl)) (λ y. kept-write (divisor-bytes (c .p) (sum (curve c) x y)))))
-      where
-        last : (c : CurveRecord) → PairOf c → PairOf c → Written
-        last c x y = write out (divisor-bytes (c .p) (sum (curve c) x y))
-
-        two : (c : CurveRecord) → PairOf c → Written
-        two c x = check (read-divisor c 2 b) (left-as-is out) (last c x)
-
-        next : CurveRecord → Written
-        next c = check (read-divisor c 1 a) (left-as-is out) (two c)
+    add-kept a b = always Kept (read-curve s) _ _ (λ n k h. (refl, refl)) (λ c.
+        always Kept (read-divisor c 1 a) _ _ (λ n k h. (refl, refl)) (λ x.
+        always Kept (read-divisor c 2 b) _ _ (λ n k h. (refl, refl)) (λ y. kept-write (divisor-bytes (c .p) (sum (curve c) x y)))))
 
     -- with their counts
     kept-multiplied : (w : Written) (n : ℕ) → Kept w → KeptM (multiplied w n)
     kept-multiplied w n k = go (eqb (w .answer .number) 0) refl
       where
-        go : (t : Bool) → eqb (w .answer .number) 0 ≡ t → KeptM (choose t (record { written = w; doublings = doublings n; additions = additions n }) (record { written = w; doublings = 0; additions = 0 }))
+        go : (t : Bool) → eqb (w .answer .number) 0 ≡ t → KeptM
+            (choose t (record { written = w; doublings = doublings n; additions = additions n }) (record { written = w; doublings = 0; additions = 0 }))
         go true q h = absurd (h (eqb-true (w .answer .number) 0 q))
         go false q h = ((k h) .0, (k h) .1, refl, refl)
 
     pub multiply-kept : (a scalar : List ℕ) → KeptM (multiply-call s a scalar out)
     unfolding multiply-call
-    multiply-kept a scalar = always KeptM (read-curve s) (not-multiplied out) next (λ n k h. (refl, refl, refl, refl)) (λ c. always KeptM (read-divisor c 1 a) (not-multiplied out) (λ x. last c x (ltb 32 (length scalar))) (λ n k h. (refl, refl, refl, refl))
-        (λ x. go c x (ltb 32 (length scalar))))
+    multiply-kept a scalar = always KeptM (read-curve s) _ _ (λ n k h. (refl, refl, refl, refl)) (λ c.
+        always KeptM (read-divisor c 1 a) _ _ (λ n k h. (refl, refl, refl, refl)) (λ x. go (ltb 32 (length scalar)) (divisor-bytes (c .p) (multiple (curve c) (number scalar) x))))
       where
-        last : (c : CurveRecord) → PairOf c → Bool → Multiplied
-        last c x t = choose t (not-multiplied out 12 0) (multiplied (write out (divisor-bytes (c .p) (multiple (curve c) (number scalar) x))) (number scalar))
-
-        next : CurveRecord → Multiplied
-        next c = check (read-divisor c 1 a) (not-multiplied out) (λ x. last c x (ltb 32 (length scalar)))
-
-        go : (c : CurveRecord) (x : PairOf c) (t : Bool) → KeptM (last c x t)
-        go c x true = λ h. (refl, refl, refl, refl)
-        go c x false = kept-multiplied (write out (divisor-bytes (c .p) (multiple (curve c) (number scalar) x))) (number scalar) (kept-write (divisor-bytes (c .p) (multiple (curve c) (number scalar) x)))
+        go : (t : Bool) (bytes : List ℕ) → KeptM (choose t (not-multiplied out 12 0) (multiplied (write out bytes) (number scalar)))
+        go true bytes = λ h. (refl, refl, refl, refl)
+        go false bytes = kept-multiplied (write out bytes) (number scalar) (kept-write bytes)
 
     kept-totalled : (w : Written) (n : ℕ) → Kept w → KeptT (totalled w n)
     kept-totalled w n k = go (eqb (w .answer .number) 0) refl
@@ -111,14 +93,9 @@ module _ (out : List ℕ) where
 
     pub total-kept : (records : List ℕ) → KeptT (total-call s records out)
     unfolding total-call
-    total-kept records = always KeptT (read-curve s) (not-totalled out) next (λ n k h. (refl, refl, refl)) (λ c. always KeptT (batch c (sum (curve c)) records neutral) (not-totalled out) (last c) (λ n k h. (refl, refl, refl))
-        (λ b. kept-totalled (write out (divisor-bytes (c .p) (b .result))) (b .count) (kept-write (divisor-bytes (c .p) (b .result)))))
-      where
-        last : (c : CurveRecord) → Batch (PairOf c) → Totalled
-        last c b = totalled (write out (divisor-bytes (c .p) (b .result))) (b .count)
-
-        next : CurveRecord → Totalled
-        next c = check (batch c (sum (curve c)) records neutral) (not-totalled out) (last c)
+    total-kept records = always KeptT (read-curve s) _ _ (λ n k h. (refl, refl, refl)) (λ c.
+        always KeptT (batch c (sum (curve c)) records neutral) _ _ (λ n k h. (refl, refl, refl)) (λ b.
+        kept-totalled (write out (divisor-bytes (c .p) (b .result))) (b .count) (kept-write (divisor-bytes (c .p) (b .result)))))
 
 -- ---- calls without an output: length 0 in any case
 abbrev pub KeptS : Running → Scanned → Type 0
@@ -130,24 +107,11 @@ KeptR w = (w .answer .length ≡ 0) × ((w .answer .number ≡ 0 → ⊥) → w 
 module _ (s : List ℕ) where
   pub scan-kept : (t : Running) (a : List ℕ) → KeptS t (scan-call t s a)
   unfolding scan-call
-  scan-kept t a = always (KeptS t) (read-curve s) (not-scanned t) next (λ n k. (refl, λ h. refl)) (λ c. always (KeptS t) (resume c t) (not-scanned t) (two c) (λ n k. (refl, λ h. refl))
-      (λ x. always (KeptS t) (read-divisor c 1 a) (not-scanned t) (last c x) (λ n k. (refl, λ h. refl)) (λ y. (refl, λ h. absurd (h refl)))))
-    where
-      last : (c : CurveRecord) → PairOf c → PairOf c → Scanned
-      last c x y = let z : PairOf c = sum (curve c) x y in record { answer = done 0; total = record { u = numbers (c .p) (z .u); v = numbers (c .p) (z .v); count = t .count + 1 } }
-
-      two : (c : CurveRecord) → PairOf c → Scanned
-      two c x = check (read-divisor c 1 a) (not-scanned t) (last c x)
-
-      next : CurveRecord → Scanned
-      next c = check (resume c t) (not-scanned t) (two c)
+  scan-kept t a = always (KeptS t) (read-curve s) _ _ (λ n k. (refl, λ h. refl)) (λ c.
+      always (KeptS t) (resume c t) _ _ (λ n k. (refl, λ h. refl)) (λ x.
+      always (KeptS t) (read-divisor c 1 a) _ _ (λ n k. (refl, λ h. refl)) (λ y. (refl, λ h. absurd (h refl)))))
 
   pub repeat-kept : (records : List ℕ) → KeptR (repeat-call s records)
   unfolding repeat-call
-  repeat-kept records = always KeptR (read-curve s) no-repeat next (λ n k. (refl, λ h. refl)) (λ c. always KeptR (batch c (λ l d. l ++ (d ∷ [])) records []) no-repeat (last c) (λ n k. (refl, λ h. refl)) (λ b. (refl, λ h. absurd (h refl))))
-    where
-      last : (c : CurveRecord) → Batch (List (PairOf c)) → Repeated
-      last c b = record { answer = done 0; repeat = first-repeat (c .p) (b .result) }
-
-      next : CurveRecord → Repeated
-      next c = check (batch c (λ l d. l ++ (d ∷ [])) records []) no-repeat (last c)
+  repeat-kept records = always KeptR (read-curve s) _ _ (λ n k. (refl, λ h. refl)) (λ c.
+      always KeptR (batch c (λ l d. l ++ (d ∷ [])) records []) _ _ (λ n k. (refl, λ h. refl)) (λ b. (refl, λ h. absurd (h refl))))

@@ -16,10 +16,10 @@ use Rattle.algebra.proofs.zmod.PrimeField.{modulo}
 use Rattle.rules.specs.Pair.{Pair, neutral}
 use Rattle.rules.specs.Records.{taken, choose, CurveRecord, PairOf, read-curve}
 use Rattle.rules.specs.Lists.{Repeat, same-list?, same?, place-of, repeat-from, first-repeat}
-use Rattle.rules.specs.Calls.{done, Repeated, no-repeat, repeat-call}
+use Rattle.rules.specs.Calls.{done, Repeated, repeat-call}
 use Rattle.rules.proofs.calls.Tests.{both-true, true-both}
-use Rattle.rules.proofs.calls.Batches.{pair-of, AllRecords, batch-records, batch-over}
-use Rattle.rules.proofs.calls.Refusals.{check-taken, check-refused}
+use Rattle.rules.proofs.calls.Batches.{pair-of, AllRecords, batch-records}
+use Rattle.rules.proofs.calls.Refusals.{check-taken}
 
 module _ {K : Arith} where
   abbrev pub at : List (Pair K) → ℕ → Pair K
@@ -194,7 +194,3 @@ module _ (s : List ℕ) {c : CurveRecord} (ec : read-curve s ≡ taken c) (rs : 
     where
       found : List (PairOf c) → Repeated
       found l = record { answer = done 0; repeat = first-repeat (c .p) l }
-
-  pub repeat-over : (rest : List ℕ) → length rs ≡ 4096 → 0 < length rest → repeat-call s (flatten rs ++ rest) ≡ no-repeat 14 0
-  unfolding repeat-call
-  repeat-over rest e l = check-taken _ _ _ ec ∙ check-refused _ _ _ (batch-over c (λ l d. l ++ (d ∷ [])) rs rest [] good e l)

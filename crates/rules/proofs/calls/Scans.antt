@@ -16,7 +16,7 @@ use Rattle.rules.specs.Multiple.{total}
 use Rattle.rules.specs.Tests.{on-curve?}
 use Rattle.rules.specs.Records.{taken, both, below?, numbers, CurveRecord, curve, PairOf, read-curve, read-divisor, divisor-bytes}
 use Rattle.rules.specs.Lists.{most}
-use Rattle.rules.specs.Calls.{check, done, write, totalled, total-call, Running, fresh, resume, Scanned, not-scanned, scan-call}
+use Rattle.rules.specs.Calls.{done, write, totalled, total-call, Running, fresh, resume, Scanned, scan-call}
 use Rattle.rules.proofs.cantor.OnCurve.{on-curve-decides}
 use Rattle.rules.proofs.cantor.Pairs.{neutral-valid}
 use Rattle.rules.proofs.calls.Tests.{passed, taken-inj, true-both}
@@ -78,7 +78,15 @@ module _ (c : CurveRecord) where
 
   pub resume-taken : (t : Running) → Resumes t → resume c t ≡ taken (made-of c (t .u) (t .v))
   unfolding resume
-  resume-taken t h = rw (le-leb (length (t .u)) (c .g) (h .small), eq-eqb (length (t .v)) (length (t .u)) (h .same), h .below, h .on, le-leb (t .count) most (omega (arith, h .room)), lt-ltb (t .count) most (h .room))
+  resume-taken t h = rw (
+    le-leb (length (t .u)) (c .g) (h .small),
+    eq-eqb (length (t .v)) (length (t .u)) (h .same),
+    h .below,
+    h .on,
+    le-leb (t .count) most
+        (omega (arith, h .room)),
+    lt-ltb (t .count) most (h .room),
+  )
 
   pub resume-is : Accepts c → (d : PairOf c) → Valid (curve c) d → (n : ℕ) → n < 4096 → resume c (running-of c d n) ≡ taken d
   resume-is ok d v n l = resume-taken (running-of c d n) (record {
@@ -110,18 +118,12 @@ module _ (s : List ℕ) {c : CurveRecord} (ec : read-curve s ≡ taken c) where
   pub scan-done : (t : Running) (a : List ℕ) → (scan-call t s a) .answer .number ≡ 0 → ScanDone c t a (scan-call t s a)
   unfolding scan-call
   scan-done t a e =
-      let r = went-on num (resume c t) (not-scanned t) next (λ n k. refl) (resume-numbered c t) (ap num (sym (check-taken _ _ _ ec)) ∙ e) in
-      let q = went-on num (read-divisor c 1 a) (not-scanned t) (last (r .0)) (λ n k. refl) (divisor-numbered c 1 true a 0) (r .2) in
+      let r = went-on num (resume c t) _ _ (λ n k. refl) (resume-numbered c t) (ap num (sym (check-taken _ _ _ ec)) ∙ e) in
+      let q = went-on num (read-divisor c 1 a) _ _ (λ n k. refl) (divisor-numbered c 1 true a 0) (r .2) in
       record { x = r .0; y = q .0; t-is = r .1; a-is = q .1; is = scan-is t a {x = r .0} {y = q .0} (r .1) (q .1) }
     where
       num : Scanned → ℕ
       num w = w .answer .number
-
-      last : PairOf c → PairOf c → Scanned
-      last x y = record { answer = done 0; total = running-of c (sum (curve c) x y) (t .count + 1) }
-
-      next : PairOf c → Scanned
-      next x = check (read-divisor c 1 a) (not-scanned t) (last x)
 
   -- ---- many
   ok : Accepts c
@@ -144,15 +146,22 @@ module _ (s : List ℕ) {c : CurveRecord} (ec : read-curve s ≡ taken c) where
       let room : n < 4096 = (resume-read c (running-of c d n) (k .t-is)) .0 .room in
       let good : IsRecord c r = is-record c 1 r (k .a-is) in
       let e : (scan-call (running-of c d n) s r) .total ≡ running-of c (sum (curve c) d (pair-of c r)) (n + 1) = ap (λ (w : Scanned). w .total) (scan-next d v n room r good) in
-      let q = scans-from rs (sum (curve c) d (pair-of c r)) (next-valid d v r good) (n + 1) (omega arith) (subst (λ (t : Running). AllDone t s rs) e (h .1)) in
-      (more-records c good (q .0), omega (arith, q .1), ap (λ (t : Running). scans t s rs) e ∙ q .2 ∙ ap (running-of c (foldl (sum (curve c)) (sum (curve c) d (pair-of c r)) (map (pair-of c) rs))) (omega arith))
+      let q = scans-from rs (sum (curve c) d (pair-of c r)) (next-valid d v r good) (n + 1) (omega arith) (subst (λ (t : Running). AllDone t s rs) e (h .1)) in (
+        more-records c good (q .0),
+        omega (arith, q .1),
+        ap (λ (t : Running). scans t s rs) e ∙ q .2
+            ∙ ap (running-of c (foldl (sum (curve c)) (sum (curve c) d (pair-of c r)) (map (pair-of c) rs))) (omega arith),
+      )
 
   done-from : (rs : List (List ℕ)) (d : PairOf c) → Valid (curve c) d → (n : ℕ) → AllRecords c rs → n + length rs ≤ 4096 → AllDone (running-of c d n) s rs
   done-from [] d v n h l = tt
   done-from (r ∷ rs) d v n h l =
       let good : IsRecord c r = h r mem-cons-self in
-      let e = scan-next d v n (omega arith) r good in
-      (ap (λ (w : Scanned). w .answer .number) e, subst (λ (w : Scanned). AllDone (w .total) s rs) (sym e) (done-from rs (sum (curve c) d (pair-of c r)) (next-valid d v r good) (n + 1) (λ x m. h x (mem-cons-of-mem r m)) (omega arith)))
+      let e = scan-next d v n (omega arith) r good in (
+        ap (λ (w : Scanned). w .answer .number) e,
+        subst (λ (w : Scanned). AllDone (w .total) s rs) (sym e)
+            (done-from rs (sum (curve c) d (pair-of c r)) (next-valid d v r good) (n + 1) (λ x m. h x (mem-cons-of-mem r m)) (omega arith)),
+      )
 
   fresh-is : fresh ≡ running-of c neutral 0
   unfolding numbers
@@ -178,4 +187,5 @@ module _ (s : List ℕ) {c : CurveRecord} (ec : read-curve s ≡ taken c) where
       → total-call s (flatten rs) out ≡ totalled (write out (running-bytes (scans fresh s rs))) ((scans fresh s rs) .count)
   scans-batch rs h out = let q = scans-done rs .0 h in
       total-records s ec rs (q .0) out (q .1)
-      ∙ sym (ap (λ (t : Running). totalled (write out (running-bytes t)) (t .count)) (scans-total rs h) ∙ ap (λ (b : List ℕ). totalled (write out b) (length rs)) (running-written c (total-of c rs) (length rs)))
+      ∙ sym (ap (λ (t : Running). totalled (write out (running-bytes t)) (t .count)) (scans-total rs h)
+      ∙ ap (λ (b : List ℕ). totalled (write out b) (length rs)) (running-written c (total-of c rs) (length rs)))

@@ -9,7 +9,7 @@ use Rattle.rules.specs.Pair.{neutral}
 use Rattle.rules.specs.Sum.{sum, double}
 use Rattle.rules.specs.Multiple.{multiple}
 use Rattle.rules.specs.Records.{Checked, refused, taken, CurveRecord, curve, PairOf, read-curve, read-divisor, divisor-bytes}
-use Rattle.rules.specs.Calls.{Written, check, left-as-is, write, from-one, rewrite-divisor, double-call, opposite-call, add-call, multiply-call}
+use Rattle.rules.specs.Calls.{check, write, from-one, rewrite-divisor, double-call, opposite-call, add-call, multiply-call}
 use Rattle.rules.proofs.cantor.Pairs.{neutral-valid}
 use Rattle.rules.proofs.calls.Tests.{taken-inj}
 use Rattle.rules.proofs.calls.CurveRecords.{Accepts, accepts}
@@ -44,15 +44,8 @@ module _ (s : List ℕ) where
       → ((c : CurveRecord) → read-curve s ≡ taken c → (x : PairOf c) → read-divisor c 1 a ≡ taken x → (y : PairOf c) × (read-divisor c 2 b ≡ taken y) × (sum (curve c) x y ≡ f c x))
       → add-call s a b out ≡ from-one f s a out
   unfolding add-call
-  add-one-way f a b out h = check-same (read-curve s) (left-as-is out) (λ c. check (read-divisor c 1 a) (left-as-is out) (two c)) (λ c. check (read-divisor c 1 a) (left-as-is out) (λ x. one c (f c x)))
-      (λ c ec. check-same (read-divisor c 1 a) (left-as-is out) (two c) (λ x. one c (f c x)) (λ x ea. let r = h c ec x ea in
-      check-taken (read-divisor c 2 b) (left-as-is out) (λ y. one c (sum (curve c) x y)) {a = r .0} (r .1) ∙ ap (one c) (r .2)))
-    where
-      one : (c : CurveRecord) → PairOf c → Written
-      one c d = write out (divisor-bytes (c .p) d)
-
-      two : (c : CurveRecord) → PairOf c → Written
-      two c x = check (read-divisor c 2 b) (left-as-is out) (λ y. one c (sum (curve c) x y))
+  add-one-way f a b out h = check-same (read-curve s) _ _ _ (λ c ec. check-same (read-divisor c 1 a) _ _ _ (λ x ea. let r = h c ec x ea in
+      check-taken (read-divisor c 2 b) _ _ {a = r .0} (r .1) ∙ ap (λ (d : PairOf c). write out (divisor-bytes (c .p) d)) (r .2)))
 
   -- a double is the sum of a divisor with itself
   pub add-self : (a out : List ℕ) → add-call s a a out ≡ double-call s a out
@@ -62,7 +55,8 @@ module _ (s : List ℕ) where
   -- to add the neutral divisor is to rewrite
   pub add-neutral : (a out : List ℕ) → add-call s a (0 ∷ []) out ≡ rewrite-divisor s a out
   unfolding rewrite-divisor
-  add-neutral a out = add-one-way (λ c x. x) a (0 ∷ []) out (λ c ec x ea. (neutral, neutral-read c (accepts s ec) 2, (curve-laws s ec) .neutral-right x (divisor-valid c 1 true a 0 ea)))
+  add-neutral a out = add-one-way (λ c x. x) a (0 ∷ []) out (λ c ec x ea.
+      (neutral, neutral-read c (accepts s ec) 2, (curve-laws s ec) .neutral-right x (divisor-valid c 1 true a 0 ea)))
 
   -- ---- where the calls before answered 0
   pub add-comm : (a b out : List ℕ) → answered (add-call s a b out) ≡ 0 → add-call s b a out ≡ add-call s a b out
@@ -71,7 +65,8 @@ module _ (s : List ℕ) where
       go : (c : CurveRecord) → read-curve s ≡ taken c → add-call s b a out ≡ add-call s a b out
       go c ec = let m = add-done s a b out ec e in
           add-is s ec b (elsewhere c 2 1 b (m .b-is)) out a (elsewhere c 1 2 a (m .a-is))
-          ∙ ap (λ (d : PairOf c). write out (divisor-bytes (c .p) d)) ((curve-laws s ec) .commutative (m .y) (m .x) (divisor-valid c 2 true b 0 (m .b-is)) (divisor-valid c 1 true a 0 (m .a-is)))
+          ∙ ap (λ (d : PairOf c). write out (divisor-bytes (c .p) d))
+          ((curve-laws s ec) .commutative (m .y) (m .x) (divisor-valid c 2 true b 0 (m .b-is)) (divisor-valid c 1 true a 0 (m .a-is)))
           ∙ sym (m .is)
 
   pub add-assoc : (a b d o1 o2 out : List ℕ) → answered (add-call s a b o1) ≡ 0 → answered (add-call s b d o2) ≡ 0
@@ -105,15 +100,18 @@ module _ (s : List ℕ) where
         go : (c : CurveRecord) → read-curve s ≡ taken c → (multiply-call s (front ((multiply-call s a n o1) .written)) m out) .written ≡ (multiply-call s a k out) .written
         go c ec = let r = (multiply-done s a o1 ec n e) .1 in
             multiply-written s ec (front ((multiply-call s a n o1) .written)) (r .back 1) out m lm
-            ∙ ap (λ (d : PairOf c). write out (divisor-bytes (c .p) d)) (sym (ap (λ (i : ℕ). multiple (curve c) i (r .x)) is ∙ (curve-laws s ec) .fold-mul (number m) (number n) (r .x) (divisor-valid c 1 true a 0 (r .a-is))))
+            ∙ ap (λ (d : PairOf c). write out (divisor-bytes (c .p) d))
+            (sym (ap (λ (i : ℕ). multiple (curve c) i (r .x)) is ∙ (curve-laws s ec) .fold-mul (number m) (number n) (r .x) (divisor-valid c 1 true a 0 (r .a-is))))
             ∙ sym (multiply-written s ec a (r .a-is) out k lk)
 
     -- m-fold and n-fold added is (m + n)-fold
-    pub multiply-add : (m n k o1 o2 out : List ℕ) → answered ((multiply-call s a m o1) .written) ≡ 0 → answered ((multiply-call s a n o2) .written) ≡ 0 → length k ≤ 32 → number k ≡ number m + number n
+    pub multiply-add : (m n k o1 o2 out : List ℕ) → answered ((multiply-call s a m o1) .written) ≡ 0 → answered ((multiply-call s a n o2) .written) ≡ 0
+        → length k ≤ 32 → number k ≡ number m + number n
         → add-call s (front ((multiply-call s a m o1) .written)) (front ((multiply-call s a n o2) .written)) out ≡ (multiply-call s a k out) .written
     multiply-add m n k o1 o2 out e e' lk is = let t = multiply-took s a n o2 e' in go (t .0) (t .1)
       where
-        go : (c : CurveRecord) → read-curve s ≡ taken c → add-call s (front ((multiply-call s a m o1) .written)) (front ((multiply-call s a n o2) .written)) out ≡ (multiply-call s a k out) .written
+        go : (c : CurveRecord) → read-curve s ≡ taken c → add-call s (front ((multiply-call s a m o1) .written)) (front ((multiply-call s a n o2) .written)) out ≡
+            (multiply-call s a k out) .written
         go c ec = let q = (multiply-done s a o1 ec m e) .1 in let r = (multiply-done s a o2 ec n e') .1 in
             add-is s ec (front ((multiply-call s a m o1) .written)) (q .back 1) out (front ((multiply-call s a n o2) .written)) (r .back 2)
             ∙ ap (λ (d : PairOf c). write out (divisor-bytes (c .p) d))

@@ -7,19 +7,20 @@ use lib.Dec.{eqb}
 use lib.ListN.{length}
 use borrow.Author.Tests.{le-ltb}
 use Rattle.rules.specs.Bytes.{number}
-use Rattle.rules.specs.Pair.{neutral, opposite}
-use Rattle.rules.specs.Sum.{sum, double}
+use Rattle.rules.specs.Pair.{neutral}
+use Rattle.rules.specs.Sum.{sum}
 use Rattle.rules.specs.Multiple.{multiple, doublings, additions}
 use Rattle.rules.specs.Records.{taken, choose, CurveRecord, curve, PairOf, read-curve, read-divisor, divisor-bytes}
 use Rattle.rules.specs.Lists.{Batch, batch}
-use Rattle.rules.specs.Calls.{done, check-divisor, Written, write, from-one, rewrite-divisor, double-call, opposite-call, add-call, Multiplied, not-multiplied, multiplied, multiply-call, Totalled, totalled, total-call}
+use Rattle.rules.specs.Calls.{done, check-divisor, Written, write, from-one, add-call, Multiplied, not-multiplied, multiplied, multiply-call, Totalled, totalled, total-call}
 use Rattle.rules.proofs.calls.Refusals.{check-taken}
 
 -- the counts don't touch what is written
 multiplied-written : (w : Written) (n : ℕ) → (multiplied w n) .written ≡ w
 multiplied-written w n = go (eqb (w .answer .number) 0)
   where
-    go : (t : Bool) → (choose {A = Multiplied} t (record { written = w; doublings = doublings n; additions = additions n }) (record { written = w; doublings = 0; additions = 0 })) .written ≡ w
+    go : (t : Bool) → (choose {A = Multiplied} t (record { written = w; doublings = doublings n; additions = additions n })
+        (record { written = w; doublings = 0; additions = 0 })) .written ≡ w
     go true = refl
     go false = refl
 
@@ -39,18 +40,6 @@ module _ (s : List ℕ) {c : CurveRecord} (e : read-curve s ≡ taken c) where
     pub one-is : (f : (c : CurveRecord) → PairOf c → PairOf c) → from-one f s a out ≡ write out (divisor-bytes (c .p) (f c x))
     one-is f = check-taken _ _ _ e ∙ check-taken _ _ _ ea
 
-    pub rewrite-is : rewrite-divisor s a out ≡ write out (divisor-bytes (c .p) x)
-    unfolding rewrite-divisor
-    rewrite-is = one-is (λ c x. x)
-
-    pub double-is : double-call s a out ≡ write out (divisor-bytes (c .p) (double (curve c) x))
-    unfolding double-call
-    double-is = one-is (λ c x. double (curve c) x)
-
-    pub opposite-is : opposite-call s a out ≡ write out (divisor-bytes (c .p) (opposite x))
-    unfolding opposite-call
-    opposite-is = one-is (λ c x. opposite x)
-
     pub add-is : (b : List ℕ) {y : PairOf c} → read-divisor c 2 b ≡ taken y → add-call s a b out ≡ write out (divisor-bytes (c .p) (sum (curve c) x y))
     unfolding add-call
     add-is b eb = check-taken _ _ _ e ∙ check-taken _ _ _ ea ∙ check-taken _ _ _ eb
@@ -63,13 +52,16 @@ module _ (s : List ℕ) {c : CurveRecord} (e : read-curve s ≡ taken c) where
         go : Bool → Multiplied
         go t = choose t (not-multiplied out 12 0) (multiplied (write out (divisor-bytes (c .p) (multiple (curve c) (number scalar) x))) (number scalar))
 
-    pub multiply-written : (scalar : List ℕ) → length scalar ≤ 32 → (multiply-call s a scalar out) .written ≡ write out (divisor-bytes (c .p) (multiple (curve c) (number scalar) x))
-    multiply-written scalar l = ap (λ (m : Multiplied). m .written) (multiply-is scalar l) ∙ multiplied-written (write out (divisor-bytes (c .p) (multiple (curve c) (number scalar) x))) (number scalar)
+    pub multiply-written : (scalar : List ℕ) → length scalar ≤ 32
+        → (multiply-call s a scalar out) .written ≡ write out (divisor-bytes (c .p) (multiple (curve c) (number scalar) x))
+    multiply-written scalar l = ap (λ (m : Multiplied). m .written) (multiply-is scalar l)
+        ∙ multiplied-written (write out (divisor-bytes (c .p) (multiple (curve c) (number scalar) x))) (number scalar)
 
   pub total-is : (records out : List ℕ) {b : Batch (PairOf c)} → batch c (sum (curve c)) records neutral ≡ taken b
       → total-call s records out ≡ totalled (write out (divisor-bytes (c .p) (b .result))) (b .count)
   unfolding total-call
   total-is records out eb = check-taken _ _ _ e ∙ check-taken _ _ _ eb
 
-  pub total-written : (records out : List ℕ) {b : Batch (PairOf c)} → batch c (sum (curve c)) records neutral ≡ taken b → (total-call s records out) .written ≡ write out (divisor-bytes (c .p) (b .result))
+  pub total-written : (records out : List ℕ) {b : Batch (PairOf c)} → batch c (sum (curve c)) records neutral ≡ taken b
+      → (total-call s records out) .written ≡ write out (divisor-bytes (c .p) (b .result))
   total-written records out {b} eb = ap (λ (m : Totalled). m .written) (total-is records out eb) ∙ totalled-written (write out (divisor-bytes (c .p) (b .result))) (b .count)

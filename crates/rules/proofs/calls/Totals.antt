@@ -92,9 +92,11 @@ module _ (s : List ℕ) {c : CurveRecord} (ec : read-curve s ≡ taken c) where
     subtotal-read rs good l k = ap (read-divisor c k) (subtotal-is rs good l) ∙ divisor-reread c ok (total-of c rs) (total-valid rs good) k
 
     -- ---- one after the other by sums, however many
-    adds-from : (ts : List (List ℕ)) (d : PairOf c) → Valid (curve c) d → AllRecords c ts → adds s o (divisor-bytes (c .p) d) ts ≡ divisor-bytes (c .p) (foldl (sum (curve c)) d (map (pair-of c) ts))
+    adds-from : (ts : List (List ℕ)) (d : PairOf c) → Valid (curve c) d → AllRecords c ts
+        → adds s o (divisor-bytes (c .p) d) ts ≡ divisor-bytes (c .p) (foldl (sum (curve c)) d (map (pair-of c) ts))
     adds-from [] d v h = refl
-    adds-from (t ∷ ts) d v h = ap (λ (acc : List ℕ). adds s o acc ts) (ap front (add-is s ec (divisor-bytes (c .p) d) (divisor-reread c ok d v 1) o t (record-at c 2 t good)) ∙ fits (sum (curve c) d (pair-of c t)) more)
+    adds-from (t ∷ ts) d v h = ap (λ (acc : List ℕ). adds s o acc ts)
+        (ap front (add-is s ec (divisor-bytes (c .p) d) (divisor-reread c ok d v 1) o t (record-at c 2 t good)) ∙ fits (sum (curve c) d (pair-of c t)) more)
         ∙ adds-from ts (sum (curve c) d (pair-of c t)) more (λ r m. h r (mem-cons-of-mem t m))
       where
         good : IsRecord c t
@@ -132,12 +134,14 @@ module _ (s : List ℕ) {c : CurveRecord} (ec : read-curve s ≡ taken c) where
 
       same-total : total-of c (map (subtotal s o) parts) ≡ total-of c rs
       same-total = ap (total (curve c)) (subtotals-pairs parts good-parts few-parts)
-          ∙ sym ((accepts-laws c ok) .any-split (map (pair-of c) rs) (map (map (pair-of c)) parts) (records-valid c rs good) (subst (Perm (map (pair-of c) rs)) (map-flatten (pair-of c) parts) (Perm·map (pair-of c) p)))
+          ∙ sym ((accepts-laws c ok) .any-split (map (pair-of c) rs) (map (map (pair-of c)) parts) (records-valid c rs good)
+          (subst (Perm (map (pair-of c) rs)) (map-flatten (pair-of c) parts) (Perm·map (pair-of c) p)))
 
       -- the parts' totals, summed by one more batch
       pub total-any-split : (out : List ℕ) → length parts ≤ 4096 → (total-call s (flatten (map (subtotal s o) parts)) out) .written ≡ (total-call s (flatten rs) out) .written
       unfolding total
-      total-any-split out l = total-written s ec (flatten (map (subtotal s o) parts)) out (batch-records c (sum (curve c)) (map (subtotal s o) parts) neutral (subtotals-good parts good-parts few-parts) (omega (arith, length-map parts (subtotal s o))))
+      total-any-split out l = total-written s ec (flatten (map (subtotal s o) parts)) out
+          (batch-records c (sum (curve c)) (map (subtotal s o) parts) neutral (subtotals-good parts good-parts few-parts) (omega (arith, length-map parts (subtotal s o))))
           ∙ ap (λ (d : PairOf c). write out (divisor-bytes (c .p) d)) same-total
           ∙ sym (total-written s ec (flatten rs) out (batch-records c (sum (curve c)) rs neutral good few))
 

@@ -68,16 +68,16 @@ module _ (E : Curve) (o : OverField E) where
 
   module _ (a b : Pair (E .K)) where
     abbrev u1 : P
-    u1 = mon F (a .u)
+    u1 = u-of E a
 
     abbrev v1 : P
-    v1 = pol F (a .v)
+    v1 = v-of E a
 
     abbrev u2 : P
-    u2 = mon F (b .u)
+    u2 = u-of E b
 
     abbrev v2 : P
-    v2 = pol F (b .v)
+    v2 = v-of E b
 
     -- ---- the two runs of Euclid
     p : Bezout (E .K)
@@ -151,12 +151,12 @@ module _ (E : Curve) (o : OverField E) where
     u-is : u1 * u2 ≡ d * d * pol F U0
     u-is = by (Kx E) 1P u-split (by (Kx E) (neg (d * d)) U0-is (ring (Kx E) (u1 ∷ u2 ∷ d ∷ pol F U0 ∷ in1 .factor ∷ in2 .factor ∷ []) (search quote depth 40) refl))
 
-    U-is : mon F ((composition E a b) .u) ≡ pol F U0
-    U-is = ap (λ (c : Pair (E .K)). mon F (c .u)) composition-normal ∙ already-monic (a .u) (b .u) (q .d) U0 u-is
+    U-is : u-of E (composition E a b) ≡ pol F U0
+    U-is = ap (λ (c : Pair (E .K)). u-of E c) composition-normal ∙ already-monic (a .u) (b .u) (q .d) U0 u-is
 
     -- v is the fraction, modulo u
-    V-is : Divides (Kx E) (mon F ((composition E a b) .u)) (pol F ((composition E a b) .v) ⊕ neg (pol F V0))
-    V-is = subst (λ (c : Pair (E .K)). Divides (Kx E) (mon F (c .u)) (pol F (c .v) ⊕ neg (pol F V0))) (sym composition-normal) (record {
+    V-is : Divides (Kx E) (u-of E (composition E a b)) (v-of E (composition E a b) ⊕ neg (pol F V0))
+    V-is = subst (λ (c : Pair (E .K)). Divides (Kx E) (u-of E c) (v-of E c ⊕ neg (pol F V0))) (sym composition-normal) (record {
       factor = neg (pol F (quotient F (monic (E .K) U0) V0));
       is = by (Kx E) (neg 1P) (divided F (monic (E .K) U0) V0)
           (ring (Kx E) (pol F V0 ∷ mon F (monic (E .K) U0) ∷ pol F (quotient F (monic (E .K) U0) V0) ∷ pol F (remainder F (monic (E .K) U0) V0) ∷ []) (search quote depth 40) refl);
@@ -169,8 +169,8 @@ module _ (E : Curve) (o : OverField E) where
     pub composition-small : length ((composition E a b) .u) ≤ length (a .u) + length (b .u)
     composition-small = omega (
       arith,
-      deg-bound K (suc (length (a .u) + length (b .u))) (length ((composition E a b) .u)) (coef F (mon F ((composition E a b) .u))) (mon-degree K ((composition E a b) .u))
-          (factor-below K (length (a .u) + length (b .u)) (u1 * u2) (mon F ((composition E a b) .u)) (d * d) (degree-mul K u1 u2 (mon-degree K (a .u)) (mon-degree K (b .u)))
+      deg-bound K (suc (length (a .u) + length (b .u))) (length ((composition E a b) .u)) (coef F (u-of E (composition E a b))) (mon-degree K ((composition E a b) .u))
+          (factor-below K (length (a .u) + length (b .u)) (u1 * u2) (u-of E (composition E a b)) (d * d) (degree-mul K u1 u2 (mon-degree K (a .u)) (mon-degree K (b .u)))
           (u-is ∙ ap (λ t. d * d * t) (sym U-is))),
     )
 
@@ -183,7 +183,8 @@ module _ (E : Curve) (o : OverField E) where
       split : s1 * u1 * v2 ⊕ s2 * u2 * v1 ⊕ s3 * (v1 * v2 ⊕ f E) ≡ W * d
       unfolding W
       split = by (Kx E) (s1 * v2) (in1 .is) (by (Kx E) (s2 * v1 ⊕ s3 * on2 .on .0) (in2 .is) (by (Kx E) (s3 * v2) (hq .right .is) (by (Kx E) s3 (on2 .on .1)
-          (ring (Kx E) (f E ∷ u1 ∷ v1 ∷ u2 ∷ v2 ∷ d ∷ pol F (p .s) ∷ pol F (p .t) ∷ pol F (q .s) ∷ s3 ∷ in1 .factor ∷ in2 .factor ∷ hq .right .factor ∷ on2 .on .0 ∷ []) (search quote depth 40) refl))))
+          (ring (Kx E) (f E ∷ u1 ∷ v1 ∷ u2 ∷ v2 ∷ d ∷ pol F (p .s) ∷ pol F (p .t) ∷ pol F (q .s) ∷ s3
+          ∷ in1 .factor ∷ in2 .factor ∷ hq .right .factor ∷ on2 .on .0 ∷ []) (search quote depth 40) refl))))
 
       V0-is : pol F V0 ≡ W
       unfolding V0
@@ -212,24 +213,24 @@ module _ (E : Curve) (o : OverField E) where
           (joined-on (Kx E) (f E) u1 v1 u2 v2 U (h .v) (composed-joined K (f E) u1 v1 u2 v2 (mon-ne K (a .u)) (on1 .on) (on2 .on) U V' h))
 
       pub composition-on : On E (composition E a b)
-      composition-on = record { fits = composition-fits; on = composed-on (mon F ((composition E a b) .u)) (pol F ((composition E a b) .v)) composition-is }
+      composition-on = record { fits = composition-fits; on = composed-on (u-of E (composition E a b)) (v-of E (composition E a b)) composition-is }
 
       -- any d, s1, s2, s3
       pub composition-any : (c : Pair (E .K)) → length (c .v) ≡ length (c .u) → Composes E a b c → composition E a b ≡ c
-      composition-any c fits h = go (composed-same K (f E) u1 v1 u2 v2 (mon-ne K (a .u)) (on1 .on) (on2 .on) U V' (mon F (c .u)) (pol F (c .v)) composition-is h)
+      composition-any c fits h = go (composed-same K (f E) u1 v1 u2 v2 (mon-ne K (a .u)) (on1 .on) (on2 .on) U V' (u-of E c) (v-of E c) composition-is h)
         where
           U : P
-          U = mon F ((composition E a b) .u)
+          U = u-of E (composition E a b)
 
           V' : P
-          V' = pol F ((composition E a b) .v)
+          V' = v-of E (composition E a b)
 
-          go : Alike K (f E) u1 v1 u2 v2 (mon-ne K (a .u)) (on1 .on) (on2 .on) U V' (mon F (c .u)) (pol F (c .v)) → composition E a b ≡ c
+          go : Alike K (f E) u1 v1 u2 v2 (mon-ne K (a .u)) (on1 .on) (on2 .on) U V' (u-of E c) (v-of E c) → composition E a b ≡ c
           go x = pair-same E o (composition E a b) c composition-fits fits
               (record {
                 factor = x .c';
                 is = by (Kx E) (neg (x .c')) (x .h-u) (by (Kx E) (neg U) (x .h-c)
-                    (ring (Kx E) (U ∷ mon F (c .u) ∷ x .c ∷ x .c' ∷ []) (search quote depth 40) refl));
+                    (ring (Kx E) (U ∷ u-of E c ∷ x .c ∷ x .c' ∷ []) (search quote depth 40) refl));
               })
               (record { factor = x .c; is = x .h-u })
-              (record { factor = x .k; is = by (Kx E) 1P (x .h-v) (ring (Kx E) (U ∷ V' ∷ pol F (c .v) ∷ x .k ∷ []) (search quote depth 40) refl) })
+              (record { factor = x .k; is = by (Kx E) 1P (x .h-v) (ring (Kx E) (U ∷ V' ∷ v-of E c ∷ x .k ∷ []) (search quote depth 40) refl) })

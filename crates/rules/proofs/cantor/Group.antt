@@ -17,7 +17,7 @@ use Rattle.algebra.proofs.ideal.Product.{conj-to, conj-from}
 use Rattle.algebra.proofs.ideal.Domain.{ι-regular}
 use Rattle.algebra.proofs.group.Group.{AbGroup}
 use Rattle.rules.specs.Curve.{Curve, Kx, f}
-use Rattle.rules.specs.Pair.{Pair, Valid, neutral, opposite}
+use Rattle.rules.specs.Pair.{Pair, Valid, neutral, opposite, u-of, v-of}
 use Rattle.rules.specs.Sum.{sum}
 use Rattle.rules.proofs.cantor.Accepted.{Accepted, field-of, f-degree}
 use Rattle.rules.proofs.cantor.SquareFree.{smooth-at}
@@ -83,10 +83,10 @@ module _ (E : Curve) (h : Accepted E) where
       whole-neutral = same-of S (λ x m. subst (ideal-of E neutral) (mul-one S x) ((span-ideal S _ _) .i-mul x (S .one) one-in)) (λ x m. tt)
 
       to-whole : Same S (Prod S (ideal-of E a) (ideal-of E (opposite a))) (Whole S)
-      to-whole = subst (λ (t : P). Same S (Prod S (ideal-of E a) (Mumford (Kx E) (f E) (mon F (a .u)) t)) (Whole S)) (sym (pol-neg F (a .v)))
-          (same-scaled S (ι (Kx E) (f E) (mon F (a .u))) (ι-regular K (E .g) (f E) (f-degree E (h .over) (h .odd)) (mon F (a .u)) (mon-ne K (a .u)))
-          (conj-to (Kx E) (f E) (smooth-at E h) (mon F (a .u)) (pol F (a .v)) (on-a .on .0) (on-a .on .1))
-          (conj-from (Kx E) (f E) (smooth-at E h) (mon F (a .u)) (pol F (a .v)) (on-a .on .0) (on-a .on .1)))
+      to-whole = subst (λ (t : P). Same S (Prod S (ideal-of E a) (Mumford (Kx E) (f E) (u-of E a) t)) (Whole S)) (sym (pol-neg F (a .v)))
+          (same-scaled S (ι (Kx E) (f E) (u-of E a)) (ι-regular K (E .g) (f E) (f-degree E (h .over) (h .odd)) (u-of E a) (mon-ne K (a .u)))
+          (conj-to (Kx E) (f E) (smooth-at E h) (u-of E a) (v-of E a) (on-a .on .0) (on-a .on .1))
+          (conj-from (Kx E) (f E) (smooth-at E h) (u-of E a) (v-of E a) (on-a .on .0) (on-a .on .1)))
 
   -- ---- the group
   abbrev pub Divisor : Type 0

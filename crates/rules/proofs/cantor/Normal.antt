@@ -20,7 +20,7 @@ use Rattle.algebra.proofs.list.Value.{pol, mon, pol-below, pol-inj}
 use Rattle.algebra.proofs.list.Division.{length-remainder, divided}
 use Rattle.algebra.proofs.list.Euclid.{C-inv, mon-degree, IsTop, top-is, monic-same}
 use Rattle.rules.specs.Curve.{Curve, Kx}
-use Rattle.rules.specs.Pair.{Pair}
+use Rattle.rules.specs.Pair.{Pair, u-of, v-of}
 use Rattle.rules.proofs.cantor.Accepted.{OverField, field-of}
 
 -- u made monic, and v modulo it
@@ -39,8 +39,8 @@ module _ (E : Curve) (o : OverField E) where
   infixl 65 _+_
   infixl 70 _*_
   pub pair-same : (a b : Pair (E .K)) → length (a .v) ≡ length (a .u) → length (b .v) ≡ length (b .u)
-      → Divides (Kx E) (mon F (b .u)) (mon F (a .u)) → Divides (Kx E) (mon F (a .u)) (mon F (b .u))
-      → Divides (Kx E) (mon F (a .u)) (pol F (b .v) + neg (pol F (a .v))) → a ≡ b
+      → Divides (Kx E) (u-of E b) (u-of E a) → Divides (Kx E) (u-of E a) (u-of E b)
+      → Divides (Kx E) (u-of E a) (v-of E b + neg (v-of E a)) → a ≡ b
   pair-same a b fits fits' h h' d = λ i. record { u = same-u i; v = same-v i }
     where
       same-u : a .u ≡ b .u
@@ -53,18 +53,18 @@ module _ (E : Curve) (o : OverField E) where
       below l e = subst (λ (n : ℕ). Below F n (coef F (pol F l))) e (pol-below F l)
 
       same-v : a .v ≡ b .v
-      same-v = pol-inj F (a .v) (b .v) (fits ∙ sym len-v) (sym (eq-of-sub (Kx E) (pol F (b .v)) (pol F (a .v))
-          (small K (length (a .u)) (mon F (a .u)) (pol F (b .v) + neg (pol F (a .v))) (d .factor) (mon-degree K (a .u))
-          (below-sub K (pol F (b .v)) (pol F (a .v)) (below (b .v) len-v) (below (a .v) fits)) (d .is))))
+      same-v = pol-inj F (a .v) (b .v) (fits ∙ sym len-v) (sym (eq-of-sub (Kx E) (v-of E b) (v-of E a)
+          (small K (length (a .u)) (u-of E a) (v-of E b + neg (v-of E a)) (d .factor) (mon-degree K (a .u))
+          (below-sub K (v-of E b) (v-of E a) (below (b .v) len-v) (below (a .v) fits)) (d .is))))
 
   -- c has the inverse c'
   pub record Normal (u v : List (F .El)) (a : Pair (E .K)) : Type 0 where
     pub c : P
     pub c' : P
     pub k : P
-    pub h-u : mon F (a .u) ≡ c * pol F u
+    pub h-u : u-of E a ≡ c * pol F u
     pub h-c : c * c' ≡ 1P
-    pub h-v : pol F (a .v) ≡ pol F v + k * pol F u
+    pub h-v : v-of E a ≡ pol F v + k * pol F u
     pub len : length (a .v) ≡ length (a .u)
     pub deg : Degree K (length (a .u)) (pol F u)
 
@@ -83,7 +83,8 @@ module _ (E : Curve) (o : OverField E) where
         h-v = by (Kx E) (neg 1P) (divided F m v) (by (Kx E) (q * i) (z .0) (by (Kx E) (q * mon F m) (C-inv K c (z .1))
             (ring (Kx E) (C F c ∷ i ∷ pol F u ∷ mon F m ∷ pol F v ∷ q ∷ pol F (remainder F m v) ∷ []) (search quote depth 40) refl)));
         len = length-remainder F m v;
-        deg = subst (Degree K (length m)) (sym (z .0)) (subst (λ (i : ℕ). Degree K i (C F c * mon F m)) (omega arith) (degree-mul K (C F c) (mon F m) (degree-C K c (z .1)) (mon-degree K m)));
+        deg = subst (Degree K (length m)) (sym (z .0)) (subst (λ (i : ℕ). Degree K i (C F c * mon F m)) (omega arith)
+            (degree-mul K (C F c) (mon F m) (degree-C K c (z .1)) (mon-degree K m)));
       }
         where
           i : P

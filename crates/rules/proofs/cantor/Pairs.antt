@@ -15,7 +15,7 @@ use Rattle.algebra.proofs.list.Ops.{negL}
 use Rattle.algebra.proofs.list.Value.{pol, mon, pol-nil, mon-nil, pol-neg, length-neg, mon-monic}
 use Rattle.algebra.proofs.ideal.Joined.{OnCurve}
 use Rattle.rules.specs.Curve.{Curve, Kx, f}
-use Rattle.rules.specs.Pair.{Pair, Valid, neutral, opposite}
+use Rattle.rules.specs.Pair.{Pair, Valid, neutral, opposite, u-of, v-of, f-v²}
 
 module _ (E : Curve) where
   abbrev F : CRing
@@ -30,16 +30,16 @@ module _ (E : Curve) where
   infixl 70 _*_
   pub record On (a : Pair (E .K)) : Type 0 where
     pub fits : length (a .v) ≡ length (a .u)
-    pub on : OnCurve (Kx E) (f E) (mon F (a .u)) (pol F (a .v))
+    pub on : OnCurve (Kx E) (f E) (u-of E a) (v-of E a)
 
   pub valid-on : {a : Pair (E .K)} → Valid E a → On a
   valid-on {a} h = record {
     fits = h .fits;
-    on = (h .divides .factor, by (Kx E) 1P (h .divides .is) (ring (Kx E) (f E ∷ mon F (a .u) ∷ pol F (a .v) ∷ h .divides .factor ∷ []) (search quote depth 40) refl));
+    on = (h .divides .factor, by (Kx E) 1P (h .divides .is) (ring (Kx E) (f E ∷ u-of E a ∷ v-of E a ∷ h .divides .factor ∷ []) (search quote depth 40) refl));
   }
 
-  pub on-divides : {a : Pair (E .K)} → On a → Divides (Kx E) (mon F (a .u)) (f E + neg (pol F (a .v) * pol F (a .v)))
-  on-divides {a} h = record { factor = h .on .0; is = by (Kx E) 1P (h .on .1) (ring (Kx E) (f E ∷ mon F (a .u) ∷ pol F (a .v) ∷ h .on .0 ∷ []) (search quote depth 40) refl) }
+  pub on-divides : {a : Pair (E .K)} → On a → Divides (Kx E) (u-of E a) (f-v² E a)
+  on-divides {a} h = record { factor = h .on .0; is = by (Kx E) 1P (h .on .1) (ring (Kx E) (f E ∷ u-of E a ∷ v-of E a ∷ h .on .0 ∷ []) (search quote depth 40) refl) }
 
   pub on-valid : {a : Pair (E .K)} → On a → length (a .u) ≤ E .g → Valid E a
   on-valid h l = record { fits = h .fits; small = l; divides = on-divides h }
@@ -59,7 +59,7 @@ module _ (E : Curve) where
   valid-prop a p q = λ i. record {
     fits = hedberg ℕ-discrete (length (a .v)) (length (a .u)) (p .fits) (q .fits) i;
     small = le-prop (p .small) (q .small) i;
-    divides = divides-prop (a .u) (f E + neg (pol F (a .v) * pol F (a .v))) (p .divides) (q .divides) i;
+    divides = divides-prop (a .u) (f-v² E a) (p .divides) (q .divides) i;
   }
 
   -- ---- the neutral pair, and the opposite of a valid one
@@ -80,8 +80,8 @@ module _ (E : Curve) where
     fits = length-neg F (a .v) ∙ h .fits;
     on = (
       h .on .0,
-      by (Kx E) 1P (h .on .1) (by (Kx E) (neg (pol F (negL F (a .v)) + neg (pol F (a .v)))) (pol-neg F (a .v))
-          (ring (Kx E) (f E ∷ pol F (a .v) ∷ pol F (negL F (a .v)) ∷ mon F (a .u) ∷ h .on .0 ∷ []) (search quote depth 40) refl)),
+      by (Kx E) 1P (h .on .1) (by (Kx E) (neg (pol F (negL F (a .v)) + neg (v-of E a))) (pol-neg F (a .v))
+          (ring (Kx E) (f E ∷ v-of E a ∷ pol F (negL F (a .v)) ∷ u-of E a ∷ h .on .0 ∷ []) (search quote depth 40) refl)),
     );
   }
 

@@ -39,13 +39,21 @@ module _ (E : Curve) (o : OverField E) (odd : length (E .low) ≡ suc (E .g + E 
       go : (d : Dec (length (a .u) ≤ E .g)) → Reduced zero a (elim d [ yes l ↦ a | no l ↦ while E n (step E a) ])
       go (yes s) = done zero a h s
       go (no s) = absurd (omega arith)
-  while-is (suc n) (suc t) a h ln lt = go (decLe (length (a .u)) (E .g)) (λ big. while-is n t (step E a) (step-on E o odd a h) (step-small E o odd a h n big ln) (step-small E o odd a h t big lt))
+  while-is (suc n) (suc t) a h ln lt = go (decLe (length (a .u)) (E .g))
+      (λ big. while-is n t (step E a) (step-on E o odd a h) (step-small E o odd a h n big ln) (step-small E o odd a h t big lt))
     where
       go : (d : Dec (length (a .u) ≤ E .g)) → (E .g < length (a .u) → Reduced t (step E a) (while E n (step E a)))
           → Reduced (suc t) a (elim d [ yes l ↦ a | no l ↦ while E n (step E a) ])
       go (yes s) rec = done (suc t) a h s
       go (no s) rec = let big : E .g < length (a .u) = omega arith in let r : Reduced t (step E a) (while E n (step E a)) = rec big in
-          record { turns = suc (r .turns); loop = turn big (r .loop); at-most = omega arith; on-curve = r .on-curve; short = r .short; same = same-trans (Kxy E) (step-class E o odd a h) (r .same) }
+          record {
+            turns = suc (r .turns);
+            loop = turn big (r .loop);
+            at-most = omega arith;
+            on-curve = r .on-curve;
+            short = r .short;
+            same = same-trans (Kxy E) (step-class E o odd a h) (r .same);
+          }
 
   pub reduction-is : (t : ℕ) (a : Pair (E .K)) → On E a → length (a .u) ≤ E .g + (t + t) → Reduced t a (reduction E a)
   unfolding reduction

@@ -55,7 +55,11 @@ module _ (E : Curve) (o : OverField E) where
 
   constant : SquareFree E → found .d ≡ []
   unfolding f'
-  constant h = empty (found .d) (omega (arith, deg-bound K 1 (length (found .d)) (coef F (mon F (found .d))) (mon-degree K (found .d)) (h (mon F (found .d)) (found-is .left) (found-is .right))))
+  constant h = empty (found .d) (omega (
+    arith,
+    deg-bound K 1 (length (found .d)) (coef F (mon F (found .d))) (mon-degree K (found .d))
+        (h (mon F (found .d)) (found-is .left) (found-is .right)),
+  ))
 
   bezout : found .d ≡ [] → pol F (found .s) * f E + pol F (found .t) * f' ≡ 1P
   bezout e = sym (found-is .bezout) ∙ ap (mon F) e ∙ mon-nil F
@@ -97,5 +101,6 @@ module _ (E : Curve) (h : Accepted E) where
 
   pub smooth-at : (u v w : P) → f E ≡ v * v + u * w → Smooth (Kx E) u v w
   unfolding f'
-  smooth-at = smooth (Kx E) (derP (E .K .base)) (derP-add (E .K .base)) (derP-mul (E .K .base)) (f E) (pol (E .K .base) (found E (h .over) .s)) (pol (E .K .base) (found E (h .over) .t))
+  smooth-at = smooth (Kx E) (derP (E .K .base)) (derP-add (E .K .base)) (derP-mul (E .K .base)) (f E) (pol (E .K .base) (found E (h .over) .s))
+      (pol (E .K .base) (found E (h .over) .t))
       half half-is (bezout E (h .over) (constant E (h .over) (h .square-free)))

@@ -26,7 +26,7 @@ use Rattle.algebra.proofs.ideal.Class.{Same, same-trans}
 use Rattle.algebra.proofs.ideal.Reduce.{on-change, same-change}
 use Rattle.algebra.proofs.ideal.Step.{cofactor-ne, step-same}
 use Rattle.rules.specs.Curve.{Curve, Kx, f}
-use Rattle.rules.specs.Pair.{Pair}
+use Rattle.rules.specs.Pair.{Pair, u-of, v-of, f-v²}
 use Rattle.rules.specs.Sum.{step}
 use Rattle.rules.proofs.cantor.Accepted.{OverField, field-of, f-degree}
 use Rattle.rules.proofs.cantor.Pairs.{On}
@@ -57,13 +57,13 @@ module _ (E : Curve) (o : OverField E) (odd : length (E .low) ≡ suc (E .g + E 
 
     w-is : pol F w ≡ h .on .0
     w-is = exact F (a .u) (curve-list E a) (h .on .0)
-        (curve-is E a ∙ by (Kx E) 1P (h .on .1) (ring (Kx E) (f E ∷ pol F (a .v) ∷ mon F (a .u) ∷ h .on .0 ∷ []) (search quote depth 40) refl))
+        (curve-is E a ∙ by (Kx E) 1P (h .on .1) (ring (Kx E) (f E ∷ v-of E a ∷ u-of E a ∷ h .on .0 ∷ []) (search quote depth 40) refl))
 
-    whole : f E ≡ pol F (a .v) * pol F (a .v) ⊕ mon F (a .u) * pol F w
-    whole = h .on .1 ∙ ap (λ t. pol F (a .v) * pol F (a .v) ⊕ mon F (a .u) * t) (sym w-is)
+    whole : f E ≡ v-of E a * v-of E a ⊕ u-of E a * pol F w
+    whole = h .on .1 ∙ ap (λ t. v-of E a * v-of E a ⊕ u-of E a * t) (sym w-is)
 
     w-ne : pol F w ≢ 0P
-    w-ne = cofactor-ne K (E .g) (f E) (f-degree E o odd) (mon F (a .u)) (pol F (a .v)) (pol F w) whole
+    w-ne = cofactor-ne K (E .g) (f E) (f-degree E o odd) (u-of E a) (v-of E a) (pol F w) whole
 
     made : Normal E o w (negL F (a .v)) (step E a)
     unfolding step
@@ -72,22 +72,23 @@ module _ (E : Curve) (o : OverField E) (odd : length (E .low) ≡ suc (E .g + E 
     -- (w, -v) lies on the curve too
     flipped : OnCurve (Kx E) (f E) (pol F w) (pol F (negL F (a .v)))
     flipped = (
-      mon F (a .u),
-      by (Kx E) 1P whole (by (Kx E) (neg (pol F (negL F (a .v)) ⊕ neg (pol F (a .v)))) (pol-neg F (a .v))
-          (ring (Kx E) (f E ∷ pol F (a .v) ∷ mon F (a .u) ∷ pol F w ∷ pol F (negL F (a .v)) ∷ []) (search quote depth 40) refl)),
+      u-of E a,
+      by (Kx E) 1P whole (by (Kx E) (neg (pol F (negL F (a .v)) ⊕ neg (v-of E a))) (pol-neg F (a .v))
+          (ring (Kx E) (f E ∷ v-of E a ∷ u-of E a ∷ pol F w ∷ pol F (negL F (a .v)) ∷ []) (search quote depth 40) refl)),
     )
 
     pub step-on : On E (step E a)
     step-on = record {
       fits = made .len;
-      on = on-change (Kx E) (f E) (pol F w) (pol F (negL F (a .v))) (mon F ((step E a) .u)) (pol F ((step E a) .v)) (made .k) (made .c) (made .c') (made .h-u) (made .h-c) (made .h-v) flipped;
+      on = on-change (Kx E) (f E) (pol F w) (pol F (negL F (a .v))) (u-of E (step E a)) (v-of E (step E a)) (made .k) (made .c) (made .c') (made .h-u) (made .h-c)
+          (made .h-v) flipped;
     }
 
     pub step-class : Same (Kxy E) (ideal-of E a) (ideal-of E (step E a))
     step-class = same-trans (Kxy E)
         (subst (λ (t : P). Same (Kxy E) (ideal-of E a) (Mumford (Kx E) (f E) (pol F w) t)) (sym (pol-neg F (a .v)))
-        (step-same K (E .g) (f E) (f-degree E o odd) (mon F (a .u)) (pol F (a .v)) (pol F w) whole))
-        (same-change (Kx E) (f E) (pol F w) (pol F (negL F (a .v))) (mon F ((step E a) .u)) (pol F ((step E a) .v)) (made .k) (made .c) (made .c') (made .h-u) (made .h-c) (made .h-v))
+        (step-same K (E .g) (f E) (f-degree E o odd) (u-of E a) (v-of E a) (pol F w) whole))
+        (same-change (Kx E) (f E) (pol F w) (pol F (negL F (a .v))) (u-of E (step E a)) (v-of E (step E a)) (made .k) (made .c) (made .c') (made .h-u) (made .h-c) (made .h-v))
 
     -- f - v² has no coefficient where w of a higher degree would put one
     pub step-small : (t : ℕ) → E .g < length (a .u) → length (a .u) ≤ E .g + (suc t + suc t) → length ((step E a) .u) ≤ E .g + (t + t)
@@ -96,21 +97,22 @@ module _ (E : Curve) (o : OverField E) (odd : length (E .low) ≡ suc (E .g + E 
         e : ℕ
         e = length ((step E a) .u)
 
-        top-at : Degree K (length (a .u) + e) (f E ⊕ neg (pol F (a .v) * pol F (a .v)))
-        top-at = subst (Degree K (length (a .u) + e)) (by (Kx E) (neg 1P) whole (ring (Kx E) (f E ∷ pol F (a .v) ∷ mon F (a .u) ∷ pol F w ∷ []) (search quote depth 40) refl))
-            (degree-mul K (mon F (a .u)) (pol F w) (mon-degree K (a .u)) (made .deg))
+        top-at : Degree K (length (a .u) + e) (f-v² E a)
+        top-at = subst (Degree K (length (a .u) + e)) (by (Kx E) (neg 1P) whole (ring (Kx E) (f E ∷ v-of E a ∷ u-of E a ∷ pol F w ∷ []) (search quote depth 40) refl))
+            (degree-mul K (u-of E a) (pol F w) (mon-degree K (a .u)) (made .deg))
 
         go : (n : ℕ) → length (a .u) ≡ n → e ≤ E .g + (t + t)
         go zero q = absurd (omega arith)
         go (suc n) q = cmp (decLe e (E .g + (t + t)))
           where
-            v-below : Below F (suc n) (coef F (pol F (a .v)))
-            v-below = subst (λ (i : ℕ). Below F i (coef F (pol F (a .v)))) (h .fits ∙ q) (pol-below F (a .v))
+            v-below : Below F (suc n) (coef F (v-of E a))
+            v-below = subst (λ (i : ℕ). Below F i (coef F (v-of E a))) (h .fits ∙ q) (pol-below F (a .v))
 
             cmp : Dec (e ≤ E .g + (t + t)) → e ≤ E .g + (t + t)
             cmp (yes l) = l
             cmp (no l) = absurd (top-at .top (
-                ap (λ (s : Ser F). s (length (a .u) + e)) (coef-add F (f E) (neg (pol F (a .v) * pol F (a .v)))
-                ∙ ap (addS F (coef F (f E))) (coef-neg F (pol F (a .v) * pol F (a .v)) ∙ ap (negS F) (coef-mul F (pol F (a .v)) (pol F (a .v)))))
-                ∙ ap₂ (λ (x z : F .El). F .add x (F .neg z)) ((f-degree E o odd) .below (length (a .u) + e) (omega arith)) (below-mul F (suc n) (suc n) (coef F (pol F (a .v))) (coef F (pol F (a .v))) v-below v-below (length (a .u) + e) (omega arith))
+                ap (λ (s : Ser F). s (length (a .u) + e)) (coef-add F (f E) (neg (v-of E a * v-of E a))
+                ∙ ap (addS F (coef F (f E))) (coef-neg F (v-of E a * v-of E a) ∙ ap (negS F) (coef-mul F (v-of E a) (v-of E a))))
+                ∙ ap₂ (λ (x z : F .El). F .add x (F .neg z)) ((f-degree E o odd) .below (length (a .u) + e) (omega arith))
+                (below-mul F (suc n) (suc n) (coef F (v-of E a)) (coef F (v-of E a)) v-below v-below (length (a .u) + e) (omega arith))
                 ∙ ring F [] (search quote depth 40) refl))

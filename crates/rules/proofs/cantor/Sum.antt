@@ -10,7 +10,6 @@ use lib.ListN.{length}
 use Rattle.algebra.proofs.ring.CRing.{CRing}
 use Rattle.algebra.proofs.ring.Quote.{ring, quote, by}
 use Rattle.algebra.proofs.ring.Field.{Field}
-use Rattle.algebra.proofs.list.Value.{pol, mon}
 use Rattle.algebra.proofs.list.Euclid.{mon-ne}
 use Rattle.algebra.proofs.ideal.Ideal.{_⊆_, Prod, Scaled}
 use Rattle.algebra.proofs.ideal.Quad.{ι}
@@ -23,7 +22,7 @@ use Rattle.algebra.proofs.ideal.Product.{join-in, join-out}
 use Rattle.algebra.proofs.ideal.Reduce.{change-in}
 use Rattle.algebra.proofs.ideal.Domain.{ι-regular}
 use Rattle.rules.specs.Curve.{Curve, Kx, f}
-use Rattle.rules.specs.Pair.{Pair, Valid}
+use Rattle.rules.specs.Pair.{Pair, Valid, u-of, v-of}
 use Rattle.rules.specs.Sum.{composition, sum}
 use Rattle.rules.proofs.cantor.Accepted.{Accepted, field-of, f-degree}
 use Rattle.rules.proofs.cantor.SquareFree.{smooth-at}
@@ -36,20 +35,17 @@ module _ (E : Curve) (h : Accepted E) where
   abbrev K : Field
   K = field-of E (h .over)
 
-  abbrev F : CRing
-  F = E .K .base
-
   open CRing (Kx E) using (El as P, add as _⊕_, mul as _*_, neg, one as 1P)
 
   infixl 65 _⊕_
   infixl 70 _*_
   -- whatever keeps the equations of composition: I(a)·I(b) = d·I(U, V)
-  module _ (a b : Pair (E .K)) (on1 : On E a) (on2 : On E b) (U V' : P) (c : Composed (Kx E) (f E) (mon F (a .u)) (pol F (a .v)) (mon F (b .u)) (pol F (b .v)) U V') where
-    J : Joined (Kx E) (f E) (mon F (a .u)) (pol F (a .v)) (mon F (b .u)) (pol F (b .v)) U (c .v)
-    J = composed-joined K (f E) (mon F (a .u)) (pol F (a .v)) (mon F (b .u)) (pol F (b .v)) (mon-ne K (a .u)) (on1 .on) (on2 .on) U V' c
+  module _ (a b : Pair (E .K)) (on1 : On E a) (on2 : On E b) (U V' : P) (c : Composed (Kx E) (f E) (u-of E a) (v-of E a) (u-of E b) (v-of E b) U V') where
+    J : Joined (Kx E) (f E) (u-of E a) (v-of E a) (u-of E b) (v-of E b) U (c .v)
+    J = composed-joined K (f E) (u-of E a) (v-of E a) (u-of E b) (v-of E b) (mon-ne K (a .u)) (on1 .on) (on2 .on) U V' c
 
     d-not-zero : c .d ≢ Kx E .zer
-    d-not-zero = d-ne K (f E) (mon F (a .u)) (pol F (a .v)) (mon F (b .u)) (pol F (b .v)) (mon-ne K (a .u)) (on1 .on) (on2 .on) U V' c
+    d-not-zero = d-ne K (f E) (u-of E a) (v-of E a) (u-of E b) (v-of E b) (mon-ne K (a .u)) (on1 .on) (on2 .on) U V' c
 
     v-change : V' ≡ c .v ⊕ c .v-mod .factor * U
     v-change = by (Kx E) 1P (c .v-mod .is) (ring (Kx E) (U ∷ V' ∷ c .v ∷ c .v-mod .factor ∷ []) (search quote depth 40) refl)
@@ -62,12 +58,12 @@ module _ (E : Curve) (h : Accepted E) where
 
     pub product-in : _⊆_ (Kxy E) (Prod (Kxy E) (ideal-of E a) (ideal-of E b)) (Scaled (Kxy E) (ι (Kx E) (f E) (c .d)) (Mumford (Kx E) (f E) U V'))
     unfolding J composed-joined
-    product-in x p = let z = join-in (Kx E) (f E) (smooth-at E h) (mon F (a .u)) (pol F (a .v)) (mon F (b .u)) (pol F (b .v)) U (c .v) J x p in
+    product-in x p = let z = join-in (Kx E) (f E) (smooth-at E h) (u-of E a) (v-of E a) (u-of E b) (v-of E b) U (c .v) J x p in
         record { part = z .part; inside = change (c .v) V' (c .v-mod .factor) v-change (z .part) (z .inside); is = z .is }
 
     pub product-out : _⊆_ (Kxy E) (Scaled (Kxy E) (ι (Kx E) (f E) (c .d)) (Mumford (Kx E) (f E) U V')) (Prod (Kxy E) (ideal-of E a) (ideal-of E b))
     unfolding J composed-joined
-    product-out x z = join-out (Kx E) (f E) (smooth-at E h) (mon F (a .u)) (pol F (a .v)) (mon F (b .u)) (pol F (b .v)) U (c .v) J x
+    product-out x z = join-out (Kx E) (f E) (smooth-at E h) (u-of E a) (v-of E a) (u-of E b) (v-of E b) U (c .v) J x
         (record { part = z .part; inside = change V' (c .v) (neg (c .v-mod .factor)) v-back (z .part) (z .inside); is = z .is })
 
     pub composed-class : Same (Kxy E) (Prod (Kxy E) (ideal-of E a) (ideal-of E b)) (Mumford (Kx E) (f E) U V')
@@ -92,5 +88,5 @@ module _ (E : Curve) (h : Accepted E) where
 
     pub sum-class : Same (Kxy E) (Prod (Kxy E) (ideal-of E a) (ideal-of E b)) (ideal-of E (sum E a b))
     sum-class = same-trans (Kxy E)
-        (composed-class a b on1 on2 (mon F ((composition E a b) .u)) (pol F ((composition E a b) .v)) (composition-is E (h .over) a b on1 on2))
+        (composed-class a b on1 on2 (u-of E (composition E a b)) (v-of E (composition E a b)) (composition-is E (h .over) a b on1 on2))
         (sum-loop .same)

@@ -2,8 +2,8 @@
 -- a valid pair whose ideal is in the class of I(a)·I(b), however it was found, is the sum (`sum-is`); and the same with
 -- explicit nonzero α and β (`sum-is-nonzero`).
 use Prim.Native.Nat.{_+_, _≤_}
-use mathlib.Core.Path.{_≡_, refl, subst}
-use mathlib.Core.List.{List, [], _∷_}
+use mathlib.Core.Path.{_≡_, refl, _∙_, subst}
+use mathlib.Core.List.{[], _∷_}
 use mathlib.Core.Logic.{_≢_}
 use native.Mathlib.Omega.{arith}
 use lib.ListN.{length}
@@ -11,7 +11,7 @@ use Rattle.algebra.proofs.ring.CRing.{CRing}
 use Rattle.algebra.proofs.ring.Quote.{ring, quote, by}
 use Rattle.algebra.proofs.ring.Divides.{Divides}
 use Rattle.algebra.proofs.ring.Field.{Field}
-use Rattle.algebra.proofs.list.Value.{pol, mon, pol-neg}
+use Rattle.algebra.proofs.list.Value.{pol-neg}
 use Rattle.algebra.proofs.list.Euclid.{mon-degree, mon-ne}
 use Rattle.algebra.proofs.ideal.Ideal.{Prod}
 use Rattle.algebra.proofs.ideal.Joined.{OnCurve, Joined}
@@ -21,7 +21,7 @@ use Rattle.algebra.proofs.ideal.Class.{Same, Moved, same-sym, same-trans}
 use Rattle.algebra.proofs.ideal.Domain.{regular}
 use Rattle.algebra.proofs.ideal.Unique.{unit-part}
 use Rattle.rules.specs.Curve.{Curve, Kx, f}
-use Rattle.rules.specs.Pair.{Pair, Valid, opposite}
+use Rattle.rules.specs.Pair.{Pair, Valid, opposite, u-of, v-of}
 use Rattle.rules.specs.Sum.{composition, sum}
 use Rattle.rules.proofs.cantor.Accepted.{Accepted, field-of, f-degree}
 use Rattle.rules.proofs.cantor.SquareFree.{smooth-at}
@@ -43,26 +43,26 @@ module _ (E : Curve) (h : Accepted E) where
   infixl 70 _*_
   module _ (a b : Pair (E .K)) (va : Valid E a) (vb : Valid E b) where
     abbrev u1 : P
-    u1 = mon F (a .u)
+    u1 = u-of E a
 
     abbrev v1 : P
-    v1 = pol F (a .v)
+    v1 = v-of E a
 
     abbrev u2 : P
-    u2 = mon F (b .u)
+    u2 = u-of E b
 
     abbrev v2 : P
-    v2 = pol F (b .v)
+    v2 = v-of E b
 
     -- b composed with the opposite of a
     c : Pair (E .K)
     c = composition E b (opposite a)
 
     abbrev U : P
-    U = mon F (c .u)
+    U = u-of E c
 
     abbrev V' : P
-    V' = pol F (c .v)
+    V' = v-of E c
 
     eqs : Composed (Kx E) (f E) u2 v2 u1 (neg v1) U V'
     unfolding c opposite
@@ -88,33 +88,26 @@ module _ (E : Curve) (h : Accepted E) where
     unfolding c opposite
     small = omega (arith, composition-small E (h .over) b (opposite a), va .small, vb .small)
 
-    -- a composed U that is a unit gives u1 | u2 | u1 and u1 | v2 - v1
+    -- a composed U that is a unit gives u1 | u2 | u1 and u1 | v2 - v1: what is d·p is then a multiple of d·q, where U is q·q'
     finish : Divides (Kx E) U 1P → a ≡ b
     finish z = pair-same E (h .over) a b (va .fits) (vb .fits)
-        (record {
-          factor = J .e2 * J .e2 * r;
-          is = by (Kx E) 1P (J .h-u2) (by (Kx E) (neg (J .e2 * J .e2 * r)) (J .h-u1) (by (Kx E) (J .d * J .e2) (z .is)
-              (by (Kx E) (J .d * J .e2 * r) (J .h-u3) (ring (Kx E) ρ (search quote depth 40) refl))));
-        })
-        (record {
-          factor = J .e1 * J .e1 * r;
-          is = by (Kx E) 1P (J .h-u1) (by (Kx E) (neg (J .e1 * J .e1 * r)) (J .h-u2) (by (Kx E) (J .d * J .e1) (z .is)
-              (by (Kx E) (J .d * J .e1 * r) (J .h-u3) (ring (Kx E) ρ (search quote depth 40) refl))));
-        })
-        (record {
-          factor = J .e3 * J .e1 * r;
-          is = by (Kx E) 1P (J .h-v) (by (Kx E) (neg (J .e3 * J .e1 * r)) (J .h-u2) (by (Kx E) (J .d * J .e3) (z .is)
-              (by (Kx E) (J .d * J .e3 * r) (J .h-u3) (ring (Kx E) ρ (search quote depth 40) refl))));
-        })
+        (multiple (J .e2) (J .e1) (J .e2) (J .h-u2) (J .h-u1) (J .h-u3))
+        (multiple (J .e1) (J .e2) (J .e1) (J .h-u1) (J .h-u2) turned)
+        (multiple (J .e3) (J .e2) (J .e1) (J .h-v) (J .h-u2) turned)
       where
-        r : P
-        r = z .factor
+        turned : U ≡ J .e2 * J .e1
+        turned = J .h-u3 ∙ Kx E .mul-comm (J .e1) (J .e2)
 
-        ρ : List P
-        ρ = u1 ∷ v1 ∷ u2 ∷ v2 ∷ U ∷ J .d ∷ J .e1 ∷ J .e2 ∷ J .e3 ∷ z .factor ∷ []
+        multiple : {x y : P} (p q q' : P) → x ≡ J .d * p → y ≡ J .d * q → U ≡ q * q' → Divides (Kx E) y x
+        multiple {x} {y} p q q' hx hy hU = record {
+          factor = p * q' * z .factor;
+          is = by (Kx E) 1P hx (by (Kx E) (neg (p * q' * z .factor)) hy (by (Kx E) (J .d * p) (z .is) (by (Kx E) (J .d * p * z .factor) hU
+              (ring (Kx E) (x ∷ y ∷ p ∷ q ∷ q' ∷ U ∷ J .d ∷ z .factor ∷ []) (search quote depth 40) refl))));
+        }
 
     pub unique : Same (Kxy E) (ideal-of E a) (ideal-of E b) → a ≡ b
-    unique s = finish (unit-part K (E .g) (f E) (f-degree E (h .over) (h .odd)) (smooth-at E h) u1 v1 u2 v2 U (eqs .v) (length (c .u)) J J-d (on-a .on) (mon-degree K (c .u)) small (same-sym (Kxy E) s))
+    unique s = finish (unit-part K (E .g) (f E) (f-degree E (h .over) (h .odd)) (smooth-at E h) u1 v1 u2 v2 U (eqs .v) (length (c .u)) J J-d (on-a .on)
+        (mon-degree K (c .u)) small (same-sym (Kxy E) s))
 
   module _ (a b c : Pair (E .K)) (va : Valid E a) (vb : Valid E b) (vc : Valid E c) where
     pub sum-is : Same (Kxy E) (Prod (Kxy E) (ideal-of E a) (ideal-of E b)) (ideal-of E c) → sum E a b ≡ c

@@ -1,0 +1,257 @@
+"""believed.py: what a reader must believe, counted.
+
+From the contracts of the public calls it follows each name to its definition, and from there the names that the definition's own text
+has, through the `use` lines of specs/ and of algebra's and rules' proofs/. It prints, file by file in the order of reading, the
+definitions reached and their lines; then what the statement of demand 3 (rules/proofs/Demand3 `demand3`) names besides.
+
+A definition is its signature, its clauses, its fields. Lines are those that are neither blank, comment, `use` nor `unfolding`; a `module`
+line counts once where something below it is reached, an `open` or `infix` line where a name of it is used. Not counted:
+
+  laws      in a column of their own: the fields of a `record { .. }` that are proofs, such as a ring's laws. The definition carries them along,
+            the checker believes them, and the names in them aren't followed.
+  proofs    lemmas that a definition cites by name. antt calculates only with what is marked `abbrev` or `unfoldable`; a definition
+            without a mark is taken for a lemma, listed, and not followed.
+  code      structs and enums declared in src/, listed by name.
+  kit       the toolchain's own names, listed by name.
+
+Names are read as words. A word that a clause binds (left of its `=`, by `λ`, `let` or a binder) is a variable in all of that clause; a section's
+parameters aren't told from definitions, so one that has a definition's name makes it count. What comes in by a glob, or by `use M` and
+`M.x`, would be missed: no file that is reached has one.
+
+    python3 tools/believed.py            the two tables
+    python3 tools/believed.py --unread   and the definitions of the files in specs/ that neither reaches
+"""
+import os
+import re
+import sys
+
+ROOT = os.path.join(os.path.dirname(os.path.abspath(__file__)), "..", "crates")
+CALLS = [("tablet", 'extern "C" fn'), ("lent", "pub fn scan("), ("texts", "pub fn tally"), ("lines", "pub fn refusal")]
+THEOREM = ("rules/proofs/Demand3", ["Demand3", "demand3"])
+ORDER = [
+    "rules/specs", "structs", "flats", "lent", "scans", "divisor", "field", "digits", "lines", "texts",
+    "algebra/proofs/ring", "algebra/proofs/list/Ops", "algebra/proofs/zmod", "algebra/proofs/poly/Series", "algebra/proofs/poly/Bound", "algebra/proofs/poly/Poly",
+    "algebra/proofs/poly", "algebra/proofs/list", "algebra", "rules/proofs/Demand3", "rules/proofs",
+]  # fmt: skip
+RULES = ["Curve", "Pair", "Sum", "Multiple", "Tests", "Bytes", "Records", "Lists", "Calls"]
+SIGNATURE = re.compile(r"((?:unfoldable |abbrev |pub )*)(\S+)(?: \{[^}]*\})? :(?: |$)")
+DECLARED = re.compile(r"(?:pub )?(record|data) (\S+)")
+
+
+def words(text):
+    """The names in a text: no projections (` .x`), no labels of a record (`x =` after `{` or `;`), no quoted text."""
+    text = re.sub(r'"[^"]*"', " ", text)
+    text = re.sub(r"(?<=[\s)])\.[^\s(){};,]+", " ", text)
+    text = re.sub(r"([{;]\s*)[^\s(){};,]+ =", r"\1 =", text)
+    return set(re.split(r"[\s(){}.;,@]+", text))
+
+
+def bound(clause):
+    """The variables that a clause binds."""
+    head = None if SIGNATURE.match(clause) or DECLARED.match(clause) else re.match(r"(.*?) =(?: |\n|$)", clause)
+    found = words(head.group(1)) if head else set()
+    for group in re.findall(r"[({]([^(){}:=]+) : ", clause) + re.findall(r"λ ([^.]*)\.", clause) + re.findall(r"\blet (\S+)", clause):
+        found |= set(re.split(r"[\s(){}]+", group))
+    return found
+
+
+def names(word, known):
+    """The names of `known` that a word stands for: itself, or an operator that has it for a part."""
+    return [n for n in known if n == word or ("_" in n and n != "_" and word in n.split("_") and word)]
+
+
+class Item:
+    def __init__(self, file, kind, name, mark, blocks):
+        self.file, self.kind, self.name, self.mark, self.blocks = file, kind, name, mark, blocks
+        self.lines, self.members, self.margin = [], [], [0]
+
+    def words(self):
+        """The names in its clauses, a clause at a time, but for laws and variables."""
+        found = set()
+        for begin, end in zip(self.margin, self.margin[1:] + [len(self.lines)]):
+            clause = "\n".join(line for line in self.lines[begin:end] if not law(line))
+            found |= words(clause) - (bound(clause) if self.kind != "module" else set())
+        return found
+
+
+class File:
+    """A file's imports and its items, in order: definitions, and the module, open and infix lines around them."""
+
+    def __init__(self, path):
+        self.path, self.imports, self.items = path, {}, []
+        blocks, item = [], None
+        for raw in open(os.path.join(ROOT, path + ".antt"), encoding="utf-8"):
+            line = re.sub(r"(^|\s)--( .*)?$", "", raw.rstrip("\n")).rstrip()
+            word = line.strip()
+            if not word or word.startswith("unfolding "):
+                continue
+            indent = len(line) - len(line.lstrip())
+            if re.match(r"(pub )?use ", word):
+                match = re.fullmatch(r"(?:pub )?use (\S+)\.\{(.*)\}", word)
+                for part in match.group(2).split(",") if match else []:
+                    name, _, new = part.strip().partition(" as ")
+                    self.imports[new or name] = (match.group(1), name)
+                continue
+            while blocks and indent < blocks[-1].inside:
+                blocks.pop()
+            if item and indent > item.indent and not (item.kind == "module" and item.lines[-1].endswith(" where")):
+                item.lines.append(word)
+                self.member(item, word, indent)
+                continue
+            item = self.begin(word, item, indent, list(blocks))
+            if item.kind == "module":
+                item.inside = indent + 2
+                blocks.append(item)
+
+    def begin(self, word, item, indent, blocks):
+        """A line that stands at its block's margin: it begins an item, or goes on with the clauses of the last one."""
+        sign, declared = SIGNATURE.match(word), DECLARED.match(word)
+        if word.startswith("module "):
+            new = Item(self, "module", None, None, blocks)
+        elif re.match(r"open |infix", word):
+            new = Item(self, "open", None, None, blocks)
+            used = re.search(r"using \((.*)\)", word)
+            new.members = [p.split(" as ")[-1].strip() for p in used.group(1).split(",")] if used else [word.split()[-1]]
+        elif declared:
+            new = Item(self, declared.group(1), declared.group(2), "abbrev", blocks)
+        elif sign:
+            new = Item(self, "definition", sign.group(2), sign.group(1), blocks)
+        elif re.match(r"(pub )?(mod|ruleset) ", word):
+            new = Item(self, "other", None, None, blocks)
+        else:
+            item.margin.append(len(item.lines))
+            item.lines.append(word)
+            return item
+        new.lines, new.indent, new.inside = [word], indent, indent + 2
+        self.items.append(new)
+        return new
+
+    def member(self, item, word, indent):
+        """A constructor stands for its data; a record's field that is a proof is a law wherever a value of it is made."""
+        sign = SIGNATURE.match(word)
+        if sign and indent == item.indent + 2:
+            if item.kind == "data":
+                item.members.append(sign.group(2))
+            if item.kind == "record" and re.search(r"[≡≢⊥]|IsSet", word):
+                LAWS.add(sign.group(2))
+
+    def defined(self):
+        return {n: i for i in self.items if i.kind in ("definition", "record", "data") for n in [i.name] + i.members}
+
+
+LAWS, FILES = set(), {}
+
+
+def law(line):
+    return re.match(r"(\S+) = ", line) and line.split()[0] in LAWS and line.endswith(";")
+
+
+def load(module):
+    """The file of a module, as Rattle.algebra.proofs.zmod.Zmod or Rattle.rules.specs.Pair; None for one of the kit or of code."""
+    match = re.fullmatch(r"Rattle·(\w+)(?:·\w+)?\.(specs|proofs)\.(.*)", module)
+    path = match and "/".join([match.group(1), match.group(2)] + match.group(3).split("."))
+    if not path or not os.path.exists(os.path.join(ROOT, path + ".antt")):
+        return None
+    if path not in FILES:
+        FILES[path] = File(path)
+    return FILES[path]
+
+
+class Reached:
+    def __init__(self):
+        self.items, self.other = set(), {"proofs": set(), "code": set(), "kit": set()}
+
+    def name(self, module, name):
+        file = load(module)
+        if file and name in file.defined():
+            self.item(file.defined()[name])
+        elif file and name in file.imports:  # handed on by a `pub use`
+            self.name(*file.imports[name])
+        elif not file:
+            self.other["code" if module.startswith("Rattle·") else "kit"].add(name)
+
+    def item(self, item):
+        if item in self.items:
+            return
+        if item.kind == "definition" and not re.search("abbrev|unfoldable", item.mark):
+            self.other["proofs"].add(item.name)
+            return
+        self.items.add(item)
+        self.follow(item.file, item.blocks, item.words())
+
+    def follow(self, file, blocks, found):
+        """Every name found, in the modules' own lines around it, and in the open lines that it uses."""
+        own = file.defined()
+        for around in blocks:
+            if around not in self.items:
+                self.items.add(around)
+                found |= around.words()
+        for line in file.items:
+            if line.kind == "open" and all(b in blocks for b in line.blocks) and line not in self.items and any(names(w, line.members) for w in found):
+                self.items.add(line)
+                found |= line.words()
+        for word in found:
+            for name in names(word, own):
+                self.item(own[name])
+            if not names(word, own):
+                for name in names(word, file.imports):
+                    self.name(*file.imports[name])
+
+
+def contracts(reached):
+    """The names in the `requires` and `ensures` of the public calls, by the `ghost use` lines above them."""
+    for crate, begins in CALLS:
+        source = open(os.path.join(ROOT, crate, "src", "lib.rt"), encoding="utf-8").read()
+        imports = {}
+        for module, group in re.findall(r"^ghost use (\S+)\.\{(.*)\};", source, re.M):
+            imports.update({n.strip(): (module, n.strip()) for n in group.split(",")})
+        for call in re.findall(re.escape(begins) + r".*?\n\{", source, re.S):
+            for fact in re.findall(r"⌜(.*?)⌝", call):
+                for word in words(fact):
+                    for name in names(word, imports):
+                        reached.name(*imports[name])
+
+
+def rank(path):
+    part = next(i for i, p in enumerate(ORDER) if path.startswith(p))
+    return (part, RULES.index(path.split("/")[-1]) if part == 0 else 0, path)
+
+
+def table(title, items):
+    print(title)
+    print("%-28s %5s %5s  %s" % ("file", "lines", "laws", "definitions"))
+    sums = [0, 0]
+    for path in sorted({i.file.path for i in items}, key=rank):
+        here = [i for i in FILES[path].items if i in items]
+        laws = sum(1 for i in here if i.kind == "definition" for line in i.lines if law(line))
+        lines = sum(len(i.lines) for i in here) - laws
+        sums = [sums[0] + lines, sums[1] + laws]
+        print("%-28s %5d %5s  %s" % (path, lines, laws or "", " ".join(i.name for i in here if i.name)))
+    print("%-28s %5d %5d" % ("together", sums[0], sums[1]))
+
+
+def main():
+    calls, both = Reached(), Reached()
+    contracts(calls)
+    contracts(both)
+    file = load("Rattle·" + THEOREM[0].replace("/", "."))
+    for name in THEOREM[1]:
+        item = file.defined()[name]
+        both.items.add(item)
+        # of the theorem itself only the statement
+        item.lines = item.lines[:1] if item.kind == "definition" else item.lines
+        both.follow(file, item.blocks, item.words())
+    table("What the contracts of the public calls name", calls.items)
+    print()
+    table("What the statement of demand 3 names besides", both.items - calls.items)
+    print("\nboth together: %d lines" % sum(len(i.lines) for i in both.items))
+    for kind, what in (("code", "declared in src/"), ("kit", "of the toolchain"), ("proofs", "lemmas cited by a definition")):
+        print("\n%s: %s" % (what, " ".join(sorted(both.other[kind]))))
+    if "--unread" in sys.argv:
+        for path in sorted(FILES, key=rank):
+            left = [i.name for i in FILES[path].items if i.name and i not in both.items and i.mark is not None]
+            if "/specs/" in path and left:
+                print("\nnot reached in %s: %s" % (path, " ".join(left)))
+
+
+main()
