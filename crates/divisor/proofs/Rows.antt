@@ -2,9 +2,9 @@
 -- tell the divisor, that its places are settled, and the four divisors made of a row.
 use Prim.Native.Nat.{ℕ, zero, suc, _+_, _*_, _≤_, _<_}
 use mathlib.Core.Path.{_≡_, refl, sym, ap, _∙_, subst}
-use mathlib.Core.List.{List, [], _∷_, _++_, map}
+use mathlib.Core.List.{List, [], _∷_, _++_}
 use native.Mathlib.Omega.{arith}
-use lib.ListN.{length, getD, take, drop, length-append, length-take, length-map}
+use lib.ListN.{length, getD, take, drop, length-append, length-take}
 use lib.Seq.{getD-take, getD-drop, take-take, take-add, take-at, drop-at, drop-cons}
 use Rattle.field.specs.declared.Modulus.{Modulus}
 use Rattle.field.specs.declared.Residue.{Residue}
@@ -64,10 +64,6 @@ module _ (m : Modulus) where
   row-settled d r h p k z l = subst (Settled m) (sym (row-at d r p k z l)) (settled-at (coefficients d) k z (settled-both (us d) (vs d) (h .u) (h .v)) (omega (arith, length-coefficients d)))
 
 -- ---- the divisor of a row
--- what the search lacks for an array of structs: its list is as long as the list that the logic keeps
-pub length-of : (S T : Type 0) (f : S → T) (l : List S) (n : ℕ) → length (map f l) ≡ n → length l ≡ n
-length-of S T f l n e = sym (length-map l f) ∙ e
-
 module _ (r : List Residue) (y : Residue) where
   -- n of them from place a on, one after the other
   abbrev cells : ℕ → ℕ → List Residue

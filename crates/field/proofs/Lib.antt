@@ -4,3 +4,4 @@ pub mod Inverse
 pub mod Trial
 pub mod Decide
 pub mod Read
+pub mod Arrays

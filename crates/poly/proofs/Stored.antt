@@ -2,10 +2,10 @@
 -- term added (`set-is`), that stores keep the residues in range, the list of zeros, and what `get` and `size` promise.
 use Prim.Native.Nat.{ℕ, zero, suc, _+_, _-_, _*_, _<_, _≤_}
 use mathlib.Core.Path.{_≡_, sym, ap, ap₂, _∙_, subst}
-use mathlib.Core.List.{List, [], _∷_, map}
+use mathlib.Core.List.{List, [], _∷_}
 use native.Mathlib.Omega.{arith}
 use native.Mathlib.Decide.{ℕ-discrete, decLt}
-use lib.ListN.{set, getD, length, length-set, replicate, getD-replicate, length-replicate, length-map}
+use lib.ListN.{set, getD, length, length-set, replicate, getD-replicate, length-replicate}
 use mir.Val.{Fits}
 use mir.Syntax.{w64}
 use lib.Seq.{getD-set-same, getD-set-other}
@@ -20,10 +20,6 @@ use Rattle.field.specs.declared.Modulus.{Modulus}
 use Rattle.field.specs.Residues.{el, Good, Kept, Stands, Everywhere}
 use Rattle.field.proofs.Laws.{zero-settles, settles-stands}
 use Rattle.poly.specs.Polys.{room, K, P, polL, Filled, Is}
-
--- what the search lacks for an array of structs: its list is as long as the list that the logic keeps
-pub length-of : (S T : Type 0) (f : S → T) (l : List S) (n : ℕ) → length (map f l) ≡ n → length l ≡ n
-length-of S T f l n e = sym (length-map l f) ∙ e
 
 -- a place within the room, and its offset in bytes, fit a word
 pub place-fits : (j : ℕ) → j < room → Fits w64 j

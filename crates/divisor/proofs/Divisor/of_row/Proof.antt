@@ -1,7 +1,8 @@
 use mathlib.Core.Path.{_≡_, sym}
 use native.Mathlib.Omega.{arith}
 use lib.ListN.{length}
-use Rattle.divisor.proofs.Rows.{length-of, made-one, made-two, made-three}
+use Rattle.field.proofs.Arrays.{length-of}
+use Rattle.divisor.proofs.Rows.{made-one, made-two, made-three}
 use borrow.Author.Needs.{needs}
 use Rattle.divisor.proofs.Divisor.of_row.Statement.{statement}
 use Rattle.divisor.proofs.Divisor.of_row.Tie as tie

@@ -4,7 +4,7 @@ use lib.ListN.{length}
 use Prim.Native.Nat.{_-_}
 use Rattle.field.proofs.Laws.{settles-stands}
 use Rattle.poly.specs.Polys.{room}
-use Rattle.poly.proofs.Stored.{length-of}
+use Rattle.field.proofs.Arrays.{length-of}
 use Rattle.poly.proofs.Derivative.{Deriving, derive-begin, derive-turn, derive-held, derive-end}
 use Rattle.poly.proofs.Poly.derivative.Statement.{statement}
 use Rattle.poly.proofs.Poly.derivative.Tie as tie

@@ -5,7 +5,8 @@ use native.Mathlib.Nat.{le-antisymm, lt-of-lt-of-le, lt-of-le-of-lt}
 use borrow.Author.Needs.{needs}
 use Rattle.field.specs.Residues.{el}
 use Rattle.poly.specs.Polys.{room, K, polL, pol}
-use Rattle.poly.proofs.Stored.{length-of, place-fits, next-fits, offset-fits, inside, read}
+use Rattle.field.proofs.Arrays.{length-of}
+use Rattle.poly.proofs.Stored.{place-fits, next-fits, offset-fits, inside, read}
 use Rattle.poly.proofs.Lengths.{one-back, one-less, one-on, less-left, within-one, all-in, rest-of}
 use Rattle.poly.proofs.Rows.{Rowing, row-begin, row-turn, row-less}
 use Rattle.poly.proofs.Division.{Reducing, Quoting, turn-in, top-in, row-in, row-fits, reduce-begin, read-lead, reduce-turn, reduce-held, quote-begin, quote-is, quote-turn, div-short, div-end}

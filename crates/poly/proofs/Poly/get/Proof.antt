@@ -2,7 +2,8 @@ use native.Mathlib.Omega.{arith}
 use mathlib.Core.Path.{_≡_}
 use lib.ListN.{length}
 use Rattle.poly.specs.Polys.{room}
-use Rattle.poly.proofs.Stored.{length-of, read, read-past}
+use Rattle.field.proofs.Arrays.{length-of}
+use Rattle.poly.proofs.Stored.{read, read-past}
 use borrow.Author.Needs.{needs}
 use Rattle.poly.proofs.Poly.get.Statement.{statement}
 use Rattle.poly.proofs.Poly.get.Tie as tie

@@ -6,7 +6,8 @@ use lib.ListN.{length}
 use Prim.Native.Nat.{_+_, _-_}
 use Rattle.field.specs.Residues.{el}
 use Rattle.poly.specs.Polys.{room, polL}
-use Rattle.poly.proofs.Stored.{length-of, place-fits, next-fits, offset-fits, inside, read}
+use Rattle.field.proofs.Arrays.{length-of}
+use Rattle.poly.proofs.Stored.{place-fits, next-fits, offset-fits, inside, read}
 use Rattle.poly.proofs.Lengths.{less-left}
 use Rattle.poly.proofs.Rows.{Rowing, row-begin, row-turn, row-plus}
 use Rattle.poly.proofs.Product.{Multiplying, cell-in, row-fits, mul-begin, mul-turn, mul-end, mul-none, mul-by-none}

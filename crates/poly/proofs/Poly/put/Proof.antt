@@ -1,7 +1,7 @@
 use mathlib.Core.Path.{_≡_}
 use lib.ListN.{length}
 use Rattle.poly.specs.Polys.{room}
-use Rattle.poly.proofs.Stored.{length-of}
+use Rattle.field.proofs.Arrays.{length-of}
 use Rattle.poly.proofs.Rows.{put-held, put-end}
 use borrow.Author.Needs.{needs}
 use Rattle.poly.proofs.Poly.put.Statement.{statement}

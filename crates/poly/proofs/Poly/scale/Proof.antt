@@ -4,7 +4,8 @@ use Prim.Native.Nat.{_-_}
 use native.Mathlib.Nat.{lt-of-lt-of-le}
 use Rattle.field.specs.Residues.{el}
 use Rattle.poly.specs.Polys.{room, P}
-use Rattle.poly.proofs.Stored.{length-of, next-fits, offset-fits, inside, read}
+use Rattle.field.proofs.Arrays.{length-of}
+use Rattle.poly.proofs.Stored.{next-fits, offset-fits, inside, read}
 use Rattle.poly.proofs.Lengths.{less-left}
 use Rattle.poly.proofs.Rows.{Rowing, scale-begin, scale-turn, scale-held, scale-end}
 use Rattle.poly.proofs.Poly.scale.Statement.{statement}

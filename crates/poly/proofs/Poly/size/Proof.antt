@@ -8,7 +8,8 @@ use Rattle.algebra.proofs.poly.Poly.{coef}
 use Rattle.field.specs.Residues.{el}
 use Rattle.field.proofs.Decide.{decided-yes, decided-no}
 use Rattle.poly.specs.Polys.{room, K, polL}
-use Rattle.poly.proofs.Stored.{length-of, offset-fits, inside, read}
+use Rattle.field.proofs.Arrays.{length-of}
+use Rattle.poly.proofs.Stored.{offset-fits, inside, read}
 use Rattle.poly.proofs.Lengths.{one-less, last-in, less}
 use Rattle.poly.proofs.Poly.size.Statement.{statement}
 use Rattle.poly.proofs.Poly.size.Tie as tie
