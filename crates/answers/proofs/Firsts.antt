@@ -1,16 +1,12 @@
 -- Calls that begin with a curve and one divisor: each rule goes on from `one-rule`, so what stops that stops the call, with the same number and
 -- place.
-use Prim.Native.Nat.{ℕ, _+_, _*_, _<_}
+use Prim.Native.Nat.{ℕ}
 use mathlib.Core.Path.{_≡_, refl, sym, ap, ap₂, _∙_, subst}
-use mathlib.Core.Bool.{Bool, true, false}
+use mathlib.Core.Bool.{true}
 use mathlib.Core.List.{List}
-use native.Mathlib.Omega.{arith}
-use lib.Dec.{ltb, leb}
-use lib.ListN.{getD, length}
-use Rattle.rules.specs.Bytes.{words}
-use Rattle.rules.specs.Tests.{on-curve?}
-use Rattle.rules.specs.Records.{Checked, refused, taken, choose, both as both?, fits, below?, elements, CurveRecord, curve, PairOf, read-curve, read-divisor, divisor-at}
+use Rattle.rules.specs.Records.{Checked, refused, taken, CurveRecord, PairOf, read-curve, read-divisor}
 use Rattle.rules.specs.Calls.{check}
+use Rattle.rules.proofs.calls.Refusals.{check-taken, check-refused, divisor-numbered}
 use Rattle.divisor.specs.declared.Divisor.{Divisor}
 use Rattle.curve_read.specs.declared.CurveRead.{CurveRead}
 use Rattle.divisor_read.specs.declared.DivisorRead.the-variants.{Taken, Refused}
@@ -36,37 +32,10 @@ module _ {R : Type 0} (stop : ℕ → ℕ → R) (go : FirstRead → R) (s a : L
   whole = check (read-curve s) stop (λ c. check (read-divisor c 1 a) stop (λ x. go (c, x)))
 
   pub one-stops : (n k : ℕ) → one-rule s a ≡ refused n k → whole ≡ stop n k
-  one-stops n k e = both stop go a (read-curve s) ∙ ap (λ t. check t stop go) e
+  one-stops n k e = both stop go a (read-curve s) ∙ check-refused _ stop go e
 
   pub one-goes : (x : FirstRead) → one-rule s a ≡ taken x → whole ≡ go x
-  one-goes x e = both stop go a (read-curve s) ∙ ap (λ t. check t stop go) e
-
--- the curve alone
-module _ {R : Type 0} (stop : ℕ → ℕ → R) (go : CurveRecord → R) (s : List ℕ) where
-  pub curve-stops : (n k : ℕ) → read-curve s ≡ refused n k → check (read-curve s) stop go ≡ stop n k
-  curve-stops n k e = ap (λ t. check t stop go) e
-
-  pub curve-goes : (c : CurveRecord) → read-curve s ≡ taken c → check (read-curve s) stop go ≡ go c
-  curve-goes c e = ap (λ t. check t stop go) e
-
--- ---- a refusal of a divisor has a number other than 0
-large : {A : Type 0} → Checked A → Type 0
-large (refused n k) = 0 < n
-large (taken a) = Unit {0}
-
-large-choose : {A : Type 0} (b : Bool) (x y : Checked A) → large x → large y → large (choose b x y)
-large-choose true x y p q = p
-large-choose false x y p q = q
-
-pub divisor-refusal : (c : CurveRecord) (k : ℕ) (whole : Bool) (s : List ℕ) (a n j : ℕ) → divisor-at c k whole s a ≡ refused n j → 0 < n
-unfolding divisor-at large
-divisor-refusal c k whole s a n j e = subst large e (large-choose (ltb a (length s)) _ _ (large-choose (leb (getD s a 0) (c .g)) _ _ (large-choose (fits whole (a + 1 + 16 * getD s a 0) (length s)) _ _ (large-choose (both? (below? (c .p) u) (below? (c .p) v)) _ _ (large-choose (on-curve? (curve c) (record { u = elements (c .p) u; v = elements (c .p) v })) _ _ tt (omega arith)) (omega arith)) (omega arith)) (omega arith)) (omega arith))
-  where
-    u : List ℕ
-    u = words s (a + 1) (getD s a 0)
-
-    v : List ℕ
-    v = words s (a + 1 + 8 * getD s a 0) (getD s a 0)
+  one-goes x e = both stop go a (read-curve s) ∙ check-taken _ stop go e
 
 -- ---- what `read_one` answers
 module _ (s a : List ℕ) (x : One) where
@@ -92,11 +61,11 @@ module _ (s a : List ℕ) (x : One) where
 
     pub one-refused : (n : ℕ) (d : Divisor) → DivisorIs (r .curve) true a 0 (Refused n) → x ≡ record { number = n; place = 1; curve = r .curve; divisor = d } → OneIs s a x
     one-refused n d k e = subst (OneIs s a) (sym e) (record {
-      sound = λ q. absurd (omega (arith, some));
-      holds = λ q. absurd (omega (arith, some));
-      takes = λ q. absurd (omega (arith, some));
+      sound = λ q. absurd (some q);
+      holds = λ q. absurd (some q);
+      takes = λ q. absurd (some q);
       refuses = λ q. first ∙ ap (λ t. check t refused (λ y. taken (recordOf (r .curve), y))) (k 1);
     })
       where
-        some : 0 < n
-        some = divisor-refusal (recordOf (r .curve)) 1 true a 0 n 1 (k 1)
+        some : n ≡ 0 → ⊥
+        some q = divisor-numbered (recordOf (r .curve)) 1 true a 0 1 (k 1 ∙ ap (λ (m : ℕ). refused m 1) q)

@@ -1,7 +1,7 @@
 -- Records at the front of an output: 13 where it is shorter, and what stands there where it is not.
 use Prim.Native.Nat.{ℕ, suc, _+_, _*_, _≤_, _<_}
 use mathlib.Core.Path.{_≡_, refl, sym, ap, _∙_, subst}
-use mathlib.Core.List.{List, [], _∷_}
+use mathlib.Core.List.{List}
 use native.Mathlib.Omega.{arith}
 use borrow.Author.Tests.{lt-ltb, le-ltb}
 use lib.ListN.{length, length-append}
@@ -12,24 +12,20 @@ use Rattle.algebra.proofs.list.Coefs.{length-coefs}
 use Rattle.rules.specs.Bytes.{bytes64, all-bytes}
 use Rattle.rules.specs.Records.{numbers, curve-bytes, divisor-bytes}
 use Rattle.rules.specs.Calls.{Written, left-as-is, write, done}
+use Rattle.rules.proofs.calls.Elements.{length-numbers}
 use Rattle.divisor.specs.declared.Divisor.{Divisor}
 use Rattle.divisor.specs.Divisors.{weightOf, pair}
+use Rattle.divisor.proofs.Laws.{weight-is, weight-is-v}
 use Rattle.field.specs.declared.Modulus.{Modulus}
 use Rattle.poly.specs.Polys.{pol}
 use Rattle.curve.specs.declared.Curve.{Curve}
 use Rattle.curve.specs.Record.{recordOf}
 use Rattle.words.proofs.Writing.{length-all}
-use Rattle.writes.proofs.Written.{weight-is, weight-is-v}
 use Rattle.answers.specs.declared.Answer.{Answer}
 use Rattle.answers.specs.declared.Answer.the-variants.{Done, Refused}
 use Rattle.answers.specs.Answers.{PutIs, Wrote}
 
 -- ---- the lengths of records
-length-numbers : (p : ℕ) (l : List (zmod p .El)) → length (numbers p l) ≡ length l
-unfolding numbers
-length-numbers p [] = refl
-length-numbers p (x ∷ l) = ap suc (length-numbers p l)
-
 pub divisor-length : (m : Modulus) (d : Divisor) → length (divisor-bytes (m .p) (pair m d)) ≡ 1 + 16 * weightOf d
 unfolding divisor-bytes
 divisor-length m d = omega (arith, length-append (all-bytes (numbers (m .p) (pair m d .u))) (all-bytes (numbers (m .p) (pair m d .v))), length-all (numbers (m .p) (pair m d .u)), length-all (numbers (m .p) (pair m d .v)), length-numbers (m .p) (pair m d .u), length-numbers (m .p) (pair m d .v), weight-is m d, weight-is-v m d)

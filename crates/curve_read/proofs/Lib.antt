@@ -1,3 +1,4 @@
 pub mod Primes
+pub mod Lows
 pub mod Low
 pub mod Whole

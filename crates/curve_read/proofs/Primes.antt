@@ -22,7 +22,7 @@ no-divisor-complete p (suc (suc d)) h = go (p % suc (suc d)) (h (suc (suc d)) (o
     go (suc r) l e = e
 
 -- the test is complete
-pub test-by-prime : (p : ℕ) → Prime p → is-prime p ≡ true
+test-by-prime : (p : ℕ) → Prime p → is-prime p ≡ true
 unfolding is-prime
 test-by-prime zero h = absurd (omega (arith, h .two))
 test-by-prime (suc zero) h = absurd (omega (arith, h .two))

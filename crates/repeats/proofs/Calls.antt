@@ -5,10 +5,9 @@ use mathlib.Core.List.{List, [], _∷_, _++_}
 use Rattle.rules.specs.Records.{CurveRecord}
 use Rattle.rules.specs.Lists.{batch, first-repeat}
 use Rattle.rules.specs.Calls.{Repeated, check, done, no-repeat, repeat-call}
+use Rattle.rules.proofs.calls.Refusals.{check-taken, check-refused}
 use Rattle.curve_read.specs.declared.CurveRead.{CurveRead}
-use Rattle.curve.specs.Record.{recordOf}
 use Rattle.curve_read.specs.Read.{CurveIs}
-use Rattle.answers.proofs.Firsts.{curve-stops, curve-goes}
 use Rattle.repeats.specs.declared.RepeatAnswer.the-variants.{Refused}
 use Rattle.repeats.specs.Repeats.{repeat-rule, repeatOf}
 
@@ -19,8 +18,8 @@ module _ (s b : List ℕ) (r : CurveRead) (h : CurveIs s r) where
 
   pub no-curve : (r .number ≡ 0 → ⊥) → repeatOf (Refused (r .number) 0) ≡ repeat-call s b
   unfolding repeat-call
-  no-curve z = sym (curve-stops no-repeat next s (r .number) 0 (h .refuses z))
+  no-curve z = sym (check-refused _ no-repeat next (h .refuses z))
 
   pub on-curve : r .number ≡ 0 → {x : Repeated} → x ≡ repeat-rule (r .curve) b → x ≡ repeat-call s b
   unfolding repeat-call
-  on-curve z e = e ∙ sym (curve-goes no-repeat next s (recordOf (r .curve)) (h .takes z))
+  on-curve z e = e ∙ sym (check-taken _ no-repeat next (h .takes z))

@@ -20,7 +20,7 @@ use Rattle.curve.specs.Curves.{Holds as OnCurve}
 use Rattle.curve_read.specs.declared.CurveRead.{CurveRead}
 use Rattle.curve.specs.Record.{recordOf}
 use Rattle.curve_read.specs.Read.{CurveIs}
-use Rattle.writes.proofs.Written.{weight-is, weight-is-v}
+use Rattle.divisor.proofs.Laws.{weight-is, weight-is-v}
 use Rattle.totals.specs.declared.TotalRead.{TotalRead}
 use Rattle.totals.specs.declared.TotalRead.the-variants.{Done, Refused}
 use Rattle.repeats.specs.declared.RepeatAnswer.{RepeatAnswer}

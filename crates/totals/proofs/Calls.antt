@@ -7,6 +7,7 @@ use Rattle.rules.specs.Sum.{sum}
 use Rattle.rules.specs.Records.{Checked, CurveRecord, PairOf, curve, divisor-bytes}
 use Rattle.rules.specs.Lists.{Batch, batch}
 use Rattle.rules.specs.Calls.{Written, Totalled, check, write, not-totalled, totalled, total-call}
+use Rattle.rules.proofs.calls.Refusals.{check-taken, check-refused}
 use Rattle.divisor.specs.declared.Divisor.{Divisor}
 use Rattle.divisor.specs.Divisors.{pair}
 use Rattle.curve.specs.Curves.{Holds}
@@ -15,7 +16,6 @@ use Rattle.curve.specs.Record.{recordOf}
 use Rattle.curve_read.specs.Read.{CurveIs}
 use Rattle.answers.specs.Answers.{PutIs}
 use Rattle.answers.proofs.Written.{write-none, write-all}
-use Rattle.answers.proofs.Firsts.{curve-stops, curve-goes}
 use Rattle.totals.specs.declared.TotalRead.{TotalRead}
 use Rattle.totals.specs.declared.TotalRead.the-variants.{Done, Refused}
 use Rattle.totals.specs.declared.TotalAnswer.the-variants.{Done as DoneTotal, Refused as RefusedTotal}
@@ -31,12 +31,12 @@ module _ (s b out : List ℕ) (r : CurveRead) (h : CurveIs s r) where
 
   pub no-curve : (r .number ≡ 0 → ⊥) → TotalAnswerIs (RefusedTotal (r .number) 0) out (total-call s b out)
   unfolding total-call
-  no-curve z = sym (curve-stops (not-totalled out) next s (r .number) 0 (h .refuses z))
+  no-curve z = sym (check-refused _ (not-totalled out) next (h .refuses z))
 
   module _ (z : r .number ≡ 0) (t : TotalRead) (is : TotalIs (r .curve) b t) where
     call-is : total-call s b out ≡ next (recordOf (r .curve))
     unfolding total-call
-    call-is = curve-goes (not-totalled out) next s (recordOf (r .curve)) (h .takes z)
+    call-is = check-taken _ (not-totalled out) next (h .takes z)
 
     pub no-total : {n k : ℕ} → t ≡ Refused n k → TotalAnswerIs (RefusedTotal n k) out (total-call s b out)
     no-total e = sym (call-is ∙ ap (after (recordOf (r .curve))) (subst (TotalIs (r .curve) b) e is))

@@ -27,7 +27,7 @@ unfolding below?
 below-append p [] m = refl
 below-append p (x ∷ l) m = ap (both (ltb x p)) (below-append p l m) ∙ sym (both-assoc (ltb x p) (below? p l) (below? p m))
 
-pub elements-append : (p : ℕ) (l m : List ℕ) → elements p (l ++ m) ≡ elements p l ++ elements p m
+elements-append : (p : ℕ) (l m : List ℕ) → elements p (l ++ m) ≡ elements p l ++ elements p m
 unfolding elements
 elements-append p [] m = refl
 elements-append p (x ∷ l) m = ap (λ t. emb p x ∷ t) (elements-append p l m)
@@ -39,7 +39,7 @@ module _ (s : List ℕ) where
   next : (a k : ℕ) → word64 s (a + 8 + 8 * k) ≡ word64 s (a + 8 * suc k)
   next a k = ap (word64 s) {x = a + 8 + 8 * k} {y = a + 8 * suc k} (omega arith)
 
-  pub words-snoc : (a k : ℕ) → words s a (suc k) ≡ words s a k ++ (word64 s (a + 8 * k) ∷ [])
+  words-snoc : (a k : ℕ) → words s a (suc k) ≡ words s a k ++ (word64 s (a + 8 * k) ∷ [])
   unfolding words
   words-snoc a zero = ap (λ t. t ∷ []) (sym (first a))
   words-snoc a (suc k) = ap (λ l. word64 s a ∷ l) (words-snoc (a + 8) k ∙ ap (λ t. words s (a + 8) k ++ (t ∷ [])) (next a k))

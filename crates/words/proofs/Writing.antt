@@ -1,31 +1,19 @@
 -- Numbers written one after the other: what `sets` does with one list after another, and the loops that write.
-use Prim.Native.Nat.{ℕ, zero, suc, _+_, _*_, _<_}
+use Prim.Native.Nat.{ℕ, suc, _+_, _*_, _<_}
 use mathlib.Core.Path.{_≡_, refl, sym, ap, _∙_}
-use mathlib.Core.List.{List, [], _∷_, _++_}
+use mathlib.Core.List.{List, [], _∷_, _++_, append-nil, append-assoc}
 use native.Mathlib.Omega.{arith}
-use lib.ListN.{length, getD, set, take, length-set, length-append}
-use lib.Seq.{sets, take-suc}
+use lib.ListN.{length, getD, set, take, length-append}
+use lib.Seq.{sets, take-suc, length-take-le}
 use Rattle.rules.specs.Bytes.{bytes64, all-bytes}
 
 pub sets-append : (l x y : List ℕ) (i j : ℕ) → j ≡ i + length x → sets l i (x ++ y) ≡ sets (sets l i x) j y
 sets-append l [] y i j e = ap (λ (k : ℕ). sets l k y) (omega arith)
 sets-append l (a ∷ x) y i j e = sets-append (set l i a) x y (suc i) j (omega arith)
 
-pub length-sets : (x l : List ℕ) (i : ℕ) → length (sets l i x) ≡ length l
-length-sets [] l i = refl
-length-sets (a ∷ x) l i = length-sets x (set l i a) (suc i) ∙ length-set l i a
-
 length-bytes64 : (x : ℕ) → length (bytes64 x) ≡ 8
 unfolding bytes64
 length-bytes64 x = refl
-
-append-assoc : (x y z : List ℕ) → (x ++ y) ++ z ≡ x ++ (y ++ z)
-append-assoc [] y z = refl
-append-assoc (a ∷ x) y z = ap (λ l. a ∷ l) (append-assoc x y z)
-
-append-nil : (x : List ℕ) → x ++ [] ≡ x
-append-nil [] = refl
-append-nil (a ∷ x) = ap (λ l. a ∷ l) (append-nil x)
 
 pub all-append : (l m : List ℕ) → all-bytes (l ++ m) ≡ all-bytes l ++ all-bytes m
 unfolding all-bytes
@@ -39,19 +27,11 @@ length-all (x ∷ l) = length-append (bytes64 x) (all-bytes l) ∙ omega (arith,
 
 -- one number more
 module _ (out : List ℕ) (a : ℕ) (x : List ℕ) (k : ℕ) (h : k < length x) where
-  length-take : length (take k x) ≡ k
-  length-take = go x k h
-    where
-      go : (x : List ℕ) (k : ℕ) → k < length x → length (take k x) ≡ k
-      go [] k h = absurd (omega arith)
-      go (b ∷ x) zero h = refl
-      go (b ∷ x) (suc k) h = ap suc (go x k (omega arith))
-
   pub write-more : sets (sets out a (all-bytes (take k x))) (a + 8 * k) (bytes64 (getD x k 0)) ≡ sets out a (all-bytes (take (k + 1) x))
   unfolding all-bytes
   write-more = sym (ap (λ l. sets out a (all-bytes l)) one
       ∙ ap (sets out a) (all-append (take k x) (getD x k 0 ∷ []) ∙ ap (λ t. all-bytes (take k x) ++ t) (append-nil (bytes64 (getD x k 0))))
-      ∙ sets-append out (all-bytes (take k x)) (bytes64 (getD x k 0)) a (a + 8 * k) (omega (arith, length-all (take k x), length-take)))
+      ∙ sets-append out (all-bytes (take k x)) (bytes64 (getD x k 0)) a (a + 8 * k) (omega (arith, length-all (take k x), length-take-le k x (omega arith))))
     where
       one : take (k + 1) x ≡ take k x ++ (getD x k 0 ∷ [])
       one = ap (λ (n : ℕ). take n x) {x = k + 1} {y = suc k} (omega arith) ∙ take-suc x k 0 h

@@ -11,8 +11,7 @@ use Rattle.rules.specs.Records.{numbers, curve-bytes, divisor-bytes}
 use Rattle.field.specs.declared.Modulus.{Modulus}
 use Rattle.divisor.specs.declared.Divisor.{Divisor}
 use Rattle.divisor.specs.Divisors.{weightOf, pair}
-use Rattle.divisor.proofs.Laws.{weight-le}
-pub use Rattle.divisor.proofs.Laws.{weight-is, weight-is-v}
+use Rattle.divisor.proofs.Laws.{weight-le, weight-is}
 use Rattle.curve.specs.declared.Curve.{Curve}
 use Rattle.curve.specs.Curves.{Sound}
 use Rattle.curve.specs.Record.{recordOf}

@@ -1,6 +1,6 @@
 use mathlib.Core.Path.{sym}
 use Rattle.rules.specs.Calls.{check-curve, refusal, done}
-use Rattle.answers.proofs.Firsts.{curve-stops, curve-goes}
+use Rattle.rules.proofs.calls.Refusals.{check-taken, check-refused}
 use borrow.Author.Needs.{needs}
 use Rattle.answers.proofs.check_curve.Statement.{statement}
 use Rattle.answers.proofs.check_curve.Tie as tie
@@ -10,11 +10,11 @@ read-curve-requires c κs = search needs
 
 returns : tie.Need-returns
 unfolding check-curve
-returns c = sym (curve-stops refusal (λ d. done 0) (c .before .before .before .args .curve .now) _ _ (c .before .read-curve .ensures .refuses (c .if1 .taken)))
+returns c = sym (check-refused _ refusal (λ d. done 0) (c .before .read-curve .ensures .refuses (c .if1 .taken)))
 
 returns-2 : tie.Need-returns-2
 unfolding check-curve
-returns-2 c = sym (curve-goes refusal (λ d. done 0) (c .before .before .before .args .curve .now) _ (c .before .read-curve .ensures .takes (c .if1 .left)))
+returns-2 c = sym (check-taken _ refusal (λ d. done 0) (c .before .read-curve .ensures .takes (c .if1 .left)))
 
 pub check-curve-spec : {M : Type 1} → statement M
 check-curve-spec = tie.close (tie.spec read-curve-requires returns returns-2)

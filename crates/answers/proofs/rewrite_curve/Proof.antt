@@ -3,7 +3,7 @@ use native.Mathlib.Omega.{arith}
 use Rattle.rules.specs.Records.{curve-bytes}
 use Rattle.rules.specs.Calls.{rewrite-curve, left-as-is, write}
 use Rattle.curve.specs.Record.{recordOf}
-use Rattle.answers.proofs.Firsts.{curve-stops, curve-goes}
+use Rattle.rules.proofs.calls.Refusals.{check-taken, check-refused}
 use Rattle.answers.proofs.Written.{curve-length, put-none, put-all, wrote-none, wrote-all, refused-as, goes-on}
 use borrow.Author.Needs.{needs}
 use Rattle.answers.proofs.rewrite_curve.Statement.{statement}
@@ -14,7 +14,7 @@ read-curve-requires c κs = search needs
 
 returns : tie.Need-returns
 unfolding rewrite-curve
-returns c = let s = c .before .before .before .before .before in refused-as (curve-stops (left-as-is (s .args .out .now)) (λ d. write (s .args .out .now) (curve-bytes d)) (s .args .curve .now) _ _ (c .before .before .read-curve .ensures .refuses (c .if1 .taken)))
+returns c = let s = c .before .before .before .before .before in refused-as (check-refused _ (left-as-is (s .args .out .now)) (λ d. write (s .args .out .now) (curve-bytes d)) (c .before .before .read-curve .ensures .refuses (c .if1 .taken)))
 
 mul-n : tie.Need-mul-n
 mul-n c = omega (arith, c .before .before .before .read-curve .ensures .sound (c .before .if1 .left) .most)
@@ -24,7 +24,7 @@ add-n c = omega (arith, c .before .before .before .read-curve .ensures .sound (c
 
 returns-2 : tie.Need-returns-2
 unfolding rewrite-curve
-returns-2 c = let s = c .before .before .before .before .before .before .before in let r = c .before .before .before .before .read-curve in goes-on (curve-goes (left-as-is (s .args .out .now)) (λ d. write (s .args .out .now) (curve-bytes d)) (s .args .curve .now) _ (r .ensures .takes (c .before .before .if1 .left))) (wrote-none (s .args .out .now) (curve-bytes (recordOf (r .result .curve))) (put-none (s .args .out .now) (curve-bytes (recordOf (r .result .curve))) (curve-length (r .result .curve)) (c .if2 .taken)) refl)
+returns-2 c = let s = c .before .before .before .before .before .before .before in let r = c .before .before .before .before .read-curve in goes-on (check-taken _ (left-as-is (s .args .out .now)) (λ d. write (s .args .out .now) (curve-bytes d)) (r .ensures .takes (c .before .before .if1 .left))) (wrote-none (s .args .out .now) (curve-bytes (recordOf (r .result .curve))) (put-none (s .args .out .now) (curve-bytes (recordOf (r .result .curve))) (curve-length (r .result .curve)) (c .if2 .taken)) refl)
 
 write-curve-requires : tie.Need-write-curve-requires
 write-curve-requires c κs = (c .before .before .before .before .before .read-curve .ensures .sound (c .before .before .before .if1 .left), omega (arith, c .before .if2 .left))
@@ -34,7 +34,7 @@ same-length c = search needs
 
 returns-3 : tie.Need-returns-3
 unfolding rewrite-curve
-returns-3 c = let s = c .before .before .before .before .before .before .before .before .before .before .before in let r = c .before .before .before .before .before .before .before .before .read-curve in goes-on (curve-goes (left-as-is (s .args .out .now)) (λ d. write (s .args .out .now) (curve-bytes d)) (s .args .curve .now) _ (r .ensures .takes (c .before .before .before .before .before .before .if1 .left))) (wrote-all (s .args .out .now) (curve-bytes (recordOf (r .result .curve))) (put-all (s .args .out .now) (curve-bytes (recordOf (r .result .curve))) (curve-length (r .result .curve)) (omega arith) (omega (arith, c .before .before .before .before .if2 .left)) (c .before .before .write-curve .ensures)) (λ z. omega arith))
+returns-3 c = let s = c .before .before .before .before .before .before .before .before .before .before .before in let r = c .before .before .before .before .before .before .before .before .read-curve in goes-on (check-taken _ (left-as-is (s .args .out .now)) (λ d. write (s .args .out .now) (curve-bytes d)) (r .ensures .takes (c .before .before .before .before .before .before .if1 .left))) (wrote-all (s .args .out .now) (curve-bytes (recordOf (r .result .curve))) (put-all (s .args .out .now) (curve-bytes (recordOf (r .result .curve))) (curve-length (r .result .curve)) (omega arith) (omega (arith, c .before .before .before .before .if2 .left)) (c .before .before .write-curve .ensures)) (λ z. omega arith))
 
 pub rewrite-curve-spec : {M : Type 1} → statement M
 rewrite-curve-spec =

@@ -1,5 +1,5 @@
 use Rattle.field.proofs.Read.{read-below, read-above}
-use Rattle.curve_read.proofs.Low.{Lows, lows-begin, lows-put, lows-turn, lows-stop, lows-end}
+use Rattle.curve_read.proofs.Lows.{Lows, lows-begin, lows-put, lows-turn, lows-stop, lows-end}
 use Prim.Native.Nat.{_-_, _+_, suc}
 use native.Mathlib.Omega.{arith}
 use borrow.Author.Needs.{needs}

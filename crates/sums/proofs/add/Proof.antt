@@ -3,7 +3,7 @@ use mathlib.Core.Bool.{true}
 use mathlib.Core.Path.{subst}
 use Rattle.divisor_read.specs.declared.DivisorRead.{DivisorRead}
 use Rattle.divisor_read.specs.Read.{DivisorIs}
-use Rattle.sums.proofs.Calls.{add-refused, add-second, add-done}
+use Rattle.sums.proofs.Adds.{add-refused, add-second, add-done}
 use borrow.Author.Needs.{needs}
 use Rattle.sums.proofs.add.Statement.{statement}
 use Rattle.sums.proofs.add.Tie as tie

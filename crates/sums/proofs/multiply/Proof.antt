@@ -1,4 +1,4 @@
-use Rattle.sums.proofs.Calls.{multiply-refused, multiply-long, multiply-short, multiply-done}
+use Rattle.sums.proofs.Multiples.{multiply-refused, multiply-long, multiply-short, multiply-done}
 use borrow.Author.Needs.{needs}
 use Rattle.sums.proofs.multiply.Statement.{statement}
 use Rattle.sums.proofs.multiply.Tie as tie

@@ -1,7 +1,7 @@
 use native.Mathlib.Omega.{arith}
 use mathlib.Core.Path.{_∙_, ap}
 use lib.ListN.{length, length-set}
-use Rattle.words.proofs.Writing.{length-sets}
+use lib.Seq.{length-sets}
 use Rattle.writes.proofs.Written.{curve-written}
 use borrow.Author.Needs.{needs}
 use Rattle.writes.proofs.write_curve.Statement.{statement}

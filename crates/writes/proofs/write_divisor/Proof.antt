@@ -4,7 +4,7 @@ use mathlib.Core.Path.{_∙_, ap}
 use lib.ListN.{length, length-set}
 use Rattle.divisor.specs.Divisors.{weightOf}
 use Rattle.divisor.proofs.Laws.{weight-le}
-use Rattle.words.proofs.Writing.{length-sets}
+use lib.Seq.{length-sets}
 use Rattle.writes.proofs.Written.{divisor-written}
 use borrow.Author.Needs.{needs}
 use Rattle.writes.proofs.write_divisor.Statement.{statement}
