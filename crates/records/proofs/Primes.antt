@@ -1,11 +1,11 @@
 -- The rule's test of p decides whether p is an odd prime within the limit: `odd-prime-yes`, `odd-prime-no`.
 use Prim.Native.Nat.{ℕ, zero, suc, _%_, _≤_, _<_}
 use mathlib.Core.Path.{_≡_, refl, ap₂}
-use mathlib.Core.Bool.{Bool, true, false, false≢true}
+use mathlib.Core.Bool.{true, false}
 use native.Mathlib.Omega.{arith}
 use borrow.Author.Tests.{le-leb, leb-true}
 use lib.Dec.{leb}
-use Rattle.algebra.proofs.zmod.Prime.{Prime, no-divisor, is-prime, IsTrue, prime-by-test}
+use Rattle.algebra.proofs.zmod.Prime.{Prime, no-divisor, is-prime, prime-by-test}
 use Rattle.rules.specs.Records.{both, odd-prime?}
 use Rattle.field.specs.Primes.{limit, OddPrime}
 use Rattle.records.proofs.Checks.{both-true, otherwise}
@@ -27,10 +27,6 @@ test-by-prime zero h = absurd (omega (arith, h .two))
 test-by-prime (suc zero) h = absurd (omega (arith, h .two))
 test-by-prime (suc (suc p)) h = no-divisor-complete (suc (suc p)) (suc p) (λ e l k. h .none e l (omega arith))
 
-is-true : (b : Bool) → b ≡ true → IsTrue b
-is-true true e = tt
-is-true false e = absurd (false≢true e)
-
 pub odd-prime-yes : (p : ℕ) → OddPrime p → odd-prime? p ≡ true
 unfolding odd-prime?
 odd-prime-yes p h = ap₂ both (le-leb 3 p (h .odd)) (ap₂ both (le-leb p limit (h .small)) (test-by-prime p (h .is)))
@@ -38,7 +34,7 @@ odd-prime-yes p h = ap₂ both (le-leb 3 p (h .odd)) (ap₂ both (le-leb p limit
 odd-prime-is : (p : ℕ) → odd-prime? p ≡ true → OddPrime p
 unfolding odd-prime?
 odd-prime-is p e = let h = both-true (leb 3 p) (both (leb p limit) (is-prime p)) e in let k = both-true (leb p limit) (is-prime p) (h .1) in
-    record { is = prime-by-test p (is-true (is-prime p) (k .1)); odd = leb-true 3 p (h .0); small = leb-true p limit (k .0) }
+    record { is = prime-by-test p (k .1); odd = leb-true 3 p (h .0); small = leb-true p limit (k .0) }
 
 pub odd-prime-no : (p : ℕ) → (OddPrime p → ⊥) → odd-prime? p ≡ false
 odd-prime-no p h = otherwise (odd-prime? p) (λ e. h (odd-prime-is p e))
