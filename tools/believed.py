@@ -16,7 +16,7 @@ line counts once where something below it is reached, an `open` or `infix` line 
 
 Names are read as words. A word that a clause binds (left of its `=`, by `λ`, `let` or a binder) is a variable in all of that clause; a section's
 parameters aren't told from definitions, so one that has a definition's name makes it count. What comes in by a glob, or by `use M` and
-`M.x`, would be missed: no file that is reached has one.
+`M.x`, would be missed: a file that is reached and has such a line is named as a warning.
 
     python3 tools/believed.py            the two tables
     python3 tools/believed.py --unread   and the definitions of the files in specs/ that neither reaches
@@ -78,7 +78,7 @@ class File:
     """A file's imports and its items, in order: definitions, and the module, open and infix lines around them."""
 
     def __init__(self, path):
-        self.path, self.imports, self.items = path, {}, []
+        self.path, self.imports, self.items, self.whole = path, {}, [], []
         blocks, item = [], None
         for raw in open(os.path.join(ROOT, path + ".antt"), encoding="utf-8"):
             line = re.sub(r"(^|\s)--( .*)?$", "", raw.rstrip("\n")).rstrip()
@@ -88,6 +88,7 @@ class File:
             indent = len(line) - len(line.lstrip())
             if re.match(r"(pub )?use ", word):
                 match = re.fullmatch(r"(?:pub )?use (\S+)\.\{(.*)\}", word)
+                self.whole += [] if match else [word]
                 for part in match.group(2).split(",") if match else []:
                     name, _, new = part.strip().partition(" as ")
                     self.imports[new or name] = (match.group(1), name)
@@ -228,6 +229,7 @@ def table(title, items):
         sums = [sums[0] + lines, sums[1] + laws]
         print("%-28s %5d %5s  %s" % (path, lines, laws or "", " ".join(i.name for i in here if i.name)))
     print("%-28s %5d %5d" % ("together", sums[0], sums[1]))
+    return sums
 
 
 def main():
@@ -241,12 +243,14 @@ def main():
         # of the theorem itself only the statement
         item.lines = item.lines[:1] if item.kind == "definition" else item.lines
         both.follow(file, item.blocks, item.words())
-    table("What the contracts of the public calls name", calls.items)
+    first = table("What the contracts of the public calls name", calls.items)
     print()
-    table("What the statement of demand 3 names besides", both.items - calls.items)
-    print("\nboth together: %d lines" % sum(len(i.lines) for i in both.items))
+    more = table("What the statement of demand 3 names besides", both.items - calls.items)
+    print("\nboth: %d lines, and %d of laws" % (first[0] + more[0], first[1] + more[1]))
     for kind, what in (("code", "declared in src/"), ("kit", "of the toolchain"), ("proofs", "lemmas cited by a definition")):
         print("\n%s: %s" % (what, " ".join(sorted(both.other[kind]))))
+    for file in {i.file for i in both.items if i.file.whole}:
+        print("\nwarning: %s has %s, which isn't followed" % (file.path, ", ".join(file.whole)))
     if "--unread" in sys.argv:
         for path in sorted(FILES, key=rank):
             left = [i.name for i in FILES[path].items if i.name and i not in both.items and i.mark is not None]

@@ -7,7 +7,7 @@ use borrow.Author.Tests.{le-leb, leb-true}
 use lib.Dec.{leb}
 use Rattle.algebra.proofs.zmod.Prime.{Prime, no-divisor, is-prime, prime-by-test}
 use Rattle.rules.specs.Records.{both, odd-prime?}
-use Rattle.rules.proofs.calls.Tests.{both-true, is-true}
+use Rattle.rules.proofs.calls.Tests.{both-true}
 use Rattle.field.specs.Primes.{limit, OddPrime}
 use Rattle.field.proofs.Decide.{otherwise}
 
@@ -35,7 +35,7 @@ odd-prime-yes p h = ap₂ both (le-leb 3 p (h .odd)) (ap₂ both (le-leb p limit
 odd-prime-is : (p : ℕ) → odd-prime? p ≡ true → OddPrime p
 unfolding odd-prime?
 odd-prime-is p e = let h = both-true (leb 3 p) (both (leb p limit) (is-prime p)) e in let k = both-true (leb p limit) (is-prime p) (h .1) in
-    record { is = prime-by-test p (is-true (k .1)); odd = leb-true 3 p (h .0); small = leb-true p limit (k .0) }
+    record { is = prime-by-test p (k .1); odd = leb-true 3 p (h .0); small = leb-true p limit (k .0) }
 
 pub odd-prime-no : (p : ℕ) → (OddPrime p → ⊥) → odd-prime? p ≡ false
 odd-prime-no p h = otherwise (odd-prime? p) (λ e. h (odd-prime-is p e))

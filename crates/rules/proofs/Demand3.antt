@@ -134,10 +134,10 @@ abbrev low-B : List (zmod 11 .El)
 low-B = map (emb 11) (1 ∷ 0 ∷ 0 ∷ 0 ∷ 0 ∷ 0 ∷ 0 ∷ [])
 
 prime-7 : Prime 7
-prime-7 = prime-by-test 7 (unfold is-prime in tt)
+prime-7 = prime-by-test 7 (unfold is-prime in refl)
 
 prime-11 : Prime 11
-prime-11 = prime-by-test 11 (unfold is-prime in tt)
+prime-11 = prime-by-test 11 (unfold is-prime in refl)
 
 square-free-A : square-free? (mod-p 7 2 low-A) ≡ true
 unfolding square-free? zmod emb zmod-dec inv

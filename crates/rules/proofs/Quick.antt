@@ -1,9 +1,9 @@
--- What code cites. A program that computes polynomials standing for elements of K[x] ends its proof with `is-sum`, of a pair by lists, or
--- `is-sum-of`, of polynomials u and v: where it kept the equations of composition (`Composed`, with whatever d, s1, s2, s3 it found;
--- algebra's ideal.Composed has `lifted`, `composed-coprime` and `composed-tangent` to make them), then any number of
--- reduction steps (`Reached`), and its last pair is valid, or short enough, that pair is the sum. The rule's own Euclid, its order of
--- steps and its lists need not be followed. A unit c is given with its inverse, c·c' = 1; of a constant that isn't zero that is
--- algebra's `C-inv` (list.Euclid). (That d·I(U, V) is the product of the ideals is cantor.Sum's `product-in` and `product-out`.)
+-- What code cites. A program that computes polynomials standing for elements of K[x] ends its proof with `is-sum`: where it kept the
+-- equations of composition (`Composed`, with whatever d, s1, s2, s3 it found), then any number of reduction steps (`Reached`), and its last
+-- pair is valid, that pair is the sum. The rule's own Euclid, its order of steps and its lists need not be followed. A unit c is
+-- given with its inverse, c·c' = 1; of a constant that isn't zero that is algebra's `C-inv` (list.Euclid). For formulae in closed form
+-- there is `is-sum-of`: of polynomials u and v that are short enough, validity comes with the chain, and algebra's ideal.Composed has
+-- `composed-coprime` and `composed-tangent` to begin it. (That d·I(U, V) is the product of the ideals is cantor.Sum's `product-in`, `product-out`.)
 use Prim.Native.Nat.{ℕ, _≤_}
 use mathlib.Core.Path.{_≡_, refl, sym, ap₂, _∙_, subst}
 use mathlib.Core.List.{[], _∷_}
@@ -81,24 +81,24 @@ double-is E a = refl
 
 -- ---- the last pair by polynomials
 -- (u, v) as lists of n coefficients
-abbrev pub pair-of : (E : Curve) → ℕ → Kx E .El → Kx E .El → Pair (E .K)
-pair-of E n u v = record { u = coefs (E .K .base) n (coef (E .K .base) u); v = coefs (E .K .base) n (coef (E .K .base) v) }
+abbrev pub listed : (E : Curve) → ℕ → Kx E .El → Kx E .El → Pair (E .K)
+listed E n u v = record { u = coefs (E .K .base) n (coef (E .K .base) u); v = coefs (E .K .base) n (coef (E .K .base) v) }
 
 module _ (E : Curve) (n : ℕ) (u v : Kx E .El) (m : Monic (E .K .base) n (coef (E .K .base) u)) (b : Below (E .K .base) n (coef (E .K .base) v)) where
   open CRing (Kx E) using (add as _+_, mul as _*_)
 
   infixl 65 _+_
   infixl 70 _*_
-  pub pair-of-u : u-of E (pair-of E n u v) ≡ u
-  pair-of-u = mon-coefs (E .K .base) n u m
+  pub listed-u : u-of E (listed E n u v) ≡ u
+  listed-u = mon-coefs (E .K .base) n u m
 
-  pub pair-of-v : v-of E (pair-of E n u v) ≡ v
-  pair-of-v = pol-coefs (E .K .base) n v b
+  pub listed-v : v-of E (listed E n u v) ≡ v
+  listed-v = pol-coefs (E .K .base) n v b
 
-  pub pair-of-valid : n ≤ E .g → OnCurve (Kx E) (f E) u v → Valid E (pair-of E n u v)
-  pair-of-valid l on = on-valid E (record {
+  pub listed-valid : n ≤ E .g → OnCurve (Kx E) (f E) u v → Valid E (listed E n u v)
+  listed-valid l on = on-valid E (record {
     fits = length-coefs (E .K .base) n (coef (E .K .base) v) ∙ sym (length-coefs (E .K .base) n (coef (E .K .base) u));
-    on = (on .0, on .1 ∙ sym (ap₂ (λ s t. t * t + s * on .0) pair-of-u pair-of-v));
+    on = (on .0, on .1 ∙ sym (ap₂ (λ s t. t * t + s * on .0) listed-u listed-v));
   }) (omega (arith, length-coefs (E .K .base) n (coef (E .K .base) u)))
 
 module _ (E : Curve) (h : Accepted E) where
@@ -107,7 +107,7 @@ module _ (E : Curve) (h : Accepted E) where
   -- u monic of degree n ≤ g and deg v < n: that (u, v) lies on the curve comes with the chain
   pub is-sum-of : (a b : Pair (E .K)) → Valid E a → Valid E b → (n : ℕ) (u v : P)
       → Monic (E .K .base) n (coef (E .K .base) u) → Below (E .K .base) n (coef (E .K .base) v) → n ≤ E .g → {U V' : P}
-      → Composed (Kx E) (f E) (u-of E a) (v-of E a) (u-of E b) (v-of E b) U V' → Reached E U V' u v → sum E a b ≡ pair-of E n u v
-  is-sum-of a b va vb n u v m l le {U} {V'} j r = is-sum E h a b (pair-of E n u v) va vb
-      (pair-of-valid E n u v m l le (reached-on E (composed-on E (h .over) a b (valid-on E va) (valid-on E vb) U V' j) r)) j
-      (subst (λ (t : P). Reached E U V' t (v-of E (pair-of E n u v))) (sym (pair-of-u E n u v m l)) (subst (λ (t : P). Reached E U V' u t) (sym (pair-of-v E n u v m l)) r))
+      → Composed (Kx E) (f E) (u-of E a) (v-of E a) (u-of E b) (v-of E b) U V' → Reached E U V' u v → sum E a b ≡ listed E n u v
+  is-sum-of a b va vb n u v m l le {U} {V'} j r = is-sum E h a b (listed E n u v) va vb
+      (listed-valid E n u v m l le (reached-on E (composed-on E (h .over) a b (valid-on E va) (valid-on E vb) U V' j) r)) j
+      (subst (λ (t : P). Reached E U V' t (v-of E (listed E n u v))) (sym (listed-u E n u v m l)) (subst (λ (t : P). Reached E U V' u t) (sym (listed-v E n u v m l)) r))

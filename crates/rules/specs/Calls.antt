@@ -1,5 +1,6 @@
 -- Document 01, "Numbers the tablet shows": each call as a function from the bytes lent to its whole answer and to every byte of the output as it
--- returns. A refused call has length 0, counts 0, and leaves the output and the running total as they were.
+-- returns. A refused call has length 0, counts 0, and leaves the output and the running total as they were. At the end, of "The pole's list",
+-- the running total and the scan.
 use Prim.Native.Nat.{ℕ, _+_}
 use mathlib.Core.List.{List, [], _∷_, _++_}
 use lib.Dec.{eqb, ltb, leb}
@@ -10,7 +11,7 @@ use Rattle.rules.specs.Pair.{neutral, opposite}
 use Rattle.rules.specs.Sum.{sum, double}
 use Rattle.rules.specs.Multiple.{multiple, doublings, additions}
 use Rattle.rules.specs.Tests.{on-curve?}
-use Rattle.rules.specs.Records.{Checked, refused, taken, choose, both, CurveRecord, curve, PairOf, below?, elements, numbers, read-curve, read-divisor, curve-bytes, divisor-bytes}
+use Rattle.rules.specs.Records.{Checked, refused, taken, choose, need, both, CurveRecord, curve, PairOf, below?, elements, numbers, read-curve, read-divisor, curve-bytes, divisor-bytes}
 use Rattle.rules.specs.Lists.{batch, most, Repeat, first-repeat}
 
 pub record Answer : Type 0 where
@@ -85,9 +86,12 @@ pub record Multiplied : Type 0 where
 abbrev pub not-multiplied : List ℕ → ℕ → ℕ → Multiplied
 not-multiplied out n k = record { written = left-as-is out n k; doublings = 0; additions = 0 }
 
+-- a count is 0 where nothing was written
+abbrev pub counted : Written → ℕ → ℕ
+counted w n = choose (eqb (w .answer .number) 0) n 0
+
 abbrev pub multiplied : Written → ℕ → Multiplied
-multiplied w n = choose (eqb (w .answer .number) 0) (record { written = w; doublings = doublings n; additions = additions n })
-    (record { written = w; doublings = 0; additions = 0 })
+multiplied w n = record { written = w; doublings = counted w (doublings n); additions = counted w (additions n) }
 
 unfoldable pub multiply-call : List ℕ → List ℕ → List ℕ → List ℕ → Multiplied
 unfolding number read-curve divisor-bytes multiple doublings additions
@@ -106,7 +110,7 @@ abbrev pub not-totalled : List ℕ → ℕ → ℕ → Totalled
 not-totalled out n k = record { written = left-as-is out n k; count = 0 }
 
 abbrev pub totalled : Written → ℕ → Totalled
-totalled w n = choose (eqb (w .answer .number) 0) (record { written = w; count = n }) (record { written = w; count = 0 })
+totalled w n = record { written = w; count = counted w n }
 
 unfoldable pub total-call : List ℕ → List ℕ → List ℕ → Totalled
 unfolding read-curve divisor-bytes sum
@@ -143,18 +147,13 @@ unfoldable pub resume : (c : CurveRecord) → Running → Checked (PairOf c)
 unfolding below? elements on-curve?
 resume c t =
     let d : PairOf c = record { u = elements (c .p) (t .u); v = elements (c .p) (t .v) } in
-    choose (leb (length (t .u)) (c .g))
-    (choose (eqb (length (t .v)) (length (t .u)))
-    (choose (both (below? (c .p) (t .u)) (below? (c .p) (t .v)))
-    (choose (on-curve? (curve c) d)
-    (choose (leb (t .count) most)
-    (choose (ltb (t .count) most) (taken d)
-    (refused 14 0))
-    (refused 15 0))
-    (refused 15 0))
-    (refused 15 0))
-    (refused 15 0))
-    (refused 15 0)
+    need (leb (length (t .u)) (c .g)) 15 0 (
+    need (eqb (length (t .v)) (length (t .u))) 15 0 (
+    need (both (below? (c .p) (t .u)) (below? (c .p) (t .v))) 15 0 (
+    need (on-curve? (curve c) d) 15 0 (
+    need (leb (t .count) most) 15 0 (
+    need (ltb (t .count) most) 14 0 (
+    taken d))))))
 
 pub record Scanned : Type 0 where
   pub answer : Answer

@@ -1,5 +1,5 @@
--- Document 01, "The records": a curve y² = f(x), f monic of degree 2g + 1; and, of the table, what number 7 refuses: f has a repeated
--- factor, f and its derivative share a factor of degree 1 or more. K may be the whole numbers modulo any p: no law of it is asked here.
+-- Document 01, "The records": a curve y² = f(x), f monic of degree 2g + 1; and, of "Numbers the tablet shows", what 7 refuses: f and its
+-- derivative share a factor of degree 1 or more. K may be the whole numbers modulo any p: no law of it is asked here.
 use Prim.Native.Nat.{ℕ}
 use mathlib.Core.List.{List}
 use Rattle.algebra.proofs.ring.CRing.{CRing}

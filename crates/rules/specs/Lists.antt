@@ -1,5 +1,5 @@
--- Document 01, "The pole's list" and, of "The sum", the batch: records one after the other, 14 after 4,096 good ones and before the next is
--- looked at; and the first repeat, least j, then least i < j.
+-- Document 01, "The sum" and "Numbers the tablet shows": a batch, records one after the other, 14 after 4,096 good ones and before the next
+-- is looked at; and "The pole's list": the first repeat, least j, then least i < j.
 use Prim.Native.Nat.{ℕ, zero, suc, _+_, _*_}
 use mathlib.Core.List.{List, [], _∷_, _++_}
 use mathlib.Core.Bool.{Bool, true, false}

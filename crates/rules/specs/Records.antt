@@ -20,6 +20,10 @@ pub data Checked (A : Type 0) : Type 0 where
   refused : ℕ → ℕ → Checked A
   taken : A → Checked A
 
+-- on with x where the test passes, otherwise refused with n, at place k
+abbrev pub need : {A : Type 0} → Bool → ℕ → ℕ → Checked A → Checked A
+need test n k x = choose test x (refused n k)
+
 -- an odd prime, 3 ≤ p ≤ 2,147,483,647
 unfoldable pub odd-prime? : ℕ → Bool
 unfolding is-prime
@@ -58,21 +62,15 @@ read-curve s =
     let p : ℕ = word64 s 6 in
     let f : List ℕ = words s 14 (suc (g + g)) in
     let c : CurveRecord = record { p = p; g = g; low = elements p f } in
-    choose (ltb (length s) 6) (refused 1 0)
-    (choose (both (eqb (getD s 0 0) 72) (both (eqb (getD s 1 0) 74) (eqb (getD s 2 0) 67)))
-    (choose (eqb (getD s 3 0 * 256 + getD s 4 0) 1)
-    (choose (either (eqb g 2) (eqb g 3))
-    (choose (eqb (length s) (22 + 16 * g))
-    (choose (odd-prime? p)
-    (choose (below? p f)
-    (choose (square-free? (curve c)) (taken c)
-    (refused 7 0))
-    (refused 6 0))
-    (refused 5 0))
-    (refused 1 0))
-    (refused 4 0))
-    (refused 3 0))
-    (refused 2 0))
+    choose (ltb (length s) 6) (refused 1 0) (
+    need (both (eqb (getD s 0 0) 72) (both (eqb (getD s 1 0) 74) (eqb (getD s 2 0) 67))) 2 0 (
+    need (eqb (getD s 3 0 * 256 + getD s 4 0) 1) 3 0 (
+    need (either (eqb g 2) (eqb g 3)) 4 0 (
+    need (eqb (length s) (22 + 16 * g)) 1 0 (
+    need (odd-prime? p) 5 0 (
+    need (below? p f) 6 0 (
+    need (square-free? (curve c)) 7 0 (
+    taken c))))))))
 
 unfoldable pub curve-bytes : CurveRecord → List ℕ
 unfolding bytes64 all-bytes numbers
@@ -91,16 +89,12 @@ divisor-at c k whole s a =
     let u : List ℕ = words s (a + 1) w in
     let v : List ℕ = words s (a + 1 + 8 * w) w in
     let d : PairOf c = record { u = elements (c .p) u; v = elements (c .p) v } in
-    choose (ltb a (length s))
-    (choose (leb w (c .g))
-    (choose (fits whole (a + 1 + 16 * w) (length s))
-    (choose (both (below? (c .p) u) (below? (c .p) v))
-    (choose (on-curve? (curve c) d) (taken d)
-    (refused 11 k))
-    (refused 10 k))
-    (refused 8 k))
-    (refused 9 k))
-    (refused 8 k)
+    need (ltb a (length s)) 8 k (
+    need (leb w (c .g)) 9 k (
+    need (fits whole (a + 1 + 16 * w) (length s)) 8 k (
+    need (both (below? (c .p) u) (below? (c .p) v)) 10 k (
+    need (on-curve? (curve c) d) 11 k (
+    taken d)))))
 
 abbrev pub read-divisor : (c : CurveRecord) → ℕ → List ℕ → Checked (PairOf c)
 read-divisor c k s = divisor-at c k true s 0

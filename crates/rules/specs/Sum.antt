@@ -40,6 +40,9 @@ module _ (E : Curve) where
   abbrev pub f-list : Poly
   f-list = whole (K .base) (E .low)
 
+  abbrev pub f-v²-list : Pair K → Poly
+  f-v²-list a = f-list - a .v * a .v
+
   unfoldable pub composition : Pair K → Pair K → Pair K
   unfolding addL mulL whole quotient remainder monic gcd
   composition a b =
@@ -61,7 +64,7 @@ module _ (E : Curve) where
   -- u by (f - v²)/u made monic, then v by -v modulo the new u
   unfoldable pub step : Pair K → Pair K
   unfolding addL mulL negL whole quotient remainder monic
-  step a = let u : Poly = monic K ((f-list - a .v * a .v) / a .u) in record { u = u; v = negL (K .base) (a .v) % u }
+  step a = let u : Poly = monic K (f-v²-list a / a .u) in record { u = u; v = negL (K .base) (a .v) % u }
 
   -- while deg u > g, for at most n turns
   unfoldable pub while : ℕ → Pair K → Pair K

@@ -1,5 +1,5 @@
 -- L3 as the rule says it: d divides u1, u2 and v1 + v2 and is s1·u1 + s2·u2 + s3·(v1 + v2); U = u1·u2 / d²; V counts modulo U. Gives: `Composed`,
--- these equations in any ring, whoever found them; and the two cases that formulae in closed form take (tickets W-203, W-204, W-206), with
+-- these equations in any ring, whoever found them; and the two cases that formulae in closed form take, with
 -- d = 1: `composed-coprime` of u1 and u2 prime to one another, `composed-tangent` of a pair with itself.
 use mathlib.Core.Path.{_≡_, refl, sym}
 use mathlib.Core.List.{[], _∷_}

@@ -3,8 +3,8 @@
 -- Open (`abbrev`): all that computes, so that `refl` compares normal forms. Callers come through ring.Quote.
 use Prim.Native.Nat.{ℕ, _+_, _^_, compare, Ordering, Ordering·lt, Ordering·eq, Ordering·gt}
 use mathlib.Core.Path.{_≡_, refl, sym, ap, ap₂, _∙_}
-use mathlib.Core.List.{List, [], _∷_}
-use mathlib.Core.Bool.{Bool, true, false}
+use mathlib.Core.List.{List, [], _∷_, _++_}
+use mathlib.Core.Bool.{Bool, true, false, not}
 use lib.ListN.{getD}
 use Rattle.algebra.proofs.ring.CRing.{CRing, add-zer, add-neg, add-left-comm, mul-left-comm, mul-one, mul-add, eq-of-sub, zer-mul, mul-zer, neg-mul, mul-neg, neg-neg, neg-zer, neg-of-add}
 
@@ -30,10 +30,6 @@ abbrev pub both : Sum → Sum → Sum
 both none t = t
 both (more s k m r) t = more s k m (both r t)
 
-abbrev pub not : Bool → Bool
-not true = false
-not false = true
-
 abbrev pub same : Bool → Bool → Bool
 same true b = b
 same false b = not b
@@ -42,13 +38,9 @@ abbrev pub opp : Sum → Sum
 opp none = none
 opp (more s k m r) = more (not s) k m (opp r)
 
-abbrev pub cat : List ℕ → List ℕ → List ℕ
-cat [] n = n
-cat (i ∷ m) n = i ∷ cat m n
-
 abbrev pub scale : Bool → ℕ → List ℕ → Sum → Sum
 scale s k m none = none
-scale s k m (more t l n r) = more (same s t) (k + l) (cat m n) (scale s k m r)
+scale s k m (more t l n r) = more (same s t) (k + l) (m ++ n) (scale s k m r)
 
 abbrev pub times : Sum → Sum → Sum
 times none t = none
@@ -120,7 +112,7 @@ module _ (R : CRing) where
     val nil = 𝟘
     val (cons k g r) = group g ⊕ val r
 
-    mono-cat : (m n : List ℕ) → mono (cat m n) ≡ mono m ⊗ mono n
+    mono-cat : (m n : List ℕ) → mono (m ++ n) ≡ mono m ⊗ mono n
     mono-cat [] n = sym (one-mul (mono n))
     mono-cat (i ∷ m) n = ap (λ t. atom i ⊗ t) (mono-cat m n) ∙ sym (mul-assoc (atom i) (mono m) (mono n))
 

@@ -1,8 +1,9 @@
 -- Primes. Gives: the one proposition `Prime p`, that p is at least 2 and no number between 1 and p divides it; `prime-by-root`, that it
--- is enough to try the numbers whose square is at most p; and `prime-by-test`, which shows it of a small p by computation.
+-- is enough to try the numbers whose square is at most p; and `prime-by-test`, which shows it of a p that
+-- passes the test `is-prime`.
 use Prim.Native.Nat.{ℕ, zero, suc, _*_, _/_, _%_, _≤_, _<_}
 use mathlib.Core.Path.{_≡_, refl, sym, ap, _∙_, subst}
-use mathlib.Core.Bool.{Bool, true, false}
+use mathlib.Core.Bool.{Bool, true, false, false≢true}
 use native.Mathlib.Decide.{ℕ-discrete, decLt}
 use native.Mathlib.Omega.{arith}
 use native.Mathlib.Nat.{div-add-mod, mul-le-mul, mul-le-mul-left, mul-mod-left}
@@ -38,7 +39,7 @@ module _ (p d : ℕ) (two : 2 ≤ p) (root : p < d * d) (below : (k : ℕ) → 1
       go k k2 kp (yes l) = below k k2 l
       go k k2 kp (no l) = omega (arith, other k k2 kp (omega arith))
 
--- ---- by computation, for small p: no number from 2 up to d, d included, divides p
+-- ---- the test: no number from 2 up to d, d included, divides p
 unfoldable pub no-divisor : ℕ → ℕ → Bool
 no-divisor p zero = true
 no-divisor p (suc zero) = true
@@ -50,24 +51,20 @@ is-prime zero = false
 is-prime (suc zero) = false
 is-prime (suc (suc p)) = no-divisor (suc (suc p)) (suc p)
 
-abbrev pub IsTrue : Bool → Type 0
-IsTrue true = Unit {0}
-IsTrue false = ⊥
-
-no-divisor-sound : (p d : ℕ) → IsTrue (no-divisor p d) → (e : ℕ) → 1 < e → e ≤ d → 0 < p % e
+no-divisor-sound : (p d : ℕ) → no-divisor p d ≡ true → (e : ℕ) → 1 < e → e ≤ d → 0 < p % e
 unfolding no-divisor
 no-divisor-sound p zero t e h k = absurd (omega arith)
 no-divisor-sound p (suc zero) t e h k = absurd (omega arith)
 no-divisor-sound p (suc (suc d)) t e h k = go (p % suc (suc d)) refl t (ℕ-discrete e (suc (suc d))) (λ u l. no-divisor-sound p (suc d) u e h l)
   where
-    go : (r : ℕ) → p % suc (suc d) ≡ r → IsTrue (elim r [ zero ↦ false | suc r ↦ no-divisor p (suc d) ]) → Dec (e ≡ suc (suc d))
-        → (IsTrue (no-divisor p (suc d)) → e ≤ suc d → 0 < p % e) → 0 < p % e
-    go zero q u w rec = absurd u
+    go : (r : ℕ) → p % suc (suc d) ≡ r → elim r [ zero ↦ false | suc r ↦ no-divisor p (suc d) ] ≡ true → Dec (e ≡ suc (suc d))
+        → (no-divisor p (suc d) ≡ true → e ≤ suc d → 0 < p % e) → 0 < p % e
+    go zero q u w rec = absurd (false≢true u)
     go (suc r) q u (yes w) rec = subst (λ (x : ℕ). 0 < p % x) (sym w) (omega arith)
     go (suc r) q u (no w) rec = rec u (omega arith)
 
-pub prime-by-test : (p : ℕ) → IsTrue (is-prime p) → Prime p
+pub prime-by-test : (p : ℕ) → is-prime p ≡ true → Prime p
 unfolding is-prime
-prime-by-test zero t = absurd t
-prime-by-test (suc zero) t = absurd t
+prime-by-test zero t = absurd (false≢true t)
+prime-by-test (suc zero) t = absurd (false≢true t)
 prime-by-test (suc (suc p)) t = record { two = omega arith; none = λ d h k. no-divisor-sound (suc (suc p)) (suc p) t d h (omega arith) }

@@ -1,6 +1,6 @@
--- Batches: records one after the other. Gives: a batch made of good records is taken, each record once and in order (`batch-records`),
--- 14 where bytes are left after 4,096 of them (`batch-over`); and whatever batch is taken is made so (`batch-made`, `batch-is`), of valid
--- divisors (`records-valid`).
+-- Batches: records one after the other. Gives: how a batch is read, record by record (`Reading`, `reading`); a batch made of good records is taken,
+-- each record once and in order (`batch-records`), 14 where bytes are left after 4,096 of them (`batch-over`); and whatever batch is taken is
+-- made so (`batch-made`, `batch-is`), of valid divisors (`records-valid`).
 -- Open: `pair-of`, `IsRecord`, `AllRecords`.
 use Prim.Native.Nat.{ℕ, zero, suc, _+_, _*_, _-_, _≤_, _<_}
 use mathlib.Core.Path.{_≡_, refl, sym, ap, ap₂, _∙_, subst}
@@ -10,7 +10,7 @@ use mathlib.Core.Logic.{Or·elim}
 use native.Mathlib.Omega.{arith}
 use lib.Dec.{leb}
 use lib.ListN.{getD, length, drop, length-append, drop-of-length-le}
-use borrow.Author.Tests.{leb-true, le-leb, lt-leb}
+use borrow.Author.Tests.{leb-true, leb-false, le-leb, lt-leb}
 use Rattle.rules.specs.Pair.{Valid}
 use Rattle.rules.specs.Records.{Checked, refused, taken, choose, CurveRecord, curve, PairOf, divisor-at, read-divisor}
 use Rattle.rules.specs.Lists.{Batch, batch-from, batch, most}
@@ -66,6 +66,34 @@ module _ (c : CurveRecord) where
   records-valid (r ∷ rs) h = (record-valid r (h r mem-cons-self), records-valid rs (λ x m. h x (mem-cons-of-mem r m)))
 
   module _ {A : Type 0} (step : A → PairOf c → A) where
+    -- how a batch is read: from place a on, k records having been read and `left` more allowed
+    module _ (s : List ℕ) where
+      pub data Reading : ℕ → ℕ → ℕ → A → Checked (Batch A) → Type 0 where
+        ends : {left a k : ℕ} {from : A} → length s ≤ a → Reading left a k from (taken (record { result = from; count = k }))
+        full : {a k : ℕ} {from : A} → a < length s → Reading 0 a k from (refused 14 0)
+        stops : {left a k n j : ℕ} {from : A} → divisor-at c (k + 1) false s a ≡ refused n j → Reading (suc left) a k from (refused n j)
+        goes : {left a k : ℕ} {from : A} {d : PairOf c} {x : Checked (Batch A)} → divisor-at c (k + 1) false s a ≡ taken d
+            → Reading left (a + 1 + 16 * getD s a 0) (k + 1) (step from d) x → Reading (suc left) a k from x
+
+      pub reading : (left a k : ℕ) (from : A) → Reading left a k from (batch-from c step s left a k from)
+      unfolding batch-from
+      reading zero a k from = go (leb (length s) a) refl
+        where
+          go : (t : Bool) → leb (length s) a ≡ t → Reading 0 a k from (choose t (taken (record { result = from; count = k })) (refused 14 0))
+          go true q = ends (leb-true (length s) a q)
+          go false q = full (leb-false (length s) a q)
+      reading (suc left) a k from = go (leb (length s) a) refl (divisor-at c (k + 1) false s a) refl (λ d. reading left (a + 1 + 16 * getD s a 0) (k + 1) (step from d))
+        where
+          next : PairOf c → Checked (Batch A)
+          next d = batch-from c step s left (a + 1 + 16 * getD s a 0) (k + 1) (step from d)
+
+          go : (t : Bool) → leb (length s) a ≡ t → (x : Checked (PairOf c)) → divisor-at c (k + 1) false s a ≡ x
+              → ((d : PairOf c) → Reading left (a + 1 + 16 * getD s a 0) (k + 1) (step from d) (next d))
+              → Reading (suc left) a k from (choose t (taken (record { result = from; count = k })) (elim x [ refused n j ↦ refused n j | taken d ↦ next d ]))
+          go true q x e rec = ends (leb-true (length s) a q)
+          go false q (refused n j) e rec = stops e
+          go false q (taken d) e rec = goes e (rec d)
+
     module _ (s : List ℕ) where
       -- one record more, and the end
       batch-more : (left a k : ℕ) (from : A) {d : PairOf c} → a < length s → divisor-at c (k + 1) false s a ≡ taken d
@@ -142,26 +170,15 @@ module _ (c : CurveRecord) where
           let x : List ℕ = record-out c s a h in
           (x ∷ r .0, more-records (is-record 1 x (divisor-taken c 1 true x 0 (alone-out c s a h))) (r .1), omega (arith, r .2), ap (_++_ x) (r .3) ∙ sym (split-out c s a h))
 
-      parts : (left a k : ℕ) (from : A) {b : Batch A} → batch-from c step s left a k from ≡ taken b → Parts left a
-      unfolding batch-from
-      parts zero a k from {b} e = go (leb (length s) a) refl e
-        where
-          go : (t : Bool) → leb (length s) a ≡ t → choose t (taken (record { result = from; count = k })) (refused 14 0) ≡ taken b → Parts 0 a
-          go true q e = parts-end 0 a (leb-true (length s) a q)
-          go false q e = absurd (refused-taken e)
-      parts (suc left) a k from {b} e = go (leb (length s) a) refl (divisor-at c (k + 1) false s a) refl e (λ d. parts left (a + 1 + 16 * getD s a 0) (k + 1) (step from d))
-        where
-          go : (t : Bool) → leb (length s) a ≡ t → (x : Checked (PairOf c)) → divisor-at c (k + 1) false s a ≡ x
-              → choose t (taken (record { result = from; count = k }))
-              (elim x [ refused n place ↦ refused n place | taken d ↦ batch-from c step s left (a + 1 + 16 * getD s a 0) (k + 1) (step from d) ]) ≡ taken b
-              → ((d : PairOf c) → batch-from c step s left (a + 1 + 16 * getD s a 0) (k + 1) (step from d) ≡ taken b → Parts left (a + 1 + 16 * getD s a 0)) → Parts (suc left) a
-          go true q x m e rec = parts-end (suc left) a (leb-true (length s) a q)
-          go false q (refused n place) m e rec = absurd (refused-taken e)
-          go false q (taken d) m e rec = parts-more left a (k + 1) m (rec d e)
+      parts : {left a k : ℕ} {from : A} {x : Checked (Batch A)} → Reading s left a k from x → {b : Batch A} → x ≡ taken b → Parts left a
+      parts (ends {left = left} {a = a} l) e = parts-end left a l
+      parts (full l) e = absurd (refused-taken e)
+      parts (stops q) e = absurd (refused-taken e)
+      parts (goes {left = left} {a = a} {k = k} q r) e = parts-more left a (k + 1) q (parts r e)
 
       pub batch-made : (from : A) {b : Batch A} → batch c step s from ≡ taken b → MadeOf s
       unfolding Parts
-      batch-made from e = let r = parts most 0 0 from e in record { records = r .0; good = r .1; few = r .2; bytes = r .3 }
+      batch-made from e = let r = parts (reading s most 0 0 from) e in record { records = r .0; good = r .1; few = r .2; bytes = r .3 }
 
       pub batch-is : (from : A) (m : MadeOf s) → batch c step s from ≡ taken (record { result = foldl step from (map pair-of (m .records)); count = length (m .records) })
       batch-is from m = ap (λ (z : List ℕ). batch c step z from) (sym (m .bytes)) ∙ batch-records (m .records) from (m .good) (m .few)

@@ -1,12 +1,12 @@
 -- "Place is k for 8 to 11 where the k-th divisor (from 1) is at fault, otherwise 0": of each call's rule.
 -- Open: `Alone`, `OfTwo`, `On`.
 use Prim.Native.Nat.{ℕ}
-use mathlib.Core.Path.{_≡_, refl, sym, ap, _∙_, subst, subst₂}
+use mathlib.Core.Path.{_≡_, refl, sym, ap, _∙_, subst₂}
 use mathlib.Core.List.{List, [], _∷_, _++_}
 use mathlib.Core.Bool.{Bool, true, false}
 use mathlib.Core.Logic.{_⊎_, inl, inr}
 use native.Mathlib.Omega.{arith}
-use lib.Dec.{eqb, ltb}
+use lib.Dec.{ltb}
 use lib.ListN.{length}
 use lib.Seq.{sets}
 use Rattle.rules.specs.Bytes.{number}
@@ -112,12 +112,6 @@ module _ (s out : List ℕ) where
       K : ℕ → ℕ → Type 0
       K = On s (λ c. OfTwo c a b)
 
-  -- counts don't change the answer
-  counted : (K : ℕ → ℕ → Type 0) {R : Type 0} (answer : R → Answer) (t : Bool) (x y : R) (w : Written) → answer x ≡ w .answer → answer y ≡ w .answer
-      → Stands K of-written w → Stands K answer (choose t x y)
-  counted K answer true x y w e h p = subst (λ (z : Answer). At K (z .number) (z .place)) (sym e) p
-  counted K answer false x y w e h p = subst (λ (z : Answer). At K (z .number) (z .place)) (sym h) p
-
   pub multiply-place : (a scalar : List ℕ) → At Alone (multiply-call s a scalar out .written .answer .number) (multiply-call s a scalar out .written .answer .place)
   unfolding multiply-call
   multiply-place a scalar = reads-curve Alone answer s _ _ (λ n j. refl) (λ c e.
@@ -128,14 +122,13 @@ module _ (s out : List ℕ) where
 
       go : (t : Bool) (bytes : List ℕ) → Stands Alone answer (choose t (not-multiplied out 12 0) (multiplied (write out bytes) (number scalar)))
       go true bytes = elsewhere Alone (λ l u. omega arith) refl
-      go false bytes = counted Alone answer (eqb (write out bytes .answer .number) 0) _ _ (write out bytes) refl refl (write-stands Alone out bytes)
+      go false bytes = write-stands Alone out bytes
 
   pub total-place : (records : List ℕ) → At (On s (λ c. Faulty c records)) (total-call s records out .written .answer .number) (total-call s records out .written .answer .place)
   unfolding total-call
   total-place records = reads-curve K answer s _ _ (λ n j. refl) (λ c e.
       reads K answer (batch c (sum (curve c)) records neutral) _ _ (batch-place c (sum (curve c)) records neutral) (λ n j q h. (c, e, h)) (λ n j. refl) (λ b q.
-      let bytes : List ℕ = divisor-bytes (c .p) (b .result) in
-      counted K answer (eqb (write out bytes .answer .number) 0) _ _ (write out bytes) refl refl (write-stands K out bytes)))
+      write-stands K out (divisor-bytes (c .p) (b .result))))
     where
       K : ℕ → ℕ → Type 0
       K = On s (λ c. Faulty c records)

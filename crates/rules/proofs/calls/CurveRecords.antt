@@ -15,7 +15,7 @@ use Rattle.algebra.proofs.zmod.Prime.{Prime, prime-by-test}
 use Rattle.rules.specs.Bytes.{word64, words, bytes64, all-bytes}
 use Rattle.rules.specs.Tests.{square-free?}
 use Rattle.rules.specs.Records.{taken, both, either, odd-prime?, below?, elements, numbers, CurveRecord, curve, read-curve, curve-bytes}
-use Rattle.rules.proofs.calls.Tests.{passed, missed, taken-inj, both-true, either-true, is-true}
+use Rattle.rules.proofs.calls.Tests.{passed, missed, taken-inj, both-true, either-true}
 use Rattle.rules.proofs.calls.Bytes.{AreBytes, one-off, bytes-word, bytes-words, length-bytes, length-words, word-behind, words-behind}
 use Rattle.rules.proofs.calls.Elements.{elements-numbers, numbers-elements, length-elements, length-numbers, numbers-below}
 
@@ -79,7 +79,7 @@ unfolding odd-prime?
 odd-prime {p} e =
     let t = both-true _ _ e in
     let r = both-true _ _ (t .1) in
-    record { is = prime-by-test p (is-true (r .1)); least = leb-true 3 p (t .0); greatest = leb-true p 2147483647 (r .0) }
+    record { is = prime-by-test p (r .1); least = leb-true 3 p (t .0); greatest = leb-true p 2147483647 (r .0) }
 
 genus-is : (g : ℕ) → either (eqb g 2) (eqb g 3) ≡ true → (2 ≤ g) × (g ≤ 3)
 genus-is g e = go (either-true _ _ e)

@@ -1,4 +1,5 @@
--- Calls that answered 0: all that they read was taken, the result stands at the front of the output, and read back it is taken.
+-- Calls that answered 0: all that they read was taken, the result stands at the front of the output, and read back it is taken (`OneDone`,
+-- `AddDone`, `TotalDone`); whatever call it was, its curve was taken (`add-took` and its like).
 use Prim.Native.Nat.{ℕ, _≤_}
 use mathlib.Core.Path.{_≡_, refl, sym, ap, _∙_}
 use mathlib.Core.List.{List, map}

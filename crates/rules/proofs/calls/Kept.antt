@@ -1,20 +1,20 @@
 -- "On any other number length and counts are 0 and output and running total are unchanged": of each call's rule.
 -- Open: `Kept`, and `KeptM`, `KeptT`, `KeptR`, `KeptS` for a multiple, a total, a repeat and a scan.
 use Prim.Native.Nat.{ℕ}
-use mathlib.Core.Path.{_≡_, refl}
+use mathlib.Core.Path.{_≡_, refl, ap}
 use mathlib.Core.List.{List, [], _∷_, _++_}
 use mathlib.Core.Bool.{Bool, true, false}
-use lib.Dec.{eqb, ltb}
+use lib.Dec.{ltb}
 use lib.ListN.{length}
 use lib.Seq.{sets}
-use borrow.Author.Tests.{eqb-true}
+use borrow.Author.Tests.{ne-eqb}
 use Rattle.rules.specs.Bytes.{number}
 use Rattle.rules.specs.Pair.{neutral, opposite}
 use Rattle.rules.specs.Sum.{sum, double}
 use Rattle.rules.specs.Multiple.{multiple, doublings, additions}
 use Rattle.rules.specs.Records.{Checked, refused, taken, choose, CurveRecord, curve, PairOf, read-curve, read-divisor, curve-bytes, divisor-bytes}
 use Rattle.rules.specs.Lists.{batch}
-use Rattle.rules.specs.Calls.{check, done, Written, left-as-is, write, rewrite-curve, from-one, rewrite-divisor, double-call, opposite-call, add-call, Multiplied, not-multiplied, multiplied, multiply-call, Totalled, totalled, total-call, Repeated, repeat-call, Running, resume, Scanned, scan-call}
+use Rattle.rules.specs.Calls.{check, done, Written, left-as-is, write, rewrite-curve, from-one, rewrite-divisor, double-call, opposite-call, add-call, Multiplied, not-multiplied, counted, multiplied, multiply-call, Totalled, total-call, Repeated, repeat-call, Running, resume, Scanned, scan-call}
 
 -- whatever is so of a refusal and of all that it may go on with
 always : {A R : Type 0} (K : R → Type 0) (x : Checked A) (stop : ℕ → ℕ → R) (go : A → R) → ((n k : ℕ) → K (stop n k)) → ((a : A) → K (go a)) → K (check x stop go)
@@ -67,13 +67,8 @@ module _ (out : List ℕ) where
         always Kept (read-divisor c 2 b) _ _ (λ n k h. (refl, refl)) (λ y. kept-write (divisor-bytes (c .p) (sum (curve c) x y)))))
 
     -- with their counts
-    kept-multiplied : (w : Written) (n : ℕ) → Kept w → KeptM (multiplied w n)
-    kept-multiplied w n k = go (eqb (w .answer .number) 0) refl
-      where
-        go : (t : Bool) → eqb (w .answer .number) 0 ≡ t → KeptM
-            (choose t (record { written = w; doublings = doublings n; additions = additions n }) (record { written = w; doublings = 0; additions = 0 }))
-        go true q h = absurd (h (eqb-true (w .answer .number) 0 q))
-        go false q h = ((k h) .0, (k h) .1, refl, refl)
+    no-count : (w : Written) (n : ℕ) → (w .answer .number ≡ 0 → ⊥) → counted w n ≡ 0
+    no-count w n h = ap (λ t. choose t n 0) (ne-eqb (w .answer .number) 0 h)
 
     pub multiply-kept : (a scalar : List ℕ) → KeptM (multiply-call s a scalar out)
     unfolding multiply-call
@@ -82,20 +77,14 @@ module _ (out : List ℕ) where
       where
         go : (t : Bool) (bytes : List ℕ) → KeptM (choose t (not-multiplied out 12 0) (multiplied (write out bytes) (number scalar)))
         go true bytes = λ h. (refl, refl, refl, refl)
-        go false bytes = kept-multiplied (write out bytes) (number scalar) (kept-write bytes)
-
-    kept-totalled : (w : Written) (n : ℕ) → Kept w → KeptT (totalled w n)
-    kept-totalled w n k = go (eqb (w .answer .number) 0) refl
-      where
-        go : (t : Bool) → eqb (w .answer .number) 0 ≡ t → KeptT (choose t (record { written = w; count = n }) (record { written = w; count = 0 }))
-        go true q h = absurd (h (eqb-true (w .answer .number) 0 q))
-        go false q h = ((k h) .0, (k h) .1, refl)
+        go false bytes = λ h. let k = kept-write bytes h in
+            (k .0, k .1, no-count (write out bytes) (doublings (number scalar)) h, no-count (write out bytes) (additions (number scalar)) h)
 
     pub total-kept : (records : List ℕ) → KeptT (total-call s records out)
     unfolding total-call
     total-kept records = always KeptT (read-curve s) _ _ (λ n k h. (refl, refl, refl)) (λ c.
         always KeptT (batch c (sum (curve c)) records neutral) _ _ (λ n k h. (refl, refl, refl)) (λ b.
-        kept-totalled (write out (divisor-bytes (c .p) (b .result))) (b .count) (kept-write (divisor-bytes (c .p) (b .result)))))
+        λ h. let k = kept-write (divisor-bytes (c .p) (b .result)) h in (k .0, k .1, no-count (write out (divisor-bytes (c .p) (b .result))) (b .count) h)))
 
 -- ---- calls without an output: length 0 in any case
 abbrev pub KeptS : Running → Scanned → Type 0

@@ -1,20 +1,19 @@
 -- "Place is k for 8 to 11 where the k-th divisor (from 1) is at fault, otherwise 0": of what is read, a curve (`curve-place`), a divisor
 -- (`divisor-place`), a running total (`resume-place`), a batch (`batch-place`), which refuses with its first faulty record or with 14 (`batch-refused`).
 -- Open: `At`, `None`, `Placed`, `Faulty`.
-use Prim.Native.Nat.{ℕ, zero, suc, _+_, _*_, _≤_, _<_}
+use Prim.Native.Nat.{ℕ, suc, _+_, _*_, _≤_, _<_}
 use mathlib.Core.Path.{_≡_, refl, sym, ap, ap₂, _∙_}
 use mathlib.Core.List.{List, [], _∷_, _++_, flatten, append-assoc}
 use mathlib.Core.Bool.{Bool, true, false}
 use mathlib.Core.Logic.{_⊎_, inl, inr}
 use native.Mathlib.Omega.{arith}
-use lib.Dec.{leb}
 use lib.ListN.{getD, length, drop, length-append}
-use Rattle.rules.specs.Records.{Checked, refused, taken, choose, CurveRecord, PairOf, read-curve, divisor-at}
-use Rattle.rules.specs.Lists.{Batch, batch-from, batch, most}
+use Rattle.rules.specs.Records.{Checked, refused, taken, CurveRecord, PairOf, read-curve, divisor-at}
+use Rattle.rules.specs.Lists.{Batch, batch, most}
 use Rattle.rules.specs.Calls.{Running, resume}
 use Rattle.rules.proofs.calls.Tests.{refused-taken}
 use Rattle.rules.proofs.calls.DivisorRecords.{divisor-read, divisor-taken, record-out, alone-out, split-out, length-out}
-use Rattle.rules.proofs.calls.Batches.{AllRecords, is-record, no-records, more-records}
+use Rattle.rules.proofs.calls.Batches.{AllRecords, is-record, no-records, more-records, Reading, ends, full, stops, goes, reading}
 use Rattle.rules.proofs.calls.Refusals.{curve-refused, divisor-refused, resume-refused, divisor-numbered}
 
 -- the number n has the place j: one that K allows for 8 to 11, otherwise 0
@@ -96,38 +95,22 @@ module _ (c : CurveRecord) where
           fault = ap (divisor-at c j false s) (omega (arith, length-append x (flatten (r .before)), length-out c s a h)) ∙ r .fault;
         }
 
-    abbrev ended : A → ℕ → Checked (Batch A)
-    ended from k = taken (record { result = from; count = k })
-
     -- one of them, or bytes are left after the last that may follow
-    behind : (left a k : ℕ) (from : A) (n j : ℕ) → batch-from c step s left a k from ≡ refused n j → Behind left a k n j ⊎ Over n j
-    unfolding batch-from
-    behind zero a k from n j e = go (leb (length s) a) e
+    behind : {left a k n j : ℕ} {from : A} {x : Checked (Batch A)} → Reading c step s left a k from x → x ≡ refused n j → Behind left a k n j ⊎ Over n j
+    behind (ends l) e = absurd (refused-taken (sym e))
+    behind {n = n} {j = j} (full l) e = let a : 14 ≡ n = cc in let b : 0 ≡ j = cc in inr (sym a, sym b)
+    behind {n = n} {j = j} (stops {left = left} {a = a} {k = k} {n = m} {j = i} q) e =
+        let r : divisor-at c (k + 1) false s a ≡ refused n j = q ∙ ap₂ refused (let z : m ≡ n = cc in z) (let z : i ≡ j = cc in z) in
+        inl (behind-none left a k n j r (divisor-refused c (k + 1) false s a r .2))
+    behind {n = n} {j = j} (goes {left = left} {a = a} {k = k} q r) e = more (behind r e)
       where
-        go : (t : Bool) → choose t (ended from k) (refused 14 0) ≡ refused n j → Behind 0 a k n j ⊎ Over n j
-        go true e = absurd (refused-taken (sym e))
-        go false e = let a : 14 ≡ n = cc in let b : 0 ≡ j = cc in inr (sym a, sym b)
-    behind (suc left) a k from n j e = go (leb (length s) a) (divisor-at c (k + 1) false s a) refl e (λ d. behind left (a + 1 + 16 * getD s a 0) (k + 1) (step from d) n j)
-      where
-        next : PairOf c → Checked (Batch A)
-        next d = batch-from c step s left (a + 1 + 16 * getD s a 0) (k + 1) (step from d)
-
-        more : {d : PairOf c} → divisor-at c (k + 1) false s a ≡ taken d → Behind left (a + 1 + 16 * getD s a 0) (k + 1) n j ⊎ Over n j → Behind (suc left) a k n j ⊎ Over n j
-        more q (inl b) = inl (behind-more left a k n j q b)
-        more q (inr e) = inr e
-
-        go : (t : Bool) (x : Checked (PairOf c)) → divisor-at c (k + 1) false s a ≡ x
-            → choose t (ended from k) (elim x [ refused m i ↦ refused m i | taken d ↦ next d ]) ≡ refused n j
-            → ((d : PairOf c) → next d ≡ refused n j → Behind left (a + 1 + 16 * getD s a 0) (k + 1) n j ⊎ Over n j) → Behind (suc left) a k n j ⊎ Over n j
-        go true x q e rec = absurd (refused-taken (sym e))
-        go false (refused m i) q e rec =
-            let r : divisor-at c (k + 1) false s a ≡ refused n j = q ∙ ap₂ refused (let z : m ≡ n = cc in z) (let z : i ≡ j = cc in z) in
-            inl (behind-none left a k n j r (divisor-refused c (k + 1) false s a r .2))
-        go false (taken d) q e rec = more q (rec d e)
+        more : Behind left (a + 1 + 16 * getD s a 0) (k + 1) n j ⊎ Over n j → Behind (suc left) a k n j ⊎ Over n j
+        more (inl b) = inl (behind-more left a k n j q b)
+        more (inr e) = inr e
 
     -- a batch refuses with its first record that is at fault, or with 14
     pub batch-refused : (from : A) {n j : ℕ} → batch c step s from ≡ refused n j → Faulty s n j ⊎ Over n j
-    batch-refused from {n} {j} e = go (behind most 0 0 from n j e)
+    batch-refused from {n} {j} e = go (behind (reading c step s most 0 0 from) e)
       where
         go : Behind most 0 0 n j ⊎ Over n j → Faulty s n j ⊎ Over n j
         go (inl b) = inl (record {

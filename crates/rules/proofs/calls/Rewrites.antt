@@ -1,4 +1,4 @@
--- The two calls that rewrite: what they write is what they read.
+-- The two calls that rewrite: the bytes they write are the bytes they read (`rewrite-curve-same`, `rewrite-divisor-same`).
 use Prim.Native.Nat.{ℕ}
 use mathlib.Core.Path.{_≡_, refl, sym, ap, _∙_}
 use mathlib.Core.List.{List}

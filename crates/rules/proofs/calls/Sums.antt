@@ -1,4 +1,5 @@
--- Demand 3 of the calls' rules, of sums and multiples: what one call wrote is handed to the next.
+-- Demand 3 of the calls' rules, of sums and multiples: what one call wrote is handed to the next. Gives: doubles and the neutral record on
+-- any bytes (`add-self`, `add-neutral`); where the calls before answered 0, `add-comm`, `add-assoc`, `add-opposite`, `multiply-mul`, `multiply-add`.
 use Prim.Native.Nat.{ℕ, _+_, _*_, _≤_}
 use mathlib.Core.Path.{_≡_, refl, sym, ap, _∙_}
 use mathlib.Core.List.{List, [], _∷_}

@@ -1,35 +1,18 @@
--- Each call where all that it reads is taken: what it writes.
+-- Each call where all that it reads is taken, and what it then writes: `check-is`, `one-is` of a call on one divisor, `add-is`, `multiply-is`, `total-is`.
 use Prim.Native.Nat.{ℕ, _≤_}
-use mathlib.Core.Path.{_≡_, refl, ap, _∙_}
+use mathlib.Core.Path.{_≡_, ap, _∙_}
 use mathlib.Core.List.{List}
-use mathlib.Core.Bool.{Bool, true, false}
-use lib.Dec.{eqb}
+use mathlib.Core.Bool.{Bool}
 use lib.ListN.{length}
 use borrow.Author.Tests.{le-ltb}
 use Rattle.rules.specs.Bytes.{number}
 use Rattle.rules.specs.Pair.{neutral}
 use Rattle.rules.specs.Sum.{sum}
-use Rattle.rules.specs.Multiple.{multiple, doublings, additions}
+use Rattle.rules.specs.Multiple.{multiple}
 use Rattle.rules.specs.Records.{taken, choose, CurveRecord, curve, PairOf, read-curve, read-divisor, divisor-bytes}
 use Rattle.rules.specs.Lists.{Batch, batch}
-use Rattle.rules.specs.Calls.{done, check-divisor, Written, write, from-one, add-call, Multiplied, not-multiplied, multiplied, multiply-call, Totalled, totalled, total-call}
+use Rattle.rules.specs.Calls.{done, check-divisor, write, from-one, add-call, Multiplied, not-multiplied, multiplied, multiply-call, Totalled, totalled, total-call}
 use Rattle.rules.proofs.calls.Refusals.{check-taken}
-
--- the counts don't touch what is written
-multiplied-written : (w : Written) (n : ℕ) → (multiplied w n) .written ≡ w
-multiplied-written w n = go (eqb (w .answer .number) 0)
-  where
-    go : (t : Bool) → (choose {A = Multiplied} t (record { written = w; doublings = doublings n; additions = additions n })
-        (record { written = w; doublings = 0; additions = 0 })) .written ≡ w
-    go true = refl
-    go false = refl
-
-totalled-written : (w : Written) (n : ℕ) → (totalled w n) .written ≡ w
-totalled-written w n = go (eqb (w .answer .number) 0)
-  where
-    go : (t : Bool) → (choose {A = Totalled} t (record { written = w; count = n }) (record { written = w; count = 0 })) .written ≡ w
-    go true = refl
-    go false = refl
 
 module _ (s : List ℕ) {c : CurveRecord} (e : read-curve s ≡ taken c) where
   pub check-is : (a : List ℕ) {x : PairOf c} → read-divisor c 1 a ≡ taken x → check-divisor s a ≡ done 0
@@ -55,7 +38,6 @@ module _ (s : List ℕ) {c : CurveRecord} (e : read-curve s ≡ taken c) where
     pub multiply-written : (scalar : List ℕ) → length scalar ≤ 32
         → (multiply-call s a scalar out) .written ≡ write out (divisor-bytes (c .p) (multiple (curve c) (number scalar) x))
     multiply-written scalar l = ap (λ (m : Multiplied). m .written) (multiply-is scalar l)
-        ∙ multiplied-written (write out (divisor-bytes (c .p) (multiple (curve c) (number scalar) x))) (number scalar)
 
   pub total-is : (records out : List ℕ) {b : Batch (PairOf c)} → batch c (sum (curve c)) records neutral ≡ taken b
       → total-call s records out ≡ totalled (write out (divisor-bytes (c .p) (b .result))) (b .count)
@@ -64,4 +46,4 @@ module _ (s : List ℕ) {c : CurveRecord} (e : read-curve s ≡ taken c) where
 
   pub total-written : (records out : List ℕ) {b : Batch (PairOf c)} → batch c (sum (curve c)) records neutral ≡ taken b
       → (total-call s records out) .written ≡ write out (divisor-bytes (c .p) (b .result))
-  total-written records out {b} eb = ap (λ (m : Totalled). m .written) (total-is records out eb) ∙ totalled-written (write out (divisor-bytes (c .p) (b .result))) (b .count)
+  total-written records out eb = ap (λ (m : Totalled). m .written) (total-is records out eb)

@@ -1,10 +1,9 @@
--- What it says that a rule took what it read: each of its tests passed.
+-- What it says that a rule took what it read: each of its tests passed (`passed`, `missed`), and so both parts of a `both`, one of an `either`.
 use Prim.Native.Nat.{ℕ}
-use mathlib.Core.Path.{_≡_, refl, sym, subst}
+use mathlib.Core.Path.{_≡_, refl}
 use mathlib.Core.Bool.{Bool, true, false, false≢true}
 use mathlib.Core.Logic.{_⊎_, inl, inr}
 use native.Mathlib.Omega.{arith}
-use Rattle.algebra.proofs.zmod.Prime.{IsTrue}
 use Rattle.rules.specs.Records.{Checked, refused, taken, choose, both, either}
 
 module _ {A : Type 0} where
@@ -42,6 +41,3 @@ true-both e h = rw (e, h)
 pub either-true : (a b : Bool) → either a b ≡ true → (a ≡ true) ⊎ (b ≡ true)
 either-true true b e = inl refl
 either-true false b e = inr e
-
-pub is-true : {b : Bool} → b ≡ true → IsTrue b
-is-true e = subst IsTrue (sym e) tt

@@ -1,4 +1,5 @@
--- Demand 3 of the calls' rules, of totals: a batch in any order, by any parts, and one after the other by sums.
+-- Demand 3 of the calls' rules, of totals: a batch in any order (`total-any-order`), by any parts (`total-any-split`), and one after the other
+-- by sums (`total-by-adds`); 14 where it has more than 4,096 good records (`total-too-many`).
 -- Open: `subtotal`, `adds`.
 use Prim.Native.Nat.{ℕ, _≤_, _<_}
 use mathlib.Core.Path.{_≡_, refl, sym, ap, ap₂, _∙_, subst}

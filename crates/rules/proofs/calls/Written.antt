@@ -1,4 +1,4 @@
--- What is written to the output: on 0 the result stands at its front, and the rest is as it was.
+-- What is written to the output: on 0 the result stands at its front (`front-is`), and the rest is as it was (`rest-is`).
 -- Open: `front`.
 use Prim.Native.Nat.{ℕ, _+_, _≤_}
 use mathlib.Core.Path.{_≡_, refl, ap, _∙_}

@@ -9,12 +9,12 @@ use Rattle.algebra.proofs.ring.CRing.{CRing}
 use Rattle.algebra.proofs.ring.Quote.{ring, quote, by}
 use Rattle.algebra.proofs.ring.Divides.{Divides}
 use Rattle.algebra.proofs.poly.Term.{C, X, constants}
-use Rattle.algebra.proofs.list.Ops.{addL, mulL, negL, quotient, remainder, zero?}
+use Rattle.algebra.proofs.list.Ops.{quotient, remainder, zero?}
 use Rattle.algebra.proofs.list.Value.{pol, pol-whole, pol-add, pol-neg, pol-mul, pol-nil, pol-cons}
 use Rattle.algebra.proofs.list.Division.{divided, no-rest}
 use Rattle.rules.specs.Curve.{Curve, Kx}
 use Rattle.rules.specs.Pair.{Pair, u-of, f-v²}
-use Rattle.rules.specs.Sum.{f-list}
+use Rattle.rules.specs.Sum.{f-v²-list}
 use Rattle.rules.specs.Tests.{on-curve?}
 
 module _ (E : Curve) where
@@ -47,21 +47,17 @@ module _ (E : Curve) where
       go (yes e) h = h
       go (no n) h = absurd (n refl)
 
-  -- f - v² as a list
-  abbrev pub curve-list : Pair (E .K) → List A
-  curve-list a = addL F (f-list E) (negL F (mulL F (a .v) (a .v)))
-
-  pub curve-is : (a : Pair (E .K)) → pol F (curve-list a) ≡ f-v² E a
-  curve-is a = simp (pol-add F, pol-neg F, pol-mul F, pol-whole F)
+  pub f-v²-is : (a : Pair (E .K)) → pol F (f-v²-list E a) ≡ f-v² E a
+  f-v²-is a = simp (pol-add F, pol-neg F, pol-mul F, pol-whole F)
 
   pub on-curve-decides : (a : Pair (E .K)) → (on-curve? E a ≡ true) ↔ Divides (Kx E) (u-of E a) (f-v² E a)
   unfolding on-curve?
   on-curve-decides a = (
     λ h. record {
-      factor = pol F (quotient F (a .u) (curve-list a));
-      is = sym (curve-is a) ∙ divided F (a .u) (curve-list a)
-          ∙ by (Kx E) 1P (zero-sound (remainder F (a .u) (curve-list a)) h)
-          (ring (Kx E) (pol F (quotient F (a .u) (curve-list a)) ∷ u-of E a ∷ pol F (remainder F (a .u) (curve-list a)) ∷ []) (search quote depth 40) refl);
+      factor = pol F (quotient F (a .u) (f-v²-list E a));
+      is = sym (f-v²-is a) ∙ divided F (a .u) (f-v²-list E a)
+          ∙ by (Kx E) 1P (zero-sound (remainder F (a .u) (f-v²-list E a)) h)
+          (ring (Kx E) (pol F (quotient F (a .u) (f-v²-list E a)) ∷ u-of E a ∷ pol F (remainder F (a .u) (f-v²-list E a)) ∷ []) (search quote depth 40) refl);
     },
-    λ d. ap (zero? (E .K)) (no-rest F (a .u) (curve-list a) (d .factor) (curve-is a ∙ d .is)) ∙ zero-complete (length (a .u)),
+    λ d. ap (zero? (E .K)) (no-rest F (a .u) (f-v²-list E a) (d .factor) (f-v²-is a ∙ d .is)) ∙ zero-complete (length (a .u)),
   )

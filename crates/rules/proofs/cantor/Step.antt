@@ -27,10 +27,10 @@ use Rattle.algebra.proofs.ideal.Reduce.{on-change, same-change}
 use Rattle.algebra.proofs.ideal.Step.{cofactor-ne, step-same}
 use Rattle.rules.specs.Curve.{Curve, Kx, f}
 use Rattle.rules.specs.Pair.{Pair, u-of, v-of, f-v²}
-use Rattle.rules.specs.Sum.{step}
+use Rattle.rules.specs.Sum.{f-v²-list, step}
 use Rattle.rules.proofs.cantor.Accepted.{OverField, field-of, f-degree}
 use Rattle.rules.proofs.cantor.Pairs.{On}
-use Rattle.rules.proofs.cantor.OnCurve.{curve-list, curve-is}
+use Rattle.rules.proofs.cantor.OnCurve.{f-v²-is}
 use Rattle.rules.proofs.cantor.Normal.{Normal, normal-is}
 
 -- the ring K[x][y]/(y² - f), and I(u, v) in it
@@ -53,11 +53,11 @@ module _ (E : Curve) (o : OverField E) (odd : length (E .low) ≡ suc (E .g + E 
   infixl 70 _*_
   module _ (a : Pair (E .K)) (h : On E a) where
     abbrev w : List (F .El)
-    w = quotient F (a .u) (curve-list E a)
+    w = quotient F (a .u) (f-v²-list E a)
 
     w-is : pol F w ≡ h .on .0
-    w-is = exact F (a .u) (curve-list E a) (h .on .0)
-        (curve-is E a ∙ by (Kx E) 1P (h .on .1) (ring (Kx E) (f E ∷ v-of E a ∷ u-of E a ∷ h .on .0 ∷ []) (search quote depth 40) refl))
+    w-is = exact F (a .u) (f-v²-list E a) (h .on .0)
+        (f-v²-is E a ∙ by (Kx E) 1P (h .on .1) (ring (Kx E) (f E ∷ v-of E a ∷ u-of E a ∷ h .on .0 ∷ []) (search quote depth 40) refl))
 
     whole : f E ≡ v-of E a * v-of E a ⊕ u-of E a * pol F w
     whole = h .on .1 ∙ ap (λ t. v-of E a * v-of E a ⊕ u-of E a * t) (sym w-is)
