@@ -155,6 +155,8 @@ def load(module):
         return None
     if path not in FILES:
         FILES[path] = File(path)
+        for other, _ in FILES[path].imports.values():
+            load(other)
     return FILES[path]
 
 
@@ -214,7 +216,7 @@ def contracts(reached):
 
 
 def rank(path):
-    part = next(i for i, p in enumerate(ORDER) if path.startswith(p))
+    part = next((i for i, p in enumerate(ORDER) if path.startswith(p)), len(ORDER))
     return (part, RULES.index(path.split("/")[-1]) if part == 0 else 0, path)
 
 
@@ -252,7 +254,7 @@ def main():
     for file in {i.file for i in both.items if i.file.whole}:
         print("\nwarning: %s has %s, which isn't followed" % (file.path, ", ".join(file.whole)))
     if "--unread" in sys.argv:
-        for path in sorted(FILES, key=rank):
+        for path in sorted({i.file.path for i in both.items}, key=rank):
             left = [i.name for i in FILES[path].items if i.name and i not in both.items and i.mark is not None]
             if "/specs/" in path and left:
                 print("\nnot reached in %s: %s" % (path, " ".join(left)))

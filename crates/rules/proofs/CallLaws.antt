@@ -29,7 +29,7 @@ use Rattle.rules.proofs.calls.Written.{front}
 use Rattle.rules.proofs.calls.Done.{answered, OneDone, AddDone, TotalDone, total-of}
 use Rattle.rules.proofs.calls.Totals.{subtotal, adds}
 use Rattle.rules.proofs.calls.Scans.{ScanDone, running-bytes, scans, AllDone}
-use Rattle.rules.proofs.calls.Kept.{Kept, KeptM, KeptT, KeptS}
+use Rattle.rules.proofs.calls.Kept.{Kept, KeptMultiple, KeptTotal, KeptScan}
 use Rattle.rules.proofs.calls.Rewrites
 use Rattle.rules.proofs.calls.Written
 use Rattle.rules.proofs.calls.Kept
@@ -188,13 +188,13 @@ rest-unchanged = Written.rest-is
 pub add-refused : (s a b out : List ℕ) → Kept out (add-call s a b out)
 add-refused s a b out = Kept.add-kept out s a b
 
-pub multiply-refused : (s a n out : List ℕ) → KeptM out (multiply-call s a n out)
+pub multiply-refused : (s a n out : List ℕ) → KeptMultiple out (multiply-call s a n out)
 multiply-refused s a n out = Kept.multiply-kept out s a n
 
-pub total-refused : (s records out : List ℕ) → KeptT out (total-call s records out)
+pub total-refused : (s records out : List ℕ) → KeptTotal out (total-call s records out)
 total-refused s records out = Kept.total-kept out s records
 
-pub scan-refused : (s : List ℕ) (t : Running) (a : List ℕ) → KeptS t (scan-call t s a)
+pub scan-refused : (s : List ℕ) (t : Running) (a : List ℕ) → KeptScan t (scan-call t s a)
 scan-refused = Kept.scan-kept
 
 -- ---- one answer: two programs that keep a call's words on the same bytes agree in the answer and in every byte of the output

@@ -43,14 +43,21 @@ module _ (E : Curve) where
     -- the same pair in other words: u' = c·u, and v' is v modulo u'
     restated : {u v : P} (c c' u' v' : P) → Reached U V' u v → c * c' ≡ 1P → u' ≡ c * u → Divides (Kx E) u' (v' + neg v) → Reached U V' u' v'
 
+  -- v' as v, or -v, and a multiple
+  turned : (v w c u' v' : P) → u' ≡ c * w → (h : Divides (Kx E) u' (v' + v)) → v' ≡ neg v + h .factor * c * w
+  turned v w c u' v' hu h = by (Kx E) 1P (h .is) (by (Kx E) (h .factor) hu (ring (Kx E) (v ∷ v' ∷ w ∷ u' ∷ c ∷ h .factor ∷ []) (search quote depth 40) refl))
+
+  kept : (u v c u' v' : P) → u' ≡ c * u → (h : Divides (Kx E) u' (v' + neg v)) → v' ≡ v + h .factor * c * u
+  kept u v c u' v' hu h = by (Kx E) 1P (h .is) (by (Kx E) (h .factor) hu (ring (Kx E) (v ∷ v' ∷ u ∷ u' ∷ c ∷ h .factor ∷ []) (search quote depth 40) refl))
+
   -- each step stays on the curve
   pub reached-on : {U V' u v : P} → OnCurve (Kx E) (f E) U V' → Reached U V' u v → OnCurve (Kx E) (f E) u v
   reached-on on here = on
   reached-on on (turn {u = u} {v = v} w c c' u' v' r hw hc hu hv) = on-change (Kx E) (f E) w (neg v) u' v' (hv .factor * c) c c' hu hc
-      (by (Kx E) 1P (hv .is) (by (Kx E) (hv .factor) hu (ring (Kx E) (v ∷ v' ∷ w ∷ u' ∷ c ∷ hv .factor ∷ []) (search quote depth 40) refl)))
+      (turned v w c u' v' hu hv)
       (u, by (Kx E) (neg 1P) hw (ring (Kx E) (f E ∷ u ∷ v ∷ w ∷ []) (search quote depth 40) refl))
   reached-on on (restated {u = u} {v = v} c c' u' v' r hc hu hv) = on-change (Kx E) (f E) u v u' v' (hv .factor * c) c c' hu hc
-      (by (Kx E) 1P (hv .is) (by (Kx E) (hv .factor) hu (ring (Kx E) (v ∷ v' ∷ u ∷ u' ∷ c ∷ hv .factor ∷ []) (search quote depth 40) refl)))
+      (kept u v c u' v' hu hv)
       (reached-on on r)
 
 module _ (E : Curve) (h : Accepted E) where
@@ -64,10 +71,10 @@ module _ (E : Curve) (h : Accepted E) where
       (step-same (field-of E (h .over)) (E .g) (f E) (f-degree E (h .over) (h .odd)) u v w (by (Kx E) (neg 1P) hw
       (ring (Kx E) (f E ∷ u ∷ v ∷ w ∷ []) (search quote depth 40) refl)))
       (same-change (Kx E) (f E) w (neg v) u' v' (hv .factor * c) c c' hu hc
-      (by (Kx E) 1P (hv .is) (by (Kx E) (hv .factor) hu (ring (Kx E) (v ∷ v' ∷ w ∷ u' ∷ c ∷ hv .factor ∷ []) (search quote depth 40) refl)))))
+      (turned E v w c u' v' hu hv)))
   reached-class (restated {u = u} {v = v} c c' u' v' r hc hu hv) = same-trans (Kxy E) (reached-class r)
       (same-change (Kx E) (f E) u v u' v' (hv .factor * c) c c' hu hc
-      (by (Kx E) 1P (hv .is) (by (Kx E) (hv .factor) hu (ring (Kx E) (v ∷ v' ∷ u ∷ u' ∷ c ∷ hv .factor ∷ []) (search quote depth 40) refl))))
+      (kept E u v c u' v' hu hv))
 
   -- the last pair by lists: where it is valid, it is the sum
   pub is-sum : (a b c : Pair (E .K)) → Valid E a → Valid E b → Valid E c → {U V' : P}

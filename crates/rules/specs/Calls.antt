@@ -32,11 +32,11 @@ check x stop go = elim x [ refused n k ↦ stop n k | taken a ↦ go a ]
 -- ---- the checks
 unfoldable pub check-curve : List ℕ → Answer
 unfolding read-curve
-check-curve curve = check (read-curve curve) refusal (λ c. done 0)
+check-curve s = check (read-curve s) refusal (λ c. done 0)
 
 unfoldable pub check-divisor : List ℕ → List ℕ → Answer
 unfolding read-curve
-check-divisor curve a = check (read-curve curve) refusal (λ c. check (read-divisor c 1 a) refusal (λ x. done 0))
+check-divisor s a = check (read-curve s) refusal (λ c. check (read-divisor c 1 a) refusal (λ x. done 0))
 
 -- ---- calls that write a record: 13 where the output is shorter than it
 pub record Written : Type 0 where
@@ -51,15 +51,15 @@ write out bytes = choose (ltb (length out) (length bytes)) (left-as-is out 13 0)
 
 unfoldable pub rewrite-curve : List ℕ → List ℕ → Written
 unfolding read-curve curve-bytes
-rewrite-curve curve out = check (read-curve curve) (left-as-is out) (λ c. write out (curve-bytes c))
+rewrite-curve s out = check (read-curve s) (left-as-is out) (λ c. write out (curve-bytes c))
 
 -- one divisor in, one out
 abbrev pub from-one : ((c : CurveRecord) → PairOf c → PairOf c) → List ℕ → List ℕ → List ℕ → Written
-from-one f curve a out = check (read-curve curve) (left-as-is out) (λ c. check (read-divisor c 1 a) (left-as-is out) (λ x. write out (divisor-bytes (c .p) (f c x))))
+from-one f s a out = check (read-curve s) (left-as-is out) (λ c. check (read-divisor c 1 a) (left-as-is out) (λ x. write out (divisor-bytes (c .p) (f c x))))
 
 unfoldable pub rewrite-divisor : List ℕ → List ℕ → List ℕ → Written
 unfolding read-curve divisor-bytes
-rewrite-divisor curve a out = from-one (λ c x. x) curve a out
+rewrite-divisor s a out = from-one (λ c x. x) s a out
 
 unfoldable pub double-call : List ℕ → List ℕ → List ℕ → Written
 unfolding read-curve divisor-bytes double

@@ -1,7 +1,7 @@
 -- Document 01, "The records" and, of "Numbers the tablet shows", the numbers 1 to 11 in their order: what a curve record and a divisor
 -- record are read as, a check a line, and what bytes they are written as.
 use Prim.Native.Nat.{ℕ, suc, _+_, _*_}
-use mathlib.Core.List.{List, [], _∷_, _++_}
+use mathlib.Core.List.{List, [], _∷_, _++_, map}
 use mathlib.Core.Bool.{Bool, true, false}
 -- (`choose` is the library's if, `both` and `either` its and and or)
 pub use mathlib.Core.Bool.{cond as choose, _&&_ as both, _||_ as either}
@@ -36,12 +36,10 @@ below? p (x ∷ l) = both (ltb x p) (below? p l)
 
 -- numbers as elements of Z/p, and back
 unfoldable pub elements : (p : ℕ) → List ℕ → List (zmod p .El)
-elements p [] = []
-elements p (x ∷ l) = emb p x ∷ elements p l
+elements p l = map (emb p) l
 
 unfoldable pub numbers : (p : ℕ) → List (zmod p .El) → List ℕ
-numbers p [] = []
-numbers p (x ∷ l) = num p x ∷ numbers p l
+numbers p l = map (num p) l
 
 -- ---- the curve record: the mark HJC, a 16-bit version, g, p, then f_0 up to f_2g
 pub record CurveRecord : Type 0 where
@@ -77,11 +75,12 @@ unfolding bytes64 all-bytes numbers
 curve-bytes c = 72 ∷ 74 ∷ 67 ∷ 0 ∷ 1 ∷ c .g ∷ (bytes64 (c .p) ++ all-bytes (numbers (c .p) (c .low)))
 
 -- ---- the divisor record: one byte of weight w, then u_0 to u_(w-1), then v_0 to v_(w-1)
--- it stands at place a, is the k-th, and takes up all that is left where it is whole
+-- alone it is the whole of the bytes; in a batch as many must remain
 abbrev pub fits : Bool → ℕ → ℕ → Bool
 fits true end all = eqb all end
 fits false end all = leb end all
 
+-- the k-th divisor, its record from place a on
 unfoldable pub divisor-at : (c : CurveRecord) → ℕ → Bool → List ℕ → ℕ → Checked (PairOf c)
 unfolding words below? elements on-curve?
 divisor-at c k whole s a =

@@ -3,7 +3,7 @@
 -- coefficient; Euclid's algorithm with its two cofactors. Sums and division ask for a ring, Euclid for an `Arith`.
 -- Shut (`unfoldable`): all of it. What the lists mean in K[x] is in list.Value, list.Division and list.Euclid.
 use Prim.Native.Nat.{ℕ, zero, suc}
-use mathlib.Core.List.{List, [], _∷_, _++_}
+use mathlib.Core.List.{List, [], _∷_, _++_, map}
 use mathlib.Core.Bool.{Bool, true, false}
 use lib.ListN.{length, replicate}
 use Rattle.algebra.proofs.ring.CRing.{CRing}
@@ -20,8 +20,7 @@ module _ (F : CRing) where
   addL (a ∷ l) (b ∷ m) = (a ⊞ b) ∷ addL l m
 
   unfoldable pub scaleL : A → List A → List A
-  scaleL c [] = []
-  scaleL c (a ∷ l) = (c ⊠ a) ∷ scaleL c l
+  scaleL c l = map (λ a. c ⊠ a) l
 
   unfoldable pub mulL : List A → List A → List A
   unfolding addL scaleL
@@ -29,8 +28,7 @@ module _ (F : CRing) where
   mulL (a ∷ l) m = addL (scaleL a m) (𝟘 ∷ mulL l m)
 
   unfoldable pub negL : List A → List A
-  negL [] = []
-  negL (a ∷ l) = neg a ∷ negL l
+  negL l = map neg l
 
   -- (a + x p)' = p + x p'
   unfoldable pub derL : List A → List A

@@ -5,7 +5,7 @@ use Prim.Native.Nat.{ℕ, zero, suc, _≤_, _<_}
 use mathlib.Core.Path.{_≡_, refl, sym, ap, ap₂, _∙_}
 use mathlib.Core.List.{List, [], _∷_, _++_}
 use native.Mathlib.Omega.{arith}
-use lib.ListN.{getD, length, replicate, length-append, List·getD-eq-default, List·getD-append}
+use lib.ListN.{getD, length, replicate, length-map, length-append, List·getD-eq-default, List·getD-append}
 use lib.Seq.{getD-at}
 use Rattle.algebra.proofs.ring.CRing.{CRing, add-zer}
 use Rattle.algebra.proofs.ring.Quote.{ring, quote}
@@ -103,13 +103,11 @@ module _ (F : CRing) where
   -- ---- lengths
   pub length-neg : (l : List A) → length (negL F l) ≡ length l
   unfolding negL
-  length-neg [] = refl
-  length-neg (a ∷ l) = ap suc (length-neg l)
+  length-neg l = length-map l (F .neg)
 
   pub length-scale : (c : A) (l : List A) → length (scaleL F c l) ≡ length l
   unfolding scaleL
-  length-scale c [] = refl
-  length-scale c (a ∷ l) = ap suc (length-scale c l)
+  length-scale c l = length-map l (F .mul c)
 
   pub length-add : (l m : List A) → length m ≡ length l → length (addL F l m) ≡ length l
   unfolding addL

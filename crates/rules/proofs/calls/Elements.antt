@@ -1,12 +1,12 @@
 -- Numbers below p and elements of Z/p, by lists: `numbers` and `elements` undo one another.
-use Prim.Native.Nat.{ℕ, suc, _<_}
-use mathlib.Core.Path.{_≡_, refl, ap, ap₂}
+use Prim.Native.Nat.{ℕ, _<_}
+use mathlib.Core.Path.{_≡_, refl, ap₂}
 use mathlib.Core.List.{List, [], _∷_}
 use mathlib.Core.Bool.{true}
 use lib.Dec.{ltb}
-use lib.ListN.{length}
+use lib.ListN.{length, length-map}
 use borrow.Author.Tests.{ltb-true, lt-ltb}
-use Rattle.algebra.proofs.zmod.Zmod.{zmod, num, emb-num, num-of, num-lt}
+use Rattle.algebra.proofs.zmod.Zmod.{zmod, emb, num, emb-num, num-of, num-lt}
 use Rattle.rules.specs.Records.{below?, elements, numbers}
 use Rattle.rules.proofs.calls.Tests.{both-true, true-both}
 
@@ -18,13 +18,11 @@ module _ (p : ℕ) where
 
   pub length-elements : (l : List ℕ) → length (elements p l) ≡ length l
   unfolding elements
-  length-elements [] = refl
-  length-elements (x ∷ l) = ap suc (length-elements l)
+  length-elements l = length-map l (emb p)
 
   pub length-numbers : (l : List (zmod p .El)) → length (numbers p l) ≡ length l
   unfolding numbers
-  length-numbers [] = refl
-  length-numbers (x ∷ l) = ap suc (length-numbers l)
+  length-numbers l = length-map l (num p)
 
   module _ (pos : 0 < p) where
     pub numbers-elements : (l : List ℕ) → below? p l ≡ true → numbers p (elements p l) ≡ l

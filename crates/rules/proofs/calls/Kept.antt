@@ -1,5 +1,5 @@
 -- "On any other number length and counts are 0 and output and running total are unchanged": of each call's rule.
--- Open: `Kept`, and `KeptM`, `KeptT`, `KeptR`, `KeptS` for a multiple, a total, a repeat and a scan.
+-- Open: `Kept`, `KeptMultiple`, `KeptTotal`, `KeptRepeat`, `KeptScan`.
 use Prim.Native.Nat.{ℕ}
 use mathlib.Core.Path.{_≡_, refl, ap}
 use mathlib.Core.List.{List, [], _∷_, _++_}
@@ -26,11 +26,11 @@ module _ (out : List ℕ) where
   abbrev pub Kept : Written → Type 0
   Kept w = (w .answer .number ≡ 0 → ⊥) → (w .answer .length ≡ 0) × (w .out ≡ out)
 
-  abbrev pub KeptM : Multiplied → Type 0
-  KeptM m = (m .written .answer .number ≡ 0 → ⊥) → (m .written .answer .length ≡ 0) × (m .written .out ≡ out) × (m .doublings ≡ 0) × (m .additions ≡ 0)
+  abbrev pub KeptMultiple : Multiplied → Type 0
+  KeptMultiple m = (m .written .answer .number ≡ 0 → ⊥) → (m .written .answer .length ≡ 0) × (m .written .out ≡ out) × (m .doublings ≡ 0) × (m .additions ≡ 0)
 
-  abbrev pub KeptT : Totalled → Type 0
-  KeptT m = (m .written .answer .number ≡ 0 → ⊥) → (m .written .answer .length ≡ 0) × (m .written .out ≡ out) × (m .count ≡ 0)
+  abbrev pub KeptTotal : Totalled → Type 0
+  KeptTotal m = (m .written .answer .number ≡ 0 → ⊥) → (m .written .answer .length ≡ 0) × (m .written .out ≡ out) × (m .count ≡ 0)
 
   kept-write : (bytes : List ℕ) → Kept (write out bytes)
   kept-write bytes = go (ltb (length out) (length bytes))
@@ -70,37 +70,37 @@ module _ (out : List ℕ) where
     no-count : (w : Written) (n : ℕ) → (w .answer .number ≡ 0 → ⊥) → counted w n ≡ 0
     no-count w n h = ap (λ t. choose t n 0) (ne-eqb (w .answer .number) 0 h)
 
-    pub multiply-kept : (a scalar : List ℕ) → KeptM (multiply-call s a scalar out)
+    pub multiply-kept : (a scalar : List ℕ) → KeptMultiple (multiply-call s a scalar out)
     unfolding multiply-call
-    multiply-kept a scalar = always KeptM (read-curve s) _ _ (λ n k h. (refl, refl, refl, refl)) (λ c.
-        always KeptM (read-divisor c 1 a) _ _ (λ n k h. (refl, refl, refl, refl)) (λ x. go (ltb 32 (length scalar)) (divisor-bytes (c .p) (multiple (curve c) (number scalar) x))))
+    multiply-kept a scalar = always KeptMultiple (read-curve s) _ _ (λ n k h. (refl, refl, refl, refl)) (λ c.
+        always KeptMultiple (read-divisor c 1 a) _ _ (λ n k h. (refl, refl, refl, refl)) (λ x. go (ltb 32 (length scalar)) (divisor-bytes (c .p) (multiple (curve c) (number scalar) x))))
       where
-        go : (t : Bool) (bytes : List ℕ) → KeptM (choose t (not-multiplied out 12 0) (multiplied (write out bytes) (number scalar)))
+        go : (t : Bool) (bytes : List ℕ) → KeptMultiple (choose t (not-multiplied out 12 0) (multiplied (write out bytes) (number scalar)))
         go true bytes = λ h. (refl, refl, refl, refl)
         go false bytes = λ h. let k = kept-write bytes h in
             (k .0, k .1, no-count (write out bytes) (doublings (number scalar)) h, no-count (write out bytes) (additions (number scalar)) h)
 
-    pub total-kept : (records : List ℕ) → KeptT (total-call s records out)
+    pub total-kept : (records : List ℕ) → KeptTotal (total-call s records out)
     unfolding total-call
-    total-kept records = always KeptT (read-curve s) _ _ (λ n k h. (refl, refl, refl)) (λ c.
-        always KeptT (batch c (sum (curve c)) records neutral) _ _ (λ n k h. (refl, refl, refl)) (λ b.
+    total-kept records = always KeptTotal (read-curve s) _ _ (λ n k h. (refl, refl, refl)) (λ c.
+        always KeptTotal (batch c (sum (curve c)) records neutral) _ _ (λ n k h. (refl, refl, refl)) (λ b.
         λ h. let k = kept-write (divisor-bytes (c .p) (b .result)) h in (k .0, k .1, no-count (write out (divisor-bytes (c .p) (b .result))) (b .count) h)))
 
 -- ---- calls without an output: length 0 in any case
-abbrev pub KeptS : Running → Scanned → Type 0
-KeptS t w = (w .answer .length ≡ 0) × ((w .answer .number ≡ 0 → ⊥) → w .total ≡ t)
+abbrev pub KeptScan : Running → Scanned → Type 0
+KeptScan t w = (w .answer .length ≡ 0) × ((w .answer .number ≡ 0 → ⊥) → w .total ≡ t)
 
-abbrev pub KeptR : Repeated → Type 0
-KeptR w = (w .answer .length ≡ 0) × ((w .answer .number ≡ 0 → ⊥) → w .repeat ≡ record { first = 0; second = 0 })
+abbrev pub KeptRepeat : Repeated → Type 0
+KeptRepeat w = (w .answer .length ≡ 0) × ((w .answer .number ≡ 0 → ⊥) → w .repeat ≡ record { first = 0; second = 0 })
 
 module _ (s : List ℕ) where
-  pub scan-kept : (t : Running) (a : List ℕ) → KeptS t (scan-call t s a)
+  pub scan-kept : (t : Running) (a : List ℕ) → KeptScan t (scan-call t s a)
   unfolding scan-call
-  scan-kept t a = always (KeptS t) (read-curve s) _ _ (λ n k. (refl, λ h. refl)) (λ c.
-      always (KeptS t) (resume c t) _ _ (λ n k. (refl, λ h. refl)) (λ x.
-      always (KeptS t) (read-divisor c 1 a) _ _ (λ n k. (refl, λ h. refl)) (λ y. (refl, λ h. absurd (h refl)))))
+  scan-kept t a = always (KeptScan t) (read-curve s) _ _ (λ n k. (refl, λ h. refl)) (λ c.
+      always (KeptScan t) (resume c t) _ _ (λ n k. (refl, λ h. refl)) (λ x.
+      always (KeptScan t) (read-divisor c 1 a) _ _ (λ n k. (refl, λ h. refl)) (λ y. (refl, λ h. absurd (h refl)))))
 
-  pub repeat-kept : (records : List ℕ) → KeptR (repeat-call s records)
+  pub repeat-kept : (records : List ℕ) → KeptRepeat (repeat-call s records)
   unfolding repeat-call
-  repeat-kept records = always KeptR (read-curve s) _ _ (λ n k. (refl, λ h. refl)) (λ c.
-      always KeptR (batch c (λ l d. l ++ (d ∷ [])) records []) _ _ (λ n k. (refl, λ h. refl)) (λ b. (refl, λ h. absurd (h refl))))
+  repeat-kept records = always KeptRepeat (read-curve s) _ _ (λ n k. (refl, λ h. refl)) (λ c.
+      always KeptRepeat (batch c (λ l d. l ++ (d ∷ [])) records []) _ _ (λ n k. (refl, λ h. refl)) (λ b. (refl, λ h. absurd (h refl))))
