@@ -4,6 +4,7 @@ use Prim.Native.Nat.{ℕ}
 use mathlib.Core.Path.{_≡_, refl, sym, ap, ap₂, _∙_, subst}
 use mathlib.Core.Bool.{true}
 use mathlib.Core.List.{List}
+use native.Mathlib.Omega.{arith}
 use Rattle.rules.specs.Records.{Checked, refused, taken, CurveRecord, PairOf, read-curve, read-divisor}
 use Rattle.rules.specs.Calls.{check}
 use Rattle.rules.proofs.calls.Refusals.{check-taken, check-refused, divisor-numbered}
@@ -68,4 +69,4 @@ module _ (s a : List ℕ) (x : One) where
     })
       where
         some : n ≡ 0 → ⊥
-        some q = divisor-numbered (recordOf (r .curve)) 1 true a 0 1 (k 1 ∙ ap (λ (m : ℕ). refused m 1) q)
+        some q = omega (arith, divisor-numbered (recordOf (r .curve)) 1 true a 0 n 1 (k 1), q)
