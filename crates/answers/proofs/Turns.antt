@@ -17,7 +17,7 @@ use Rattle.curve.specs.Record.{recordOf}
 use Rattle.divisor_read.specs.declared.DivisorRead.{DivisorRead}
 use Rattle.divisor_read.specs.declared.DivisorRead.the-variants.{Taken, Refused}
 use Rattle.divisor_read.specs.Read.{DivisorIs}
-use Rattle.answers.proofs.Steps.{at-end, too-many, stops, goes-on}
+use Rattle.rules.proofs.calls.Steps.{at-end, too-many, stops, goes-on}
 
 -- ---- what a read record says, by its case
 module _ (c : Curve) (s : List ℕ) (a : ℕ) (r : DivisorRead) (is : DivisorIs c false s a r) where

@@ -9,6 +9,7 @@ pub mod DivisorRecords
 -- what was taken keeps demand 3
 pub mod Accepted
 -- batches of records
+pub mod Steps
 pub mod Batches
 -- what a call that answers 0 did
 pub mod Refusals

@@ -2,7 +2,7 @@
 -- of its numbers; a divisor in range is held, and is read from and written as its numbers.
 use Prim.Native.Nat.{ℕ, zero, suc, _+_, _*_, _≤_, _<_}
 use mathlib.Core.Path.{_≡_, refl, sym, ap, ap₂, _∙_, subst}
-use mathlib.Core.Bool.{Bool, true, false, false≢true}
+use mathlib.Core.Bool.{Bool, true, false}
 use mathlib.Core.List.{List, [], _∷_, _++_, map}
 use native.Mathlib.Omega.{arith}
 use borrow.Author.Tests.{lt-ltb, ltb-true}
@@ -10,10 +10,12 @@ use lib.Dec.{ltb}
 use lib.ListN.{length, getD, take, length-map}
 use lib.Seq.{take-suc}
 use Rattle.rules.specs.Records.{both, below?, elements, numbers}
+use Rattle.rules.proofs.calls.Tests.{both-true, true-both}
 use Rattle.field.specs.declared.Modulus.{Modulus}
 use Rattle.field.specs.declared.Residue.{Residue}
 use Rattle.field.specs.Residues.{el, raw, Good, InRange}
 use Rattle.field.proofs.Laws.{in-range-settled, number-is}
+use Rattle.field.proofs.Decide.{otherwise}
 use Rattle.divisor.specs.declared.Divisor.{Divisor}
 use Rattle.divisor.specs.Divisors.{weightOf, us, vs, coefficients, pair, elements as values, AllSettled, RowOf, Held}
 use Rattle.divisor.proofs.Laws.{length-us, length-vs}
@@ -54,34 +56,16 @@ module _ (m : Modulus) where
     range-end t l = in-parts (us d) (vs d) (subst (ListIn m) (h .is) (subst (λ n. ListIn m (take n r)) {x = k} {y = 2 * weightOf d} (omega (arith, t .within)) (t .all)))
 
 -- ---- the rule's test
-first-true : (a b : Bool) → both a b ≡ true → a ≡ true
-first-true true b e = refl
-first-true false b e = e
-
-second-true : (a b : Bool) → both a b ≡ true → b ≡ true
-second-true true b e = e
-second-true false b e = absurd (false≢true e)
-
-both-true : (a b : Bool) → a ≡ true → b ≡ true → both a b ≡ true
-both-true a b p q = ap₂ both p q
-
-pub no : (b : Bool) → (b ≡ true → ⊥) → b ≡ false
-no true e = absurd (e refl)
-no false e = refl
-
 module _ (m : Modulus) where
   below-of : (l : List Residue) → ListIn m l → below? (m .p) (map raw l) ≡ true
   unfolding below?
   below-of [] h = refl
-  below-of (r ∷ l) h = both-true (ltb (raw r) (m .p)) (below? (m .p) (map raw l)) (lt-ltb (raw r) (m .p) (h .0 .below)) (below-of l (h .1))
+  below-of (r ∷ l) h = true-both (lt-ltb (raw r) (m .p) (h .0 .below)) (below-of l (h .1))
 
   below-only : (l : List Residue) → below? (m .p) (map raw l) ≡ true → ListIn m l
   unfolding below?
   below-only [] e = tt
-  below-only (r ∷ l) e = (
-    record { below = ltb-true (raw r) (m .p) (first-true (ltb (raw r) (m .p)) (below? (m .p) (map raw l)) e) },
-    below-only l (second-true (ltb (raw r) (m .p)) (below? (m .p) (map raw l)) e),
-  )
+  below-only (r ∷ l) e = let t = both-true (ltb (raw r) (m .p)) (below? (m .p) (map raw l)) e in (record { below = ltb-true (raw r) (m .p) (t .0) }, below-only l (t .1))
 
   -- residues in range, as elements and as numbers
   all-settled : Good m → (l : List Residue) → ListIn m l → AllSettled m l
@@ -103,13 +87,10 @@ module _ (m : Modulus) where
     below-both = both (below? (m .p) (map raw (us d))) (below? (m .p) (map raw (vs d)))
 
     pub all-below : AllIn m d → below-both ≡ true
-    all-below h = both-true (below? (m .p) (map raw (us d))) (below? (m .p) (map raw (vs d))) (below-of (us d) (h .0)) (below-of (vs d) (h .1))
+    all-below h = true-both (below-of (us d) (h .0)) (below-of (vs d) (h .1))
 
     pub not-below : (AllIn m d → ⊥) → below-both ≡ false
-    not-below n = no below-both (λ e. n (
-      below-only (us d) (first-true (below? (m .p) (map raw (us d))) (below? (m .p) (map raw (vs d))) e),
-      below-only (vs d) (second-true (below? (m .p) (map raw (us d))) (below? (m .p) (map raw (vs d))) e),
-    ))
+    not-below n = otherwise below-both (λ e. let t = both-true (below? (m .p) (map raw (us d))) (below? (m .p) (map raw (vs d))) e in n (below-only (us d) (t .0), below-only (vs d) (t .1)))
 
     pub held-of : Good m → AllIn m d → Held m d
     held-of g h = record { good = g; u = all-settled g (us d) (h .0); v = all-settled g (vs d) (h .1) }

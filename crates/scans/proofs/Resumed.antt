@@ -21,7 +21,8 @@ use Rattle.curve.specs.Curves.{curveOf, Divided}
 use Rattle.running.specs.declared.Running.{Running}
 use Rattle.curve.specs.Record.{recordOf}
 use Rattle.scans.specs.Scans.{runningOf, AllIn, ResumeIs}
-use Rattle.scans.proofs.Ranges.{no, all-below, not-below, held-of, read-as, one-length, length-raw}
+use Rattle.field.proofs.Decide.{otherwise}
+use Rattle.scans.proofs.Ranges.{all-below, not-below, held-of, read-as, one-length, length-raw}
 
 module _ (c : Curve) (t : Running) where
   abbrev d : Divisor
@@ -64,7 +65,7 @@ module _ (c : Curve) (t : Running) where
         rule-is = rw (le-leb (length (map raw (us d))) (c .g) (omega (arith, length-raw d)), same, all-below (c .m) d all) refl ∙ ap last (read-as (c .m) d)
 
         pub off-curve : (Divided c d → ⊥) → ResumeIs c t 15
-        off-curve n = stops 15 (omega arith) (rule-is ∙ rw (no (on-curve? (curveOf c) (pair (c .m) d)) (λ e. n (on-curve-test (curveOf c) (pair (c .m) d) .0 e))))
+        off-curve n = stops 15 (omega arith) (rule-is ∙ rw (otherwise (on-curve? (curveOf c) (pair (c .m) d)) (λ e. n (on-curve-test (curveOf c) (pair (c .m) d) .0 e))))
 
         module _ (on : Divided c d) where
           counted : resume (recordOf c) (runningOf t) ≡ choose (leb (t .count) most) (choose (ltb (t .count) most) (taken (pair (c .m) d)) (refused 14 0)) (refused 15 0)

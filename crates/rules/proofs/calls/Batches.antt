@@ -10,12 +10,13 @@ use mathlib.Core.Logic.{Or·elim}
 use native.Mathlib.Omega.{arith}
 use lib.Dec.{leb}
 use lib.ListN.{getD, length, drop, length-append, drop-of-length-le}
-use borrow.Author.Tests.{leb-true, leb-false, le-leb, lt-leb}
+use borrow.Author.Tests.{leb-true, leb-false}
 use Rattle.rules.specs.Pair.{Valid}
 use Rattle.rules.specs.Records.{Checked, refused, taken, choose, CurveRecord, curve, PairOf, divisor-at, read-divisor}
 use Rattle.rules.specs.Lists.{Batch, batch-from, batch, most}
 use Rattle.rules.proofs.cantor.Totals.{AllValid}
 use Rattle.rules.proofs.calls.Tests.{refused-taken, taken?, is-taken}
+use Rattle.rules.proofs.calls.Steps.{at-end, too-many, goes-on}
 use Rattle.rules.proofs.calls.DivisorRecords.{pair-at, DivisorBytes, divisor-read, divisor-taken, divisor-valid, taken-among, next-place, record-out, alone-out, split-out}
 
 module _ (c : CurveRecord) where
@@ -95,31 +96,12 @@ module _ (c : CurveRecord) where
           go false q (taken d) e rec = goes e (rec d)
 
     module _ (s : List ℕ) where
-      -- one record more, and the end
-      batch-more : (left a k : ℕ) (from : A) {d : PairOf c} → a < length s → divisor-at c (k + 1) false s a ≡ taken d
-          → batch-from c step s (suc left) a k from ≡ batch-from c step s left (a + 1 + 16 * getD s a 0) (k + 1) (step from d)
-      unfolding batch-from
-      batch-more left a k from l e = ap₂ go (lt-leb (length s) a l) e
-        where
-          go : Bool → Checked (PairOf c) → Checked (Batch A)
-          go t x = choose t (taken (record { result = from; count = k }))
-              (elim x [ refused n place ↦ refused n place | taken d ↦ batch-from c step s left (a + 1 + 16 * getD s a 0) (k + 1) (step from d) ])
-
-      batch-end : (left a k : ℕ) (from : A) → length s ≤ a → batch-from c step s left a k from ≡ taken (record { result = from; count = k })
-      unfolding batch-from
-      batch-end zero a k from l = rw (le-leb (length s) a l)
-      batch-end (suc left) a k from l = rw (le-leb (length s) a l)
-
-      batch-full : (a k : ℕ) (from : A) → a < length s → batch-from c step s 0 a k from ≡ refused 14 0
-      unfolding batch-from
-      batch-full a k from l = rw (lt-leb (length s) a l)
-
       -- a good record behind `front`
       batch-one : (front r back : List ℕ) (left a k : ℕ) (from : A) → IsRecord r → s ≡ front ++ (r ++ back) → a ≡ length front
           → batch-from c step s (suc left) a k from ≡ batch-from c step s left (a + length r) (k + 1) (step from (pair-of r))
       batch-one front r back left a k from h e q =
           let b = record-bytes r h in
-          batch-more left a k from (omega (arith, q, b .inside, ap length e ∙ length-append front (r ++ back) ∙ ap (_+_ (length front)) (length-append r back)))
+          goes-on c step s a k from (omega (arith, q, b .inside, ap length e ∙ length-append front (r ++ back) ∙ ap (_+_ (length front)) (length-append r back))) left
           (ap₂ (divisor-at c (k + 1) false) e q ∙ taken-among c front r back b (k + 1))
           ∙ ap (λ (x : ℕ). batch-from c step s left x (k + 1) (step from (pair-of r)))
           (ap₂ (λ (z : List ℕ) (x : ℕ). x + 1 + 16 * getD z x 0) e q ∙ next-place c front r back b ∙ ap (λ (x : ℕ). x + length r) (sym q))
@@ -144,7 +126,7 @@ module _ (c : CurveRecord) where
     pub batch-records : (rs : List (List ℕ)) (from : A) → AllRecords rs → length rs ≤ 4096
         → batch c step (flatten rs) from ≡ taken (record { result = foldl step from (map pair-of rs); count = length rs })
     batch-records rs from h l = batch-go (flatten rs) rs [] [] most (most - length rs) 0 0 from h (sym (append-nil (flatten rs))) refl (omega arith)
-        ∙ batch-end (flatten rs) (most - length rs) (0 + length (flatten rs)) (0 + length rs) (foldl step from (map pair-of rs)) (omega arith) ∙ ap counted (omega arith)
+        ∙ at-end c step (flatten rs) (0 + length (flatten rs)) (0 + length rs) (foldl step from (map pair-of rs)) (most - length rs) (omega arith) ∙ ap counted (omega arith)
       where
         counted : ℕ → Checked (Batch A)
         counted n = taken (record { result = foldl step from (map pair-of rs); count = n })
@@ -152,7 +134,7 @@ module _ (c : CurveRecord) where
     -- and bytes behind 4,096 of them
     pub batch-over : (rs : List (List ℕ)) (rest : List ℕ) (from : A) → AllRecords rs → length rs ≡ 4096 → 0 < length rest → batch c step (flatten rs ++ rest) from ≡ refused 14 0
     batch-over rs rest from h e l = batch-go (flatten rs ++ rest) rs [] rest most 0 0 0 from h refl refl (omega arith)
-        ∙ batch-full (flatten rs ++ rest) (0 + length (flatten rs)) (0 + length rs) (foldl step from (map pair-of rs)) (omega (arith, length-append (flatten rs) rest))
+        ∙ too-many c step (flatten rs ++ rest) (0 + length (flatten rs)) (0 + length rs) (foldl step from (map pair-of rs)) (omega (arith, length-append (flatten rs) rest))
 
     -- ---- whatever batch is taken is made of at most 4,096 good records
     module _ (s : List ℕ) where
