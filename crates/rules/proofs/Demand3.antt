@@ -119,7 +119,11 @@ pub is-group : (E : Curve) (h : Accepted E) → IsAddCommGroup (Divisor E h) (ja
 is-group E h = record {
   isAddGroup = record {
     isSubNegMonoid = record {
-      isAddMonoid = record { isAddSemigroup = record { isSet = divisor-set E h; add-assoc = jacobian E h .assoc }; zero-add = jacobian E h .zer-sum; add-zero = sum-zer (jacobian E h) };
+      isAddMonoid = record {
+        isAddSemigroup = record { isSet = divisor-set E h; add-assoc = jacobian E h .assoc };
+        zero-add = jacobian E h .zer-sum;
+        add-zero = sum-zer (jacobian E h);
+      };
     };
     neg-add-cancel = λ a. jacobian E h .comm (jacobian E h .opp a) a ∙ jacobian E h .sum-opp a;
   };

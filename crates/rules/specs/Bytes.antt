@@ -8,14 +8,14 @@ use lib.ListN.{getD}
 unfoldable pub number : List ℕ → ℕ
 number s = foldl (λ (n b : ℕ). 256 * n + b) 0 s
 
--- the numbers of the four and of the eight bytes at place a
+-- the numbers of the four and of the eight bytes from byte a on
 abbrev pub word32 : List ℕ → ℕ → ℕ
 word32 s a = ((getD s a 0 * 256 + getD s (a + 1) 0) * 256 + getD s (a + 2) 0) * 256 + getD s (a + 3) 0
 
 unfoldable pub word64 : List ℕ → ℕ → ℕ
 word64 s a = word32 s a * 4294967296 + word32 s (a + 4)
 
--- n numbers of eight bytes, one after the other from place a on
+-- n numbers of eight bytes, one after the other from byte a on
 unfoldable pub words : List ℕ → ℕ → ℕ → List ℕ
 unfolding word64
 words s a zero = []

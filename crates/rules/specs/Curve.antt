@@ -16,13 +16,15 @@ pub record Curve : Type 1 where
   pub low : List (K .base .El)
 
 module _ (E : Curve) where
+  open Arith (E .K) using (base as F)
+
   -- the ring K[x], and f in it
   abbrev pub Kx : CRing
-  Kx = poly (E .K .base)
+  Kx = poly F
 
   abbrev pub f : Kx .El
-  f = mon (E .K .base) (E .low)
+  f = mon F (E .low)
 
   -- f and its derivative share no factor of degree 1 or more
   abbrev pub SquareFree : Type 0
-  SquareFree = SharesNoFactor (E .K .base) f (derP (E .K .base) f)
+  SquareFree = SharesNoFactor F f (derP F f)

@@ -80,7 +80,7 @@ abbrev pub fits : Bool → ℕ → ℕ → Bool
 fits true end all = eqb all end
 fits false end all = leb end all
 
--- the k-th divisor, its record from place a on
+-- the k-th divisor, its record from byte a on
 unfoldable pub divisor-at : (c : CurveRecord) → ℕ → Bool → List ℕ → ℕ → Checked (PairOf c)
 unfolding words below? elements on-curve?
 divisor-at c k whole s a =

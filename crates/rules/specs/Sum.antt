@@ -10,11 +10,11 @@ use Rattle.rules.specs.Curve.{Curve}
 use Rattle.rules.specs.Pair.{Pair}
 
 module _ (E : Curve) where
-  abbrev K : Arith
-  K = E .K
+  open Curve E using (K, low)
+  open Arith K using (base as F)
 
   abbrev Poly : Type 0
-  Poly = List (K .base .El)
+  Poly = List (F .El)
 
   infixl 65 _+_
   infixl 65 _-_
@@ -22,23 +22,23 @@ module _ (E : Curve) where
   infixl 70 _/_
   infixl 70 _%_
   abbrev _+_ : Poly → Poly → Poly
-  a + b = addL (K .base) a b
+  a + b = addL F a b
 
   abbrev _-_ : Poly → Poly → Poly
-  a - b = addL (K .base) a (negL (K .base) b)
+  a - b = addL F a (negL F b)
 
   abbrev _*_ : Poly → Poly → Poly
-  a * b = mulL (K .base) a b
+  a * b = mulL F a b
 
   abbrev _/_ : Poly → Poly → Poly
-  a / m = quotient (K .base) m a
+  a / m = quotient F m a
 
   abbrev _%_ : Poly → Poly → Poly
-  a % m = remainder (K .base) m a
+  a % m = remainder F m a
 
   -- all coefficients of f, its leading 1 among them
   abbrev pub f-list : Poly
-  f-list = whole (K .base) (E .low)
+  f-list = whole F low
 
   abbrev pub f-v²-list : Pair K → Poly
   f-v²-list a = f-list - a .v * a .v
@@ -46,9 +46,9 @@ module _ (E : Curve) where
   unfoldable pub composition : Pair K → Pair K → Pair K
   unfolding addL mulL whole quotient remainder monic gcd
   composition a b =
-      let u1 : Poly = whole (K .base) (a .u) in
+      let u1 : Poly = whole F (a .u) in
       let v1 : Poly = a .v in
-      let u2 : Poly = whole (K .base) (b .u) in
+      let u2 : Poly = whole F (b .u) in
       let v2 : Poly = b .v in
       -- d by Euclid, of u1 and u2, then of what that finds and v1 + v2
       let p : Bezout K = gcd K (a .u) u2 in
@@ -64,7 +64,7 @@ module _ (E : Curve) where
   -- u by (f - v²)/u made monic, then v by -v modulo the new u
   unfoldable pub step : Pair K → Pair K
   unfolding addL mulL negL whole quotient remainder monic
-  step a = let u : Poly = monic K (f-v²-list a / a .u) in record { u = u; v = negL (K .base) (a .v) % u }
+  step a = let u : Poly = monic K (f-v²-list a / a .u) in record { u = u; v = negL F (a .v) % u }
 
   -- while deg u > g, for at most n turns
   unfoldable pub while : ℕ → Pair K → Pair K

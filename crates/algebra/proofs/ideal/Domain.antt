@@ -8,7 +8,7 @@ use mathlib.Core.Logic.{_≢_}
 use native.Mathlib.Omega.{arith}
 use Rattle.algebra.proofs.ring.CRing.{CRing}
 use Rattle.algebra.proofs.ring.Quote.{ring, quote, by}
-use Rattle.algebra.proofs.ring.Field.{Field}
+use Rattle.algebra.proofs.ring.Field.{Arith, Field}
 use Rattle.algebra.proofs.poly.Series.{Ser}
 use Rattle.algebra.proofs.poly.Poly.{poly, coef, coef-zer}
 use Rattle.algebra.proofs.poly.Degree.{Degree, by-deg, deg-ne, mul-ne, cancel, one-ne-zero}
@@ -17,9 +17,7 @@ use Rattle.algebra.proofs.ideal.Class.{Regular}
 use Rattle.algebra.proofs.ideal.Norm.{small-norm}
 
 module _ (K : Field) (g : ℕ) (f : poly (K .arith .base) .El) (hf : Degree K (suc (g + g)) f) where
-  abbrev F : CRing
-  F = K .arith .base
-
+  open Arith (K .arith) using (base as F)
   open CRing (poly F) using (El as P, add as _⊕_, mul as _*_, neg, zer as 0P, one as 1P)
 
   infixl 65 _⊕_

@@ -6,7 +6,7 @@ use mathlib.Core.Logic.{_⊎_, inl, inr, ∥∥₁-elim}
 use native.Mathlib.Omega.{arith}
 use native.Mathlib.Decide.{decLt}
 use Rattle.algebra.proofs.ring.CRing.{CRing}
-use Rattle.algebra.proofs.ring.Field.{Field}
+use Rattle.algebra.proofs.ring.Field.{Arith, Field}
 use Rattle.algebra.proofs.poly.Series.{Ser, addS, negS, mulS, zer-mulS}
 use Rattle.algebra.proofs.poly.Bound.{Below}
 use Rattle.algebra.proofs.poly.Poly.{poly, coef, coef-bounded, poly-ext, coef-add, coef-mul, coef-neg, coef-zer}
@@ -14,9 +14,7 @@ use Rattle.algebra.proofs.poly.Degree.{Deg, deg-of, deg-mul, deg-neg, d
 use Rattle.algebra.proofs.ideal.Quad.{quad, rea, ima, norm}
 
 module _ (K : Field) where
-  abbrev F : CRing
-  F = K .arith .base
-
+  open Arith (K .arith) using (base as F)
   open CRing (poly F) using (El as P, add as _+P_, mul as _*_, neg as negP, zer as 0P)
 
   infixl 65 _+P_

@@ -36,12 +36,8 @@ module _ (R : CRing) where
   led a x c i l m h1 h2 = by R (neg a) h1 (by R x h2 (ring R (a ∷ x ∷ c ∷ i ∷ l ∷ m ∷ []) (search quote depth 40) refl))
 
 module _ (K : Field) where
-  abbrev Q : Arith
-  Q = K .arith
-
-  abbrev F : CRing
-  F = Q .base
-
+  open Field K using (arith as Q)
+  open Arith Q using (base as F)
   open CRing F using (El as A, zer as 𝟘)
   open CRing (poly F) using (El as P, add as _+_, mul as _*_, neg, zer as 0P, one as 1P)
 
@@ -111,7 +107,8 @@ module _ (K : Field) where
         ∙ ap (λ t. C F (Q .inv c) * t) (pol-add F (x .s) (negL F (mulL F (x .t) q)) ∙ ap (λ t. pol F (x .s) + t) (pol-neg F (mulL F (x .t) q) ∙ ap neg (pol-mul F (x .t) q)))));
     left = record {
       factor = pol F q * h .left .factor + h .right .factor;
-      is = divides-on (poly F) (mon F m) (mon F r) (pol F q) (pol F (remainder F r (whole F m))) (mon F (x .d)) (h .left .factor) (h .right .factor) ha (h .left .is) (h .right .is);
+      is = divides-on (poly F) (mon F m) (mon F r) (pol F q) (pol F (remainder F r (whole F m))) (mon F (x .d))
+          (h .left .factor) (h .right .factor) ha (h .left .is) (h .right .is);
     };
     right = record { factor = C F c * h .left .factor; is = hb ∙ ap (λ t. C F c * t) (h .left .is) ∙ sym (poly F .mul-assoc (C F c) (h .left .factor) (mon F (x .d))) };
   }

@@ -65,9 +65,7 @@ module _ (F : CRing) where
   remainder m l = (divmod m l) .1
 
 module _ (K : Arith) where
-  abbrev F : CRing
-  F = K .base
-
+  open Arith K using (base as F)
   open CRing F using (El as A, mul as _⊠_, zer as 𝟘, one as 𝟙)
 
   infixl 70 _⊠_

@@ -9,7 +9,7 @@ use native.Mathlib.Omega.{arith}
 use native.Mathlib.Decide.{ℕ-discrete}
 use Rattle.algebra.proofs.ring.CRing.{CRing, mul-zer, zer-mul}
 use Rattle.algebra.proofs.ring.Divides.{Divides, divides-add, divides-mul, divides-eq}
-use Rattle.algebra.proofs.ring.Field.{Field}
+use Rattle.algebra.proofs.ring.Field.{Arith, Field}
 use Rattle.algebra.proofs.poly.Series.{con}
 use Rattle.algebra.proofs.poly.Bound.{Below, below-con}
 use Rattle.algebra.proofs.poly.Poly.{poly, coef, coef-zer}
@@ -21,9 +21,7 @@ abbrev pub SharesNoFactor : (F : CRing) → poly F .El → poly F .El → Type 0
 SharesNoFactor F a b = (h : poly F .El) → Divides (poly F) h a → Divides (poly F) h b → Below F 1 (coef F h)
 
 module _ (K : Field) where
-  abbrev F : CRing
-  F = K .arith .base
-
+  open Arith (K .arith) using (base as F)
   open CRing (poly F) using (El as P, add as _⊕_, mul as _*_)
 
   infixl 65 _⊕_

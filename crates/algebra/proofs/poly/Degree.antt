@@ -12,16 +12,14 @@ use mathlib.Core.HLevel.{Π-prop}
 use native.Mathlib.Decide.{ℕ-discrete, decLe}
 use Rattle.algebra.proofs.ring.CRing.{CRing, mul-zer, zer-mul, mul-one, eq-of-sub}
 use Rattle.algebra.proofs.ring.Quote.{ring, quote, by}
-use Rattle.algebra.proofs.ring.Field.{Field, no-zero-divisors, neg-ne}
+use Rattle.algebra.proofs.ring.Field.{Arith, Field, no-zero-divisors, neg-ne}
 use Rattle.algebra.proofs.poly.Series.{Ser, addS, negS, con, mulS}
 use Rattle.algebra.proofs.poly.Bound.{Below, below-neg, below-con, below-mul, lead-mul, Monic}
 use Rattle.algebra.proofs.poly.Poly.{poly, coef, coef-bounded, poly-ext, coef-add, coef-neg, coef-mul, coef-zer, coef-one}
 use Rattle.algebra.proofs.poly.Term.{C, coef-C, coef-shift}
 
 module _ (K : Field) where
-  abbrev F : CRing
-  F = K .arith .base
-
+  open Arith (K .arith) using (base as F)
   open CRing F using (El as A, add as _⊞_, mul as _⊗_, zer as 𝟘, zer-add)
 
   infixl 65 _⊞_

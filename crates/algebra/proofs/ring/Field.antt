@@ -16,9 +16,7 @@ pub record Field : Type 1 where
   pub one-ne : arith .base .one ≢ arith .base .zer
 
 module _ (K : Field) where
-  abbrev F : CRing
-  F = K .arith .base
-
+  open Arith (K .arith) using (base as F)
   open CRing F using (El as A, mul as _⊗_, neg, zer as 𝟘, mul-comm, mul-assoc, one-mul)
 
   infixl 70 _⊗_

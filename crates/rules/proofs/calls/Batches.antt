@@ -67,7 +67,7 @@ module _ (c : CurveRecord) where
   records-valid (r ∷ rs) h = (record-valid r (h r mem-cons-self), records-valid rs (λ x m. h x (mem-cons-of-mem r m)))
 
   module _ {A : Type 0} (step : A → PairOf c → A) where
-    -- how a batch is read: from place a on, k records having been read and `left` more allowed
+    -- how a batch is read: from byte a on, k records having been read and `left` more allowed
     module _ (s : List ℕ) where
       pub data Reading : ℕ → ℕ → ℕ → A → Checked (Batch A) → Type 0 where
         ends : {left a k : ℕ} {from : A} → length s ≤ a → Reading left a k from (taken (record { result = from; count = k }))

@@ -20,7 +20,7 @@ use Rattle.rules.proofs.calls.Bytes.{AreBytes, Alike, alike-at, one-off
 use Rattle.rules.proofs.calls.Elements.{elements-numbers, numbers-elements, length-elements, length-numbers, numbers-below}
 use Rattle.rules.proofs.calls.CurveRecords.{Accepts, odd-prime}
 
--- the numbers that the record at place a holds
+-- the numbers that the record from byte a on holds
 abbrev pub us-at : List ℕ → ℕ → List ℕ
 us-at s a = words s (a + 1) (getD s a 0)
 
@@ -157,7 +157,7 @@ module _ (c : CurveRecord) (ok : Accepts c) where
     divisor-reread k = divisor-taken c k true s 0 divisor-is-bytes ∙ ap taken pair-same
 
 -- ---- among others
--- bytes that hold a record at place a, and others that hold the same one at place b
+-- bytes that hold a record from byte a on, and others that hold the same one from byte b on
 module _ (c : CurveRecord) (s r : List ℕ) (a b : ℕ) (alike : Alike s r a b (1 + 16 * getD r b 0)) where
   same-weight : getD s a 0 ≡ getD r b 0
   same-weight = alike-at s r a b (1 + 16 * getD r b 0) alike 0 a b (omega arith) (omega arith) (omega arith)

@@ -73,7 +73,8 @@ module _ (out : List ℕ) where
     pub multiply-kept : (a scalar : List ℕ) → KeptMultiple (multiply-call s a scalar out)
     unfolding multiply-call
     multiply-kept a scalar = always KeptMultiple (read-curve s) _ _ (λ n k h. (refl, refl, refl, refl)) (λ c.
-        always KeptMultiple (read-divisor c 1 a) _ _ (λ n k h. (refl, refl, refl, refl)) (λ x. go (ltb 32 (length scalar)) (divisor-bytes (c .p) (multiple (curve c) (number scalar) x))))
+        always KeptMultiple (read-divisor c 1 a) _ _ (λ n k h. (refl, refl, refl, refl)) (λ x.
+        go (ltb 32 (length scalar)) (divisor-bytes (c .p) (multiple (curve c) (number scalar) x))))
       where
         go : (t : Bool) (bytes : List ℕ) → KeptMultiple (choose t (not-multiplied out 12 0) (multiplied (write out bytes) (number scalar)))
         go true bytes = λ h. (refl, refl, refl, refl)

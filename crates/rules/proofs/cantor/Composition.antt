@@ -9,7 +9,7 @@ use lib.ListN.{length}
 use Rattle.algebra.proofs.ring.CRing.{CRing, mul-zer}
 use Rattle.algebra.proofs.ring.Quote.{ring, quote, by}
 use Rattle.algebra.proofs.ring.Divides.{Divides, divides-trans}
-use Rattle.algebra.proofs.ring.Field.{Field}
+use Rattle.algebra.proofs.ring.Field.{Arith, Field}
 use Rattle.algebra.proofs.poly.Bound.{Monic, monic-mul}
 use Rattle.algebra.proofs.poly.Poly.{coef, coef-mul}
 use Rattle.algebra.proofs.poly.Term.{C, constants}
@@ -37,8 +37,7 @@ module _ (E : Curve) (o : OverField E) where
   abbrev K : Field
   K = field-of E o
 
-  abbrev F : CRing
-  F = E .K .base
+  open Arith (E .K) using (base as F)
 
   abbrev L : Type 0
   L = List (F .El)

@@ -6,7 +6,7 @@ use mathlib.Core.List.{[], _∷_, List·isSet}
 use mathlib.Core.HLevel.{Σ-prop-path, Σ-set, prop→set}
 use Rattle.algebra.proofs.ring.CRing.{CRing, mul-one}
 use Rattle.algebra.proofs.ring.Quote.{ring, quote, by}
-use Rattle.algebra.proofs.ring.Field.{Field}
+use Rattle.algebra.proofs.ring.Field.{Arith, Field}
 use Rattle.algebra.proofs.list.Value.{pol, mon, mon-nil, pol-neg}
 use Rattle.algebra.proofs.list.Euclid.{mon-ne}
 use Rattle.algebra.proofs.ideal.Ideal.{Prod, prod-one, prod-out, span-ideal}
@@ -30,9 +30,7 @@ module _ (E : Curve) (h : Accepted E) where
   abbrev K : Field
   K = field-of E (h .over)
 
-  abbrev F : CRing
-  F = E .K .base
-
+  open Arith (E .K) using (base as F)
   open CRing (Kx E) using (El as P, neg, one as 1P)
 
   abbrev S : CRing

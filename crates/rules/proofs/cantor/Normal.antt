@@ -31,9 +31,7 @@ module _ (E : Curve) (o : OverField E) where
   abbrev K : Field
   K = field-of E o
 
-  abbrev F : CRing
-  F = E .K .base
-
+  open Arith (E .K) using (base as F)
   open CRing (Kx E) using (El as P, add as _+_, mul as _*_, neg, zer as 0P, one as 1P)
 
   infixl 65 _+_

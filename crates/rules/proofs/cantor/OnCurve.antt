@@ -6,6 +6,7 @@ use mathlib.Core.Bool.{true, false, false≢true}
 use mathlib.Core.Logic.{_↔_}
 use lib.ListN.{length, replicate}
 use Rattle.algebra.proofs.ring.CRing.{CRing}
+use Rattle.algebra.proofs.ring.Field.{Arith}
 use Rattle.algebra.proofs.ring.Quote.{ring, quote, by}
 use Rattle.algebra.proofs.ring.Divides.{Divides}
 use Rattle.algebra.proofs.poly.Term.{C, X, constants}
@@ -18,12 +19,8 @@ use Rattle.rules.specs.Sum.{f-v²-list}
 use Rattle.rules.specs.Tests.{on-curve?}
 
 module _ (E : Curve) where
-  abbrev F : CRing
-  F = E .K .base
-
-  abbrev A : Type 0
-  A = F .El
-
+  open Arith (E .K) using (base as F)
+  open CRing F using (El as A)
   open CRing (Kx E) using (add as _+_, mul as _*_, one as 1P)
 
   infixl 65 _+_

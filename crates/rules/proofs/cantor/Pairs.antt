@@ -8,6 +8,7 @@ use native.Mathlib.Bridge.{le-prop}
 use native.Mathlib.Decide.{ℕ-discrete}
 use lib.ListN.{length}
 use Rattle.algebra.proofs.ring.CRing.{CRing}
+use Rattle.algebra.proofs.ring.Field.{Arith}
 use Rattle.algebra.proofs.ring.Quote.{ring, quote, by}
 use Rattle.algebra.proofs.ring.Divides.{Divides}
 use Rattle.algebra.proofs.poly.Divide.{monic-cancel}
@@ -18,12 +19,8 @@ use Rattle.rules.specs.Curve.{Curve, Kx, f}
 use Rattle.rules.specs.Pair.{Pair, Valid, neutral, opposite, u-of, v-of, f-v²}
 
 module _ (E : Curve) where
-  abbrev F : CRing
-  F = E .K .base
-
-  abbrev A : Type 0
-  A = F .El
-
+  open Arith (E .K) using (base as F)
+  open CRing F using (El as A)
   open CRing (Kx E) using (El as P, add as _+_, mul as _*_, neg, one as 1P)
 
   infixl 65 _+_

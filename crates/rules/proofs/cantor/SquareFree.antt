@@ -8,7 +8,7 @@ use native.Mathlib.Omega.{arith}
 use lib.ListN.{length}
 use Rattle.algebra.proofs.ring.CRing.{CRing}
 use Rattle.algebra.proofs.ring.Quote.{ring, quote, by}
-use Rattle.algebra.proofs.ring.Field.{Field}
+use Rattle.algebra.proofs.ring.Field.{Arith, Field}
 use Rattle.algebra.proofs.poly.Poly.{coef}
 use Rattle.algebra.proofs.poly.Term.{C, constants}
 use Rattle.algebra.proofs.poly.Derivative.{derP, derP-add, derP-mul}
@@ -27,9 +27,7 @@ module _ (E : Curve) (o : OverField E) where
   abbrev K : Field
   K = field-of E o
 
-  abbrev F : CRing
-  F = E .K .base
-
+  open Arith (E .K) using (base as F)
   open CRing (Kx E) using (El as P, add as _+_, mul as _*_, neg, one as 1P)
 
   infixl 65 _+_

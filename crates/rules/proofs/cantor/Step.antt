@@ -10,7 +10,7 @@ use native.Mathlib.Decide.{decLe}
 use lib.ListN.{length}
 use Rattle.algebra.proofs.ring.CRing.{CRing}
 use Rattle.algebra.proofs.ring.Quote.{ring, quote, by}
-use Rattle.algebra.proofs.ring.Field.{Field}
+use Rattle.algebra.proofs.ring.Field.{Arith, Field}
 use Rattle.algebra.proofs.poly.Series.{Ser, addS, negS}
 use Rattle.algebra.proofs.poly.Bound.{Below, below-mul}
 use Rattle.algebra.proofs.poly.Poly.{coef, coef-add, coef-neg, coef-mul}
@@ -44,9 +44,7 @@ module _ (E : Curve) (o : OverField E) (odd : length (E .low) ≡ suc (E .g + E 
   abbrev K : Field
   K = field-of E o
 
-  abbrev F : CRing
-  F = E .K .base
-
+  open Arith (E .K) using (base as F)
   open CRing (Kx E) using (El as P, add as _⊕_, mul as _*_, neg, zer as 0P, one as 1P)
 
   infixl 65 _⊕_

@@ -10,7 +10,7 @@ use lib.ListN.{length}
 use Rattle.algebra.proofs.ring.CRing.{CRing}
 use Rattle.algebra.proofs.ring.Quote.{ring, quote, by}
 use Rattle.algebra.proofs.ring.Divides.{Divides}
-use Rattle.algebra.proofs.ring.Field.{Field}
+use Rattle.algebra.proofs.ring.Field.{Arith, Field}
 use Rattle.algebra.proofs.list.Value.{pol-neg}
 use Rattle.algebra.proofs.list.Euclid.{mon-degree, mon-ne}
 use Rattle.algebra.proofs.ideal.Ideal.{Prod}
@@ -35,9 +35,7 @@ module _ (E : Curve) (h : Accepted E) where
   abbrev K : Field
   K = field-of E (h .over)
 
-  abbrev F : CRing
-  F = E .K .base
-
+  open Arith (E .K) using (base as F)
   open CRing (Kx E) using (El as P, mul as _*_, neg, zer as 0P, one as 1P)
 
   infixl 70 _*_
