@@ -1,4 +1,4 @@
--- The running total as C holds it. Document 01, "The numbers", 15, and "The pole's list": a flat total is taken where it is one that
+-- The running total as C holds it. Document 01, "Numbers the tablet shows", 15, and "The pole's list": a flat total is taken where it is one that
 -- a total can be flattened to: a weight of 0 to 3, and 0 for each coefficient at the weight or above. Any other is 15, like any divisor that
 -- isn't valid.
 use Prim.Native.Nat.{ℕ}

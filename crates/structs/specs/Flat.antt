@@ -1,4 +1,5 @@
--- The rules' answers as the exported structs have them: each call answers a number, a place and the length written, and its counts.
+-- Document 01, "Numbers the tablet shows": each call answers a number, a place and the length written, and its counts. The rules' answers as the
+-- exported structs have them.
 use Prim.Native.Nat.{ℕ}
 use mathlib.Core.Path.{_≡_}
 use mathlib.Core.List.{List}
