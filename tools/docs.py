@@ -4,12 +4,14 @@
 - every must-fail edit that docs/PROVED.md names is there, and every edit there is named (CRATE/NAME, and further names after a comma of the same crate);
 - every file that a step of docs/TOUR.md names is there, and every name in backquotes of the step stands in one of the step's files or in its crate's specs;
 - every name that stands alone in backquotes in docs/PROVED.md is in the tree's sources, or a crate, or one of the system's functions, `rattle_..`;
+- the two sums that docs/PROVED.md gives of what a reader must believe are those that believed.py prints;
 - the crates in README.md's table are those of crates.txt.
 
 It reads, and writes nothing."""
 import glob
 import os
 import re
+import subprocess
 import sys
 
 ROOT = os.path.normpath(os.path.join(os.path.dirname(os.path.abspath(__file__)), ".."))
@@ -79,9 +81,18 @@ def check_crates():
     wrong.extend("README.md's table names %s, and crates.txt doesn't" % n for n in sorted(named - listed))
 
 
+def check_believed():
+    printed = subprocess.run([sys.executable, os.path.join(ROOT, "tools", "believed.py")], capture_output=True, text=True, check=True).stdout
+    calls, theorem = re.findall(r"^together +(\d+)", printed, re.M)
+    for words_of_it in ("the contracts take %s." % calls, "| together | %s | |" % calls, "names %s lines more" % theorem):
+        if words_of_it not in text("docs", "PROVED.md"):
+            wrong.append("PROVED.md doesn't say `%s`, which is what believed.py counts" % words_of_it)
+
+
 check_edits()
 check_tour()
 check_names()
+check_believed()
 check_crates()
 print("\n".join(wrong) if wrong else "docs/ and README.md agree with the tree")
 sys.exit(1 if wrong else 0)

@@ -167,7 +167,7 @@ impl Curve {
         false
     }
 
-    // Every sum goes through here: quick cases can stand in front of the plain sum, and nobody above notices.
+    // Every sum of two goes through here, every double through the next one: quick cases can stand in front of the plain sum, and nobody above notices.
     pub fn sum(self, a: Divisor, b: Divisor) -> Divisor
         requires { ⌜ Sound self × (Holds self a × Holds self b) ⌝ }
         ensures { λ r. ⌜ Gives self r (sum (curveOf self) (pair (self .m) a) (pair (self .m) b)) ⌝ }

@@ -1,4 +1,4 @@
-// Curve records: bytes in, a curve out. What is read and what is refused is what the rules say, a check a line, in their order.
+// Curve records: bytes in, a curve out. What is read and what is refused is what the rules say, in their order.
 ghost use mathlib.Core.Path.{_≡_};
 ghost use Rattle.curve_read.specs.Read.{CurveIs, ToLow, LowIs, LowsIs};
 use curve::Curve;

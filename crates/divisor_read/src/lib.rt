@@ -1,4 +1,4 @@
-// Divisor records: bytes in, a divisor out. What is read and what is refused is what the rules say, a check a line, in their order.
+// Divisor records: bytes in, a divisor out. What is read and what is refused is what the rules say, in their order.
 ghost use mathlib.Core.Path.{_≡_};
 ghost use Prim.Native.Nat.{_+_, _*_, _≤_};
 ghost use lib.ListN.{length};

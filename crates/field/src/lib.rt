@@ -1,4 +1,5 @@
-// Residues modulo an odd prime. A residue stands for an element of Z/p, `el m r`; nobody above this crate sees the number inside.
+// Residues modulo an odd prime. A residue stands for an element of Z/p, `el m r`; above this crate the number inside is seen
+// only through `number`, and of running totals through `kept` and `written`.
 ghost use mathlib.Core.Path.{_≡_};
 ghost use Rattle.algebra.proofs.zmod.Zmod.{zmod, num};
 ghost use Rattle.field.specs.Residues.{el, Good, Kept, Settled, Unit, Stands, Settles, Inverts, Everywhere, InRange, raw};

@@ -1,5 +1,5 @@
-// The running total as C holds it: a weight, six numbers and a count, any of them anything. A scan into it is the scan by value, once the
-// total was found to be one that a scan could have left.
+// The running total as C holds it: a weight, six numbers and a count, any of them anything. A scan into it is the scan by value, once it
+// has the form of a flattened total: weight 0 to 3, and 0 for what is unused.
 ghost use mathlib.Core.Path.{_≡_};
 ghost use Rattle.field.specs.Primes.{Decides};
 ghost use Rattle.scans.specs.Scans.{runningOf};

@@ -4,7 +4,7 @@ use mathlib.Core.Path.{_≡_, refl}
 use mathlib.Core.List.{List}
 use mathlib.Core.Bool.{Bool, true, false}
 use native.Mathlib.Omega.{arith}
-use borrow.Author.Tests.{lt-ltb, le-ltb, eq-eqb, ne-eqb, eqb-true}
+use borrow.Author.Tests.{lt-leb, le-leb, eq-eqb, ne-eqb, eqb-true}
 use lib.Dec.{eqb}
 use lib.ListN.{getD, length}
 use Rattle.rules.specs.Bytes.{word64, words}
@@ -29,34 +29,34 @@ module _ (s : List ℕ) where
 
   pub behind : Headed s → read-curve s ≡ choose (odd-prime? (word64 s 6)) (low-rule (getD s 5 0) (word64 s 6)) (refused 5 0)
   unfolding read-curve
-  behind h = rw (le-ltb (length s) 6 (omega (arith, h .long)), h .mark, eq-eqb _ _ (h .version), h .genus, eq-eqb _ _ (h .long))
+  behind h = rw (le-leb 6 (length s) (omega (arith, h .long)), h .mark, eq-eqb _ _ (h .version), h .genus, eq-eqb _ _ (h .long))
 
   stopped : (n : ℕ) → 0 < n → read-curve s ≡ refused n 0 → HeadIs s n
   stopped n l e = record { passes = λ z. absurd (omega arith); stops = λ z. e }
 
   pub too-short : length s < 6 → HeadIs s 1
   unfolding read-curve
-  too-short l = stopped 1 (omega arith) (rw (lt-ltb (length s) 6 l))
+  too-short l = stopped 1 (omega arith) (rw (lt-leb 6 (length s) l))
 
   module _ (long : 6 ≤ length s) where
     pub unmarked : Marked s ≡ false → HeadIs s 2
     unfolding read-curve
-    unmarked e = stopped 2 (omega arith) (rw (le-ltb (length s) 6 long, e))
+    unmarked e = stopped 2 (omega arith) (rw (le-leb 6 (length s) long, e))
 
     module _ (mark : Marked s ≡ true) where
       pub other-version : (getD s 3 0 * 256 + getD s 4 0 ≡ 1 → ⊥) → HeadIs s 3
       unfolding read-curve
-      other-version e = stopped 3 (omega arith) (rw (le-ltb (length s) 6 long, mark, ne-eqb _ _ e))
+      other-version e = stopped 3 (omega arith) (rw (le-leb 6 (length s) long, mark, ne-eqb _ _ e))
 
       module _ (version : getD s 3 0 * 256 + getD s 4 0 ≡ 1) where
         pub other-genus : IsGenus (getD s 5 0) ≡ false → HeadIs s 4
         unfolding read-curve
-        other-genus e = stopped 4 (omega arith) (rw (le-ltb (length s) 6 long, mark, eq-eqb _ _ version, e))
+        other-genus e = stopped 4 (omega arith) (rw (le-leb 6 (length s) long, mark, eq-eqb _ _ version, e))
 
         module _ (genus : IsGenus (getD s 5 0) ≡ true) where
           pub other-length : (length s ≡ 22 + 16 * getD s 5 0 → ⊥) → HeadIs s 1
           unfolding read-curve
-          other-length e = stopped 1 (omega arith) (rw (le-ltb (length s) 6 long, mark, eq-eqb _ _ version, genus, ne-eqb _ _ e))
+          other-length e = stopped 1 (omega arith) (rw (le-leb 6 (length s) long, mark, eq-eqb _ _ version, genus, ne-eqb _ _ e))
 
           pub passed : length s ≡ 22 + 16 * getD s 5 0 → HeadIs s 0
           passed e = record { passes = λ z. record { mark = mark; version = version; genus = genus; long = e }; stops = λ z. absurd (z refl) }

@@ -1,4 +1,4 @@
-// The first checks of a curve record, a check a line, in the rules' order: its length, mark, version and g.
+// The first checks of a curve record, in the rules' order: its length, mark, version and g.
 ghost use mathlib.Core.Path.{_≡_};
 ghost use Prim.Native.Nat.{_≤_};
 ghost use lib.ListN.{length};

@@ -1,6 +1,6 @@
 -- Document 01, "Numbers the tablet shows": each call as a function from the bytes lent to its whole answer and to every byte of the output as it
--- returns. A refused call has length 0, counts 0, and leaves the output and the running total as they were. At the end, of "The pole's list",
--- the running total and the scan.
+-- returns. A refused call has length 0, counts 0, and leaves the output and the running total as they were. Here are the numbers 12 to 15; 16 and
+-- 17 are the program's (texts). At the end, of "The pole's list", the running total and the scan.
 use Prim.Native.Nat.{ℕ, _+_}
 use mathlib.Core.List.{List, [], _∷_, _++_}
 use lib.Dec.{eqb, ltb, leb}

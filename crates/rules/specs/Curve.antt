@@ -9,7 +9,7 @@ use Rattle.algebra.proofs.poly.Derivative.{derP}
 use Rattle.algebra.proofs.poly.Common.{SharesNoFactor}
 use Rattle.algebra.proofs.list.Value.{mon}
 
--- low: f_0 up to f_2g. The leading 1 isn't stored.
+-- low: f_0 up to f_2g. The leading 1 isn't stored. (That they are 2g + 1 isn't in the type: `read-curve` takes that many.)
 pub record Curve : Type 1 where
   pub K : Arith
   pub g : ℕ

@@ -60,7 +60,7 @@ read-curve s =
     let p : ℕ = word64 s 6 in
     let f : List ℕ = words s 14 (suc (g + g)) in
     let c : CurveRecord = record { p = p; g = g; low = elements p f } in
-    choose (ltb (length s) 6) (refused 1 0) (
+    need (leb 6 (length s)) 1 0 (
     need (both (eqb (getD s 0 0) 72) (both (eqb (getD s 1 0) 74) (eqb (getD s 2 0) 67))) 2 0 (
     need (eqb (getD s 3 0 * 256 + getD s 4 0) 1) 3 0 (
     need (either (eqb g 2) (eqb g 3)) 4 0 (

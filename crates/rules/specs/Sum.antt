@@ -1,5 +1,6 @@
 -- Document 01, "The sum": composition with its d, s1, s2, s3, reduction, sum and double, by lists of coefficients (algebra, list.Ops). `/`
--- is the quotient and `%` the remainder by a monic polynomial, given by its lower coefficients; `monic` makes a polynomial monic.
+-- is the quotient and `%` the remainder by a monic polynomial, given by its lower coefficients; `monic` makes a polynomial monic and gives its lower
+-- coefficients.
 use Prim.Native.Nat.{ℕ, zero, suc}
 use mathlib.Core.List.{List}
 use native.Mathlib.Decide.{decLe}
@@ -51,13 +52,13 @@ module _ (E : Curve) where
       let u2 : Poly = whole F (b .u) in
       let v2 : Poly = b .v in
       -- d by Euclid, of u1 and u2, then of what that finds and v1 + v2
-      let p : Bezout K = gcd K (a .u) u2 in
-      let q : Bezout K = gcd K (p .d) (v1 + v2) in
-      let d : Poly = q .d in
-      let s1 : Poly = q .s * p .s in
-      let s2 : Poly = q .s * p .t in
-      let s3 : Poly = q .t in
-      -- (u1·u2/d² is monic; `monic` only drops its leading zeros)
+      let first : Bezout K = gcd K (a .u) u2 in
+      let second : Bezout K = gcd K (first .d) (v1 + v2) in
+      let d : Poly = second .d in
+      let s1 : Poly = second .s * first .s in
+      let s2 : Poly = second .s * first .t in
+      let s3 : Poly = second .t in
+      -- (u1·u2/d² is monic: `monic` drops its leading zeros, and the leading 1, which a pair doesn't hold)
       let u : Poly = monic K (u1 * u2 / d / d) in
       record { u = u; v = (s1 * u1 * v2 + s2 * u2 * v1 + s3 * (v1 * v2 + f-list)) / d % u }
 

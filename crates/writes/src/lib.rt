@@ -73,8 +73,8 @@ pub fn write_curve(c: Curve, out: &mut [u8])
     out[0] = Curve::MARK[0];
     out[1] = Curve::MARK[1];
     out[2] = Curve::MARK[2];
-    out[3] = 0;
-    out[4] = 1;
+    out[3] = (Curve::VERSION / 256) as u8;
+    out[4] = (Curve::VERSION % 256) as u8;
     out[5] = (g % 256) as u8;
     words::write_words(out, 6, x, g + g + 2);
 }

@@ -9,13 +9,13 @@ use native.Mathlib.Decide.{ℕ-discrete}
 use native.Mathlib.Omega.{arith}
 use lib.Dec.{eqb}
 use lib.ListN.{getD, length, drop, drop-of-length-le}
-use borrow.Author.Tests.{leb-true, eqb-true, eq-eqb, ne-eqb, ltb-false, le-ltb}
+use borrow.Author.Tests.{leb-true, le-leb, eqb-true, eq-eqb, ne-eqb}
 use Rattle.algebra.proofs.zmod.Zmod.{zmod}
 use Rattle.algebra.proofs.zmod.Prime.{Prime, prime-by-test}
 use Rattle.rules.specs.Bytes.{word64, words, bytes64, all-bytes}
 use Rattle.rules.specs.Tests.{square-free?}
 use Rattle.rules.specs.Records.{taken, both, either, odd-prime?, below?, elements, numbers, CurveRecord, curve, read-curve, curve-bytes}
-use Rattle.rules.proofs.calls.Tests.{passed, missed, taken-inj, both-true, either-true}
+use Rattle.rules.proofs.calls.Tests.{passed, taken-inj, both-true, either-true}
 use Rattle.rules.proofs.calls.Bytes.{AreBytes, one-off, bytes-word, bytes-words, length-bytes, length-words, word-behind, words-behind}
 use Rattle.rules.proofs.calls.Elements.{elements-numbers, numbers-elements, length-elements, length-numbers, numbers-below}
 
@@ -36,7 +36,7 @@ pub record CurveBytes (s : List ℕ) : Type 0 where
 pub curve-read : (s : List ℕ) {c : CurveRecord} → read-curve s ≡ taken c → CurveBytes s × (curve-of s ≡ c)
 unfolding read-curve
 curve-read s e =
-    let t1 = missed _ _ _ _ e in
+    let t1 = passed _ _ _ _ e in
     let t2 = passed _ _ _ _ (t1 .1) in
     let t3 = passed _ _ _ _ (t2 .1) in
     let t4 = passed _ _ _ _ (t3 .1) in
@@ -45,7 +45,7 @@ curve-read s e =
     let t7 = passed _ _ _ _ (t6 .1) in
     let t8 = passed _ _ _ _ (t7 .1) in (
       record {
-        six = ltb-false _ _ (t1 .0);
+        six = leb-true _ _ (t1 .0);
         mark = t2 .0;
         version = t3 .0;
         genus = t4 .0;
@@ -59,7 +59,7 @@ curve-read s e =
 
 pub curve-taken : (s : List ℕ) → CurveBytes s → read-curve s ≡ taken (curve-of s)
 unfolding read-curve
-curve-taken s h = rw (le-ltb (length s) 6 (h .six), h .mark, h .version, h .genus, eq-eqb (length s) (22 + 16 * getD s 5 0) (h .long), h .prime, h .below, h .free)
+curve-taken s h = rw (le-leb 6 (length s) (h .six), h .mark, h .version, h .genus, eq-eqb (length s) (22 + 16 * getD s 5 0) (h .long), h .prime, h .below, h .free)
 
 -- ---- what is so of a curve that was taken
 pub record Accepts (c : CurveRecord) : Type 0 where

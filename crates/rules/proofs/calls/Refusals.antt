@@ -53,7 +53,7 @@ pub curve-refused : (s : List ℕ) {n k : ℕ} → read-curve s ≡ refused n k 
 unfolding read-curve Refuses
 curve-refused s e = so (Within 1 7 0) e (
     let test = either-way (Within 1 7 0) in
-    test (ltb (length s) 6) _ _ (omega arith)
+    test (leb 6 (length s)) _ _
     (test (both (eqb (getD s 0 0) 72) (both (eqb (getD s 1 0) 74) (eqb (getD s 2 0) 67))) _ _
     (test (eqb (getD s 3 0 * 256 + getD s 4 0) 1) _ _
     (test (either (eqb (getD s 5 0) 2) (eqb (getD s 5 0) 3)) _ _
@@ -61,7 +61,7 @@ curve-refused s e = so (Within 1 7 0) e (
     (test (odd-prime? (word64 s 6)) _ _
     (test (below? (word64 s 6) (words s 14 (suc (getD s 5 0 + getD s 5 0)))) _ _
     (test (square-free? (curve (curve-of s))) _ _ tt
-    (omega arith)) (omega arith)) (omega arith)) (omega arith)) (omega arith)) (omega arith)) (omega arith)))
+    (omega arith)) (omega arith)) (omega arith)) (omega arith)) (omega arith)) (omega arith)) (omega arith)) (omega arith))
 
 -- every call begins with its curve
 pub curve-took : {R : Type 0} (num : R → ℕ) (s : List ℕ) (stop : ℕ → ℕ → R) (go : CurveRecord → R) → ((n k : ℕ) → num (stop n k) ≡ n)

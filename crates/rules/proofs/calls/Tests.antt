@@ -26,11 +26,6 @@ module _ {A : Type 0} where
   passed true x n k e = (refl, e)
   passed false x n k e = absurd (refused-taken e)
 
-  -- and one that refuses n where it passes failed
-  pub missed : (b : Bool) (x : Checked A) (n k : ℕ) {a : A} → choose b (refused n k) x ≡ taken a → (b ≡ false) × (x ≡ taken a)
-  missed true x n k e = absurd (refused-taken e)
-  missed false x n k e = (refl, e)
-
 pub both-true : (a b : Bool) → both a b ≡ true → (a ≡ true) × (b ≡ true)
 both-true true b e = (refl, e)
 both-true false b e = absurd (false≢true e)

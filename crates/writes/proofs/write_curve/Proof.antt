@@ -28,14 +28,20 @@ array-read-out-3 c = search needs
 slice-write-out-3 : tie.Need-slice-write-out-3
 slice-write-out-3 c = simp length-set (omega arith)
 
+cast-out : tie.Need-cast-out
+cast-out c = search needs
+
 slice-write-out-4 : tie.Need-slice-write-out-4
 slice-write-out-4 c = simp length-set (omega arith)
+
+cast-out-2 : tie.Need-cast-out-2
+cast-out-2 c = search needs
 
 slice-write-out-5 : tie.Need-slice-write-out-5
 slice-write-out-5 c = simp length-set (omega arith)
 
-cast-out : tie.Need-cast-out
-cast-out c = search needs
+cast-out-3 : tie.Need-cast-out-3
+cast-out-3 c = search needs
 
 slice-write-out-6 : tie.Need-slice-write-out-6
 slice-write-out-6 c = simp length-set (omega arith)
@@ -66,9 +72,11 @@ write-curve-spec =
     slice-write-out-2
     array-read-out-3
     slice-write-out-3
-    slice-write-out-4
-    slice-write-out-5
     cast-out
+    slice-write-out-4
+    cast-out-2
+    slice-write-out-5
+    cast-out-3
     slice-write-out-6
     add-write-words
     add-write-words-2
