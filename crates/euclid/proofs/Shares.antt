@@ -1,5 +1,5 @@
 -- From gcd's contract alone: if the gcd of a and b has degree 0, no polynomial of degree 1 or more divides both; else one does.
-use Prim.Native.Nat.{ℕ, zero, suc, _-_}
+use Prim.Native.Nat.{ℕ, suc, _-_}
 use mathlib.Core.Path.{_≡_, sym, ap, _∙_, subst}
 use native.Mathlib.Omega.{arith}
 use native.Mathlib.Decide.{ℕ-discrete}
