@@ -11,7 +11,7 @@ use Rattle.field.specs.declared.Modulus.{Modulus}
 use Rattle.poly.specs.declared.Poly.{Poly}
 use Rattle.poly.specs.Polys.{P, pol, Is}
 use Rattle.poly.specs.Contracts.{ToQuotient, Quotient}
-use Rattle.euclid.proofs.Common.{monic-one}
+use Rattle.poly.proofs.Monic.{monic-one}
 use Rattle.cantor.specs.declared.Mumford.{Mumford}
 use Rattle.cantor.specs.Composing.{ToStrip}
 use Rattle.cantor.specs.Reducing.{ToCofactor, Cofactor}

@@ -13,11 +13,10 @@ use Rattle.poly.specs.declared.Poly.{Poly}
 use Rattle.poly.specs.Polys.{P, pol, Ok, Is}
 use Rattle.poly.specs.Contracts.{IsMonic}
 use Rattle.poly.proofs.Lengths.{none-is}
-use Rattle.poly.proofs.Monic.{monic-ne}
+use Rattle.poly.proofs.Monic.{monic-ne, monic-one}
 use Rattle.euclid.specs.declared.Line.{Line}
 use Rattle.euclid.specs.declared.Half.{Half}
 use Rattle.euclid.specs.Euclid.{Xgcd, HalfXgcd}
-use Rattle.euclid.proofs.Common.{monic-one}
 use Rattle.cantor.specs.Composing.{ToCommon, Common}
 
 module _ (m : Modulus) where
