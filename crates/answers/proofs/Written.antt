@@ -12,6 +12,7 @@ use Rattle.algebra.proofs.list.Coefs.{length-coefs}
 use Rattle.rules.specs.Bytes.{bytes64, all-bytes}
 use Rattle.rules.specs.Records.{numbers, curve-bytes, divisor-bytes}
 use Rattle.rules.specs.Calls.{Written, left-as-is, write, done}
+use Rattle.rules.proofs.calls.Bytes.{length-bytes}
 use Rattle.rules.proofs.calls.Elements.{length-numbers}
 use Rattle.divisor.specs.declared.Divisor.{Divisor}
 use Rattle.divisor.specs.Divisors.{weightOf, pair}
@@ -20,7 +21,6 @@ use Rattle.field.specs.declared.Modulus.{Modulus}
 use Rattle.poly.specs.Polys.{pol}
 use Rattle.curve.specs.declared.Curve.{Curve}
 use Rattle.curve.specs.Record.{recordOf}
-use Rattle.words.proofs.Writing.{length-all}
 use Rattle.answers.specs.declared.Answer.{Answer}
 use Rattle.answers.specs.declared.Answer.the-variants.{Done, Refused}
 use Rattle.answers.specs.Answers.{PutIs, Wrote}
@@ -28,11 +28,11 @@ use Rattle.answers.specs.Answers.{PutIs, Wrote}
 -- ---- the lengths of records
 pub divisor-length : (m : Modulus) (d : Divisor) → length (divisor-bytes (m .p) (pair m d)) ≡ 1 + 16 * weightOf d
 unfolding divisor-bytes
-divisor-length m d = omega (arith, length-append (all-bytes (numbers (m .p) (pair m d .u))) (all-bytes (numbers (m .p) (pair m d .v))), length-all (numbers (m .p) (pair m d .u)), length-all (numbers (m .p) (pair m d .v)), length-numbers (m .p) (pair m d .u), length-numbers (m .p) (pair m d .v), weight-is m d, weight-is-v m d)
+divisor-length m d = omega (arith, length-append (all-bytes (numbers (m .p) (pair m d .u))) (all-bytes (numbers (m .p) (pair m d .v))), length-bytes (numbers (m .p) (pair m d .u)), length-bytes (numbers (m .p) (pair m d .v)), length-numbers (m .p) (pair m d .u), length-numbers (m .p) (pair m d .v), weight-is m d, weight-is-v m d)
 
 pub curve-length : (c : Curve) → length (curve-bytes (recordOf c)) ≡ 22 + 16 * c .g
 unfolding curve-bytes bytes64
-curve-length c = omega (arith, length-all (numbers (c .m .p) (recordOf c .low)), length-numbers (c .m .p) (recordOf c .low), length-coefs (zmod (c .m .p)) (suc (c .g + c .g)) (coef (zmod (c .m .p)) (pol (c .m) (c .f))))
+curve-length c = omega (arith, length-bytes (numbers (c .m .p) (recordOf c .low)), length-numbers (c .m .p) (recordOf c .low), length-coefs (zmod (c .m .p)) (suc (c .g + c .g)) (coef (zmod (c .m .p)) (pol (c .m) (c .f))))
 
 -- ---- put where it fits
 module _ (out bytes : List ℕ) where

@@ -1,19 +1,17 @@
 -- Exact quotients. Gives: dividing by a monic d of one coefficient leaves a as it is; the cofactor w with f = v² + u · w; a pair stays on
 -- the curve when v changes by a multiple of u.
-use Prim.Native.Nat.{zero, suc, _+_, _-_, max}
+use Prim.Native.Nat.{_+_, _-_, max}
 use mathlib.Core.Path.{_≡_, refl, sym, ap, _∙_}
 use mathlib.Core.List.{[], _∷_}
 use native.Mathlib.Omega.{arith}
 use Rattle.algebra.proofs.ring.CRing.{CRing, mul-one}
 use Rattle.algebra.proofs.ring.Quote.{ring, quote, by}
-use Rattle.algebra.proofs.poly.Series.{con}
-use Rattle.algebra.proofs.poly.Poly.{coef, poly-ext, coef-one}
-use Rattle.algebra.proofs.poly.Term.{at}
 use Rattle.algebra.proofs.ideal.Joined.{OnCurve}
 use Rattle.field.specs.declared.Modulus.{Modulus}
 use Rattle.poly.specs.declared.Poly.{Poly}
-use Rattle.poly.specs.Polys.{K, P, pol, Ok, Is}
-use Rattle.poly.specs.Contracts.{IsMonic, ToQuotient, Quotient}
+use Rattle.poly.specs.Polys.{P, pol, Is}
+use Rattle.poly.specs.Contracts.{ToQuotient, Quotient}
+use Rattle.poly.proofs.Monic.{monic-one}
 use Rattle.cantor.specs.declared.Mumford.{Mumford}
 use Rattle.cantor.specs.Composing.{ToStrip}
 use Rattle.cantor.specs.Reducing.{ToCofactor, Cofactor}
@@ -24,18 +22,10 @@ module _ (m : Modulus) where
   infixl 65 _+P_
   infixl 70 _*P_
   -- ---- by 1
-  pub one-of : {d : Poly} → Ok m d → IsMonic m d → d .n ≡ 1 → pol m d ≡ 1P
-  unfolding con
-  one-of {d} h o e = poly-ext (K m) go
-    where
-      go : (k : _) → coef (K m) (pol m d) k ≡ coef (K m) 1P k
-      go zero = ap (coef (K m) (pol m d)) {x = 0} {y = d .n - 1} (omega arith) ∙ o .lead ∙ sym (at (K m) (coef-one (K m)) 0)
-      go (suc k) = h .size .end (suc k) (omega arith) ∙ sym (at (K m) (coef-one (K m)) (suc k))
-
   pub strip-none : {a d : Poly} → ToStrip m a d → d .n ≡ 1 → Quotient m a d a
   strip-none {a} {d} h e = record {
     ok = h .left;
-    is = sym (ap (λ t. pol m a *P t) (one-of (h .right) (h .monic) e) ∙ mul-one (P m) (pol m a));
+    is = sym (ap (λ t. pol m a *P t) (monic-one m (h .right) e (h .monic)) ∙ mul-one (P m) (pol m a));
     short = omega arith;
   }
 

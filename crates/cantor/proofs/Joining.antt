@@ -15,7 +15,7 @@ use Rattle.poly.proofs.Division.{monic-of}
 use Rattle.poly.proofs.Monic.{product-length, product-monic, quotient-length, quotient-monic}
 use Rattle.cantor.specs.declared.Mumford.{Mumford}
 use Rattle.cantor.specs.declared.Common3.{Common3}
-use Rattle.cantor.specs.Composing.{ToStrip, Slope, ToLift, Lift, ToJoin, Composed}
+use Rattle.cantor.specs.Composing.{Slope, ToLift, Lift, ToJoin, Composed}
 use Rattle.cantor.proofs.Cofactors.{on-modulo}
 
 module _ (m : Modulus) where
@@ -24,27 +24,24 @@ module _ (m : Modulus) where
   infixl 65 _+P_
   infixl 70 _*P_
   module _ (f : Poly) (a b : Mumford) (t : Common3) (h : ToJoin m f a b t) where
-    pub strip-1 : ToStrip m (a .u) (t .d)
-    strip-1 = record { left = h .to .left .ok-u; right = h .common .ok-d; monic = h .common .monic; divides = h .common .of-1 }
+    to-quotient-1 : ToQuotient m (a .u) (t .d)
+    to-quotient-1 = record { left = h .to .left .ok-u; right = h .common .ok-d; monic = h .common .monic; divides = h .common .of-1 }
 
-    pub strip-2 : ToStrip m (b .u) (t .d)
-    strip-2 = record { left = h .to .right .ok-u; right = h .common .ok-d; monic = h .common .monic; divides = h .common .of-2 }
-
-    quotient-of : {x : Poly} → ToStrip m x (t .d) → ToQuotient m x (t .d)
-    quotient-of s = record { left = s .left; right = s .right; monic = s .monic; divides = s .divides }
+    to-quotient-2 : ToQuotient m (b .u) (t .d)
+    to-quotient-2 = record { left = h .to .right .ok-u; right = h .common .ok-d; monic = h .common .monic; divides = h .common .of-2 }
 
     module _ (e1 e2 : Poly) (h1 : Quotient m (a .u) (t .d) e1) (h2 : Quotient m (b .u) (t .d) e2) where
       monic-1 : IsMonic m e1
-      monic-1 = quotient-monic m (quotient-of strip-1) h1 (h .to .left .monic)
+      monic-1 = quotient-monic m to-quotient-1 h1 (h .to .left .monic)
 
       monic-2 : IsMonic m e2
-      monic-2 = quotient-monic m (quotient-of strip-2) h2 (h .to .right .monic)
+      monic-2 = quotient-monic m to-quotient-2 h2 (h .to .right .monic)
 
       length-1 : e1 .n ≡ a .u .n + 1 - t .d .n
-      length-1 = quotient-length m (quotient-of strip-1) h1 (h .to .left .monic)
+      length-1 = quotient-length m to-quotient-1 h1 (h .to .left .monic)
 
       length-2 : e2 .n ≡ b .u .n + 1 - t .d .n
-      length-2 = quotient-length m (quotient-of strip-2) h2 (h .to .right .monic)
+      length-2 = quotient-length m to-quotient-2 h2 (h .to .right .monic)
 
       pub to-lift : (k : Poly) → Ok m k → ToLift m (b .v) e1 e2 k
       to-lift k hk = record {

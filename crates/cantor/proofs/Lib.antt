@@ -1,5 +1,5 @@
 pub mod Cofactors
-pub mod Divisors3
+pub mod CommonDivisor
 pub mod Slopes
 pub mod Joining
 pub mod Stepping

@@ -1,4 +1,5 @@
--- s2 · (v1 - v2) + s3 · w2, and v2 + e2 · (k modulo e1).
+-- The two steps to the composed v. Gives: the slope k = s2 · (v1 - v2) + s3 · w2, also where s3 is zero and w2 isn't worked out; and that
+-- v2 + e2 · (k modulo e1) is v2 + e2 · k less a multiple of e1 · e2.
 use Prim.Native.Nat.{_+_, _-_, max}
 use mathlib.Core.Path.{_≡_, refl, sym, ap, ap₂, _∙_}
 use mathlib.Core.List.{[], _∷_}

@@ -22,10 +22,9 @@ use Rattle.cantor.specs.Reducing.{Cofactor, ToStep, Stepped, Steps, ToRe
 use Rattle.cantor.proofs.Cofactors.{on-modulo}
 
 module _ (m : Modulus) where
-  open CRing (K m) using (El as A, mul as _⊗_, zer as 𝟘)
+  open CRing (K m) using (El as A, zer as 𝟘)
   open CRing (P m) using (El as Po, add as _+P_, mul as _*P_, neg as negP, zer as 0P, one as 1P)
 
-  infixl 70 _⊗_
   infixl 65 _+P_
   infixl 70 _*P_
   abbrev cf : Po → ℕ → A

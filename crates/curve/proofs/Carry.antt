@@ -1,5 +1,5 @@
--- Validity: f - v² leaves nothing when divided by u just where u divides it; the neutral divisor is held and valid. And f, held whole, is the
--- rule's f.
+-- Validity: f - v² leaves nothing when divided by u just where u divides it; the neutral divisor is held and valid. And f, held whole, and a
+-- divisor's u and v are the rule's.
 use Prim.Native.Nat.{suc, _+_, _-_, _≤_, max}
 use mathlib.Core.Path.{_≡_, sym, ap, ap₂, _∙_, subst}
 use native.Mathlib.Omega.{arith}
@@ -10,7 +10,7 @@ use Rattle.algebra.proofs.poly.Term.{at}
 use Rattle.algebra.proofs.poly.Divide.{Division, remainder-unique}
 use Rattle.algebra.proofs.list.Coefs.{mon-coefs, length-coefs}
 use Rattle.rules.specs.Curve.{f}
-use Rattle.rules.specs.Pair.{Valid, u-of, f-v²}
+use Rattle.rules.specs.Pair.{Valid, u-of, v-of, f-v²}
 use Rattle.rules.proofs.cantor.Accepted.{Accepted, accepted-mod-p}
 use Rattle.rules.proofs.cantor.Pairs.{neutral-valid}
 use Rattle.field.specs.declared.Modulus.{Modulus}
@@ -35,11 +35,20 @@ neutral-holds c g = record { held = neutral-held (c .m) g; valid = subst (Valid 
 pub square-fits : (m : Modulus) (d : Divisor) (x : Mumford) → AsPair m d x → x .v .n + x .v .n ≤ 17
 square-fits m d x h = omega (arith, h .n-v, weight-le d)
 
+module _ (c : Curve) (d : Divisor) (x : Mumford) (hx : AsPair (c .m) d x) where
+  pub u-is : u-of (curveOf c) (pair (c .m) d) ≡ pol (c .m) (x .u)
+  unfolding pair
+  u-is = sym (hx .u-is)
+
+  pub v-is : v-of (curveOf c) (pair (c .m) d) ≡ pol (c .m) (x .v)
+  unfolding pair
+  v-is = sym (hx .v-is)
+
 module _ (c : Curve) (h : Sound c) where
   abbrev m : Modulus
   m = c .m
 
-  open CRing (P m) using (El as Po, add as _+P_, mul as _*P_, neg as negP, zer as 0P)
+  open CRing (P m) using (add as _+P_, mul as _*P_, neg as negP, zer as 0P)
 
   infixl 65 _+P_
   infixl 70 _*P_
@@ -52,15 +61,10 @@ module _ (c : Curve) (h : Sound c) where
   module _ (d : Divisor) (x : Mumford) (hx : AsPair m d x) (sq y q r : Poly) (h-sq : Is m sq (pol m (x .v) *P pol m (x .v)) (x .v .n + x .v .n - 1))
       (h-y : Is m y (pol m (c .f) +P negP (pol m sq)) (max (c .f .n) (sq .n))) (hd : PolyDivided m y (x .u) q r) where
     y-is : f-v² (curveOf c) (pair m d) ≡ pol m y
-    unfolding pair
-    y-is = sym (h-y .is ∙ ap₂ (λ s t. s +P negP t) (sym f-is) (h-sq .is ∙ ap (λ t. t *P t) (hx .v-is)))
-
-    u-is : u-of (curveOf c) (pair m d) ≡ pol m (x .u)
-    unfolding pair
-    u-is = sym (hx .u-is)
+    y-is = sym (h-y .is ∙ ap₂ (λ s t. s +P negP t) (sym f-is) (h-sq .is ∙ ap (λ t. t *P t) (sym (v-is c d x hx))))
 
     pub carries-yes : r .n ≡ 0 → Divided c d
-    carries-yes e = record { factor = pol m q; is = y-is ∙ hd .is ∙ ap₂ (λ s t. pol m q *P s +P t) (sym u-is) (none-is m (hd .ok-r) e) ∙ add-zer (P m) (pol m q *P u-of (curveOf c) (pair m d)) }
+    carries-yes e = record { factor = pol m q; is = y-is ∙ hd .is ∙ ap₂ (λ s t. pol m q *P s +P t) (sym (u-is c d x hx)) (none-is m (hd .ok-r) e) ∙ add-zer (P m) (pol m q *P u-of (curveOf c) (pair m d)) }
 
     pub carries-no : (r .n ≡ 0 → ⊥) → Divided c d → ⊥
     carries-no n v = n (is-none m (hd .ok-r) (remainder-unique (K m) (x .u .n - 1) (pol m (x .u)) (pol m y) (monic-of m (hx .ok-u) (hx .monic)) one two))
@@ -69,4 +73,4 @@ module _ (c : Curve) (h : Sound c) where
         one = record { quotient = pol m q; remainder = pol m r; is = hd .is; short = λ k l. hd .ok-r .size .end k (omega (arith, hd .rest)) }
 
         two : Division (K m) (x .u .n - 1) (pol m (x .u)) (pol m y)
-        two = record { quotient = v .factor; remainder = 0P; is = sym y-is ∙ v .is ∙ ap (λ t. v .factor *P t) u-is ∙ sym (add-zer (P m) (v .factor *P pol m (x .u))); short = λ k l. at (K m) (coef-zer (K m)) k }
+        two = record { quotient = v .factor; remainder = 0P; is = sym y-is ∙ v .is ∙ ap (λ t. v .factor *P t) (u-is c d x hx) ∙ sym (add-zer (P m) (v .factor *P pol m (x .u))); short = λ k l. at (K m) (coef-zer (K m)) k }

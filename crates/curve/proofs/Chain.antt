@@ -50,10 +50,8 @@ module _ (c : Curve) (h : Sound c) where
   abbrev m : Modulus
   m = c .m
 
-  open CRing (P m) using (El as Po, add as _+P_, mul as _*P_, neg as negP, one as 1P)
+  open CRing (P m) using (neg as negP, one as 1P)
 
-  infixl 65 _+P_
-  infixl 70 _*P_
   pub reached-by : {x z : Mumford} → Steps m (c .f) x z → Reached (curveOf c) (pol m (x .u)) (pol m (x .v)) (pol m (z .u)) (pol m (z .v))
   reached-by none = here
   reached-by (more {x = x} {y = y} {z = z} s t) = turn (t .w) (C (K m) (t .up)) (C (K m) (t .down)) (pol m (z .u)) (pol m (z .v)) (reached-by s)

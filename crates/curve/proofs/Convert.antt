@@ -1,5 +1,6 @@
--- Divisors to pairs of polynomials and back: exact both ways.
-use Prim.Native.Nat.{ℕ, zero, suc, _+_, _-_, _<_}
+-- Divisors to pairs of polynomials and back. Gives: a divisor's polynomials are those of its lists (`pair-is`, `pair-neutral`); a pair is that of
+-- the divisor made of its settled coefficients (`divisor-is`).
+use Prim.Native.Nat.{ℕ, zero, suc, _+_, _<_}
 use mathlib.Core.Path.{_≡_, sym, ap, _∙_, subst}
 use mathlib.Core.List.{List, [], _∷_, _++_}
 use native.Mathlib.Omega.{arith}

@@ -14,14 +14,14 @@ use Rattle.poly.specs.Polys.{K, P, pol, Is}
 
 module _ (m : Modulus) where
   open CRing (K m) using (El as A, one as 𝟙)
-  open CRing (P m) using (add as _+P_, mul as _*P_, zer as 0P)
+  open CRing (P m) using (add as _+P_, mul as _*P_)
 
   infixl 65 _+P_
   infixl 70 _*P_
   one-more : (n : ℕ) → 1 + n ≡ suc n
   one-more n = omega arith
 
-  pub append-term : (l : List A) (b : A) → list-pol (K m) (l ++ (b ∷ [])) ≡ list-pol (K m) l +P term (K m) b (length l)
+  append-term : (l : List A) (b : A) → list-pol (K m) (l ++ (b ∷ [])) ≡ list-pol (K m) l +P term (K m) b (length l)
   append-term [] b = pol-cons (K m) b [] ∙ ap (λ t. C (K m) b +P X (K m) *P t) (pol-nil (K m)) ∙ ring (P m) (C (K m) b ∷ X (K m) ∷ []) (search quote depth 40) refl ∙ ap (λ t. t +P C (K m) b) (sym (pol-nil (K m)))
   append-term (a ∷ l) b = pol-cons (K m) a (l ++ (b ∷ [])) ∙ ap (λ t. C (K m) a +P X (K m) *P t) (append-term l b)
       ∙ ring (P m) (C (K m) a ∷ X (K m) ∷ list-pol (K m) l ∷ term (K m) b (length l) ∷ []) (search quote depth 40) refl

@@ -1,7 +1,7 @@
 -- The sum in code is the rule's, on every pair of valid divisors of a sound curve, of either genus. Gives what `Curve::sum`, `double` and
 -- `opposite` promise; the answer's validity comes from the pair that the reduction ends with.
 use Prim.Native.Nat.{_+_, _≤_}
-use mathlib.Core.Path.{_≡_, sym, ap₂, _∙_, subst}
+use mathlib.Core.Path.{sym, ap₂, _∙_, subst}
 use native.Mathlib.Omega.{arith}
 use Rattle.algebra.proofs.ring.CRing.{CRing}
 use Rattle.algebra.proofs.ideal.Joined.{OnCurve}
@@ -20,9 +20,9 @@ use Rattle.cantor.specs.declared.Mumford.{Mumford}
 use Rattle.cantor.specs.Pairs.{Fine}
 use Rattle.cantor.specs.Reducing.{ToSum, Summed}
 use Rattle.curve.specs.declared.Curve.{Curve}
-use Rattle.curve.specs.Pairs.{AsPair, ToDivisor, FromPair}
+use Rattle.curve.specs.Pairs.{AsPair, FromPair}
 use Rattle.curve.specs.Curves.{curveOf, Sound, Holds, Gives}
-use Rattle.curve.proofs.Carry.{f-is, accepted}
+use Rattle.curve.proofs.Carry.{u-is, v-is, f-is, accepted}
 use Rattle.curve.proofs.Chain.{composed-by, composed-at, reached-by}
 
 module _ (c : Curve) (h : Sound c) where
@@ -35,28 +35,20 @@ module _ (c : Curve) (h : Sound c) where
   infixl 70 _*P_
   -- ---- a divisor and its polynomials
   module _ (d : Divisor) (x : Mumford) (hx : AsPair m d x) where
-    u-is : u-of (curveOf c) (pair m d) ≡ pol m (x .u)
-    unfolding pair
-    u-is = sym (hx .u-is)
-
-    v-is : v-of (curveOf c) (pair m d) ≡ pol m (x .v)
-    unfolding pair
-    v-is = sym (hx .v-is)
-
     fine : Holds c d → Fine m (c .f) x
     fine hd = let o : OnCurve (Kx (curveOf c)) (f (curveOf c)) (u-of (curveOf c) (pair m d)) (v-of (curveOf c) (pair m d)) = valid-on (curveOf c) (hd .valid) .on in record {
       ok-u = hx .ok-u;
       ok-v = hx .ok-v;
       monic = hx .monic;
       shorter = omega (arith, hx .n-u, hx .n-v);
-      on = (o .0, sym (f-is c h) ∙ o .1 ∙ ap₂ (λ s t. t *P t +P s *P o .0) u-is v-is);
+      on = (o .0, sym (f-is c h) ∙ o .1 ∙ ap₂ (λ s t. t *P t +P s *P o .0) (u-is c d x hx) (v-is c d x hx));
     }
 
     small : Holds c d → x .u .n ≤ c .g + 1
     small hd = omega (arith, hx .n-u, hd .valid .small, weight-is m d)
 
     valid : Fine m (c .f) x → x .u .n ≤ c .g + 1 → Valid (curveOf c) (pair m d)
-    valid k l = on-valid (curveOf c) (record { fits = weight-is-v m d ∙ sym (weight-is m d); on = (k .on .0, f-is c h ∙ k .on .1 ∙ sym (ap₂ (λ s t. t *P t +P s *P k .on .0) u-is v-is)) }) (omega (arith, weight-is m d, hx .n-u))
+    valid k l = on-valid (curveOf c) (record { fits = weight-is-v m d ∙ sym (weight-is m d); on = (k .on .0, f-is c h ∙ k .on .1 ∙ sym (ap₂ (λ s t. t *P t +P s *P k .on .0) (u-is c d x hx) (v-is c d x hx))) }) (omega (arith, weight-is m d, hx .n-u))
 
   -- ---- the sum
   module _ (a b : Divisor) (x y : Mumford) (hx : AsPair m a x) (hy : AsPair m b y) (ha : Holds c a) (hb : Holds c b) where
@@ -72,9 +64,6 @@ module _ (c : Curve) (h : Sound c) where
     }
 
     module _ (z : Mumford) (hz : Summed m (c .f) (c .g) x y z) where
-      pub to-divisor : ToDivisor m z
-      to-divisor = let k : Fine m (c .f) z = hz .reduced .fine in record { ok-u = k .ok-u; ok-v = k .ok-v; monic = k .monic; shorter = k .shorter; short = omega (arith, hz .reduced .short, h .most) }
-
       pub sum-gives : (r : Divisor) → FromPair m z r → Gives c r (sum (curveOf c) (pair m a) (pair m b))
       sum-gives r hr = record {
         holds = record { held = hr .held; valid = vr };
@@ -85,12 +74,12 @@ module _ (c : Curve) (h : Sound c) where
           vr = valid r z (hr .is) (hz .reduced .fine) (hz .reduced .short)
 
           composed : Composed (Kx (curveOf c)) (f (curveOf c)) (u-of (curveOf c) (pair m a)) (v-of (curveOf c) (pair m a)) (u-of (curveOf c) (pair m b)) (v-of (curveOf c) (pair m b)) (pol m (hz .mid .u)) (pol m (hz .mid .v))
-          composed = composed-at (P m) (sym (f-is c h)) (sym (u-is a x hx)) (sym (v-is a x hx)) (sym (u-is b y hy)) (sym (v-is b y hy))
+          composed = composed-at (P m) (sym (f-is c h)) (sym (u-is c a x hx)) (sym (v-is c a x hx)) (sym (u-is c b y hy)) (sym (v-is c b y hy))
               (composed-by (P m) (pol m (c .f)) (pol m (x .u)) (pol m (x .v)) (pol m (y .u)) (pol m (y .v)) (pol m (hz .mid .u)) (hz .composed .v0) (pol m (hz .mid .v)) (hz .composed .k) (hz .composed .joined) (hz .composed .v-is))
 
           reached : Reached (curveOf c) (pol m (hz .mid .u)) (pol m (hz .mid .v)) (u-of (curveOf c) (pair m r)) (v-of (curveOf c) (pair m r))
-          reached = subst (λ t. Reached (curveOf c) (pol m (hz .mid .u)) (pol m (hz .mid .v)) t (v-of (curveOf c) (pair m r))) (sym (u-is r z (hr .is)))
-              (subst (λ t. Reached (curveOf c) (pol m (hz .mid .u)) (pol m (hz .mid .v)) (pol m (z .u)) t) (sym (v-is r z (hr .is))) (reached-by c h (hz .reduced .steps)))
+          reached = subst (λ t. Reached (curveOf c) (pol m (hz .mid .u)) (pol m (hz .mid .v)) t (v-of (curveOf c) (pair m r))) (sym (u-is c r z (hr .is)))
+              (subst (λ t. Reached (curveOf c) (pol m (hz .mid .u)) (pol m (hz .mid .v)) (pol m (z .u)) t) (sym (v-is c r z (hr .is))) (reached-by c h (hz .reduced .steps)))
 
   pub double-gives : (a r : Divisor) → Gives c r (sum (curveOf c) (pair m a) (pair m a)) → Gives c r (double (curveOf c) (pair m a))
   double-gives a r k = record { holds = k .holds; is = k .is ∙ sym (double-is (curveOf c) (pair m a)) }

@@ -1,20 +1,19 @@
 -- Euclid without cofactors: under way the pair x, y has the common divisors of a and b, and at the end, y being zero, x made monic is
 -- their greatest common divisor; where y is a constant, y made monic is.
-use Prim.Native.Nat.{ℕ, zero, suc, _-_, _<_, _≤_, max}
+use Prim.Native.Nat.{_<_, _≤_, max}
 use mathlib.Core.Path.{_≡_, refl, sym, ap, _∙_}
 use mathlib.Core.List.{[], _∷_}
 use native.Mathlib.Omega.{arith}
 use Rattle.algebra.proofs.ring.CRing.{CRing, mul-one}
 use Rattle.algebra.proofs.ring.Quote.{ring, quote, by}
 use Rattle.algebra.proofs.ring.Divides.{Divides, divides-zer, divides-add, divides-neg, divides-mul, divides-eq}
-use Rattle.algebra.proofs.poly.Series.{con}
-use Rattle.algebra.proofs.poly.Poly.{coef, coef-one, poly-ext}
-use Rattle.algebra.proofs.poly.Term.{at, C, constants}
+use Rattle.algebra.proofs.poly.Term.{C, constants}
 use Rattle.field.specs.declared.Modulus.{Modulus}
 use Rattle.poly.specs.declared.Poly.{Poly}
 use Rattle.poly.specs.Polys.{K, P, pol, Ok}
-use Rattle.poly.specs.Contracts.{IsMonic, Divided, MonicBy}
+use Rattle.poly.specs.Contracts.{Divided, MonicBy}
 use Rattle.poly.proofs.Lengths.{none-is}
+use Rattle.poly.proofs.Monic.{monic-one}
 use Rattle.euclid.specs.Euclid.{ToDivideBy, Gcd}
 
 module _ (m : Modulus) where
@@ -35,15 +34,6 @@ module _ (m : Modulus) where
     pub back : (h : Po) → h ∣ pol m x → h ∣ pol m y → (h ∣ pol m a) × (h ∣ pol m b)
     pub short-x : x .n ≤ max (a .n) (b .n)
     pub short-y : y .n ≤ max (a .n) (b .n)
-
-  -- monic of degree 0 is 1
-  pub monic-one : {g : Poly} → Ok m g → g .n ≡ 1 → IsMonic m g → pol m g ≡ 1P
-  unfolding con
-  monic-one {g} h e o = poly-ext (K m) (λ k. go k ∙ sym (at (K m) (coef-one (K m)) k))
-    where
-      go : (k : ℕ) → coef (K m) (pol m g) k ≡ con (K m) (K m .one) k
-      go zero = ap (coef (K m) (pol m g)) {x = 0} {y = g .n - 1} (omega arith) ∙ o .lead
-      go (suc k) = h .size .end (suc k) (omega arith)
 
   pub euclid-begin : (a b : Poly) → Ok m a → Ok m b → Euclid a b a b
   euclid-begin a b ha hb = record { ok-x = ha; ok-y = hb; forth = λ h da db. (da, db); back = λ h da db. (da, db); short-x = omega arith; short-y = omega arith }
@@ -92,4 +82,4 @@ module _ (m : Modulus) where
     }
       where
         all : (w : Po) → pol m g ∣ w
-        all w = record { factor = w; is = sym (ap (λ t. w *P t) (monic-one (o .ok) (omega (arith, o .same)) (o .lead (omega (arith, o .same)))) ∙ mul-one (P m) w) }
+        all w = record { factor = w; is = sym (ap (λ t. w *P t) (monic-one m (o .ok) (omega (arith, o .same)) (o .lead (omega (arith, o .same)))) ∙ mul-one (P m) w) }

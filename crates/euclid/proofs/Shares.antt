@@ -1,5 +1,5 @@
 -- From gcd's contract alone: if the gcd of a and b has degree 0, no polynomial of degree 1 or more divides both; else one does.
-use Prim.Native.Nat.{ℕ, zero, suc, _-_}
+use Prim.Native.Nat.{ℕ, suc, _-_}
 use mathlib.Core.Path.{_≡_, sym, ap, _∙_, subst}
 use native.Mathlib.Omega.{arith}
 use native.Mathlib.Decide.{ℕ-discrete}
@@ -15,8 +15,8 @@ use Rattle.field.proofs.Laws.{residue-field}
 use Rattle.poly.specs.declared.Poly.{Poly}
 use Rattle.poly.specs.Polys.{K, P, pol}
 use Rattle.poly.proofs.Lengths.{none-is}
+use Rattle.poly.proofs.Monic.{monic-one}
 use Rattle.euclid.specs.Euclid.{Gcd}
-use Rattle.euclid.proofs.Common.{monic-one}
 
 module _ (m : Modulus) {a b g : Poly} (h : Gcd m a b g) where
   open CRing (P m) using (El as Po, mul as _*P_, zer as 0P)

@@ -1,12 +1,7 @@
--- Answers of tests. Gives: an answer to A is an answer to any B that holds just where A does; what a test's arm says; a test that isn't true is
--- false.
+-- Answers of tests. Gives: what a test's arm says; a test that isn't true is false.
 use mathlib.Core.Path.{_≡_, refl, subst}
 use mathlib.Core.Bool.{Bool, true, false}
 use Rattle.field.specs.Primes.{Decides}
-
-pub decides-as : {A B : Type 0} (b : Bool) → (A → B) → (B → A) → Decides b A → Decides b B
-decides-as true f g h = f h
-decides-as false f g h = λ x. h (g x)
 
 pub decided-yes : {A : Type 0} {b : Bool} → b ≡ true → Decides b A → A
 decided-yes {A} e h = subst (λ (b : Bool). Decides b A) e h

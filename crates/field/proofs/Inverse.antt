@@ -13,7 +13,7 @@ use Rattle.field.specs.Residues.{el, Good, Unit, Inverts}
 use Rattle.field.proofs.Laws.{positive}
 
 module _ (m : Modulus) (a : ℕ) where
-  open CRing (zmod (m .p)) using (El as A, add as _⊕_, mul as _⊗_, neg as ng, zer as 𝟘, one as 𝟙)
+  open CRing (zmod (m .p)) using (add as _⊕_, mul as _⊗_, neg as ng, zer as 𝟘, one as 𝟙)
 
   infixl 65 _⊕_
   infixl 70 _⊗_

@@ -33,9 +33,6 @@ module _ (m : Modulus) where
   pub in-range-settled : {r : Residue} → Good m → InRange m r → Settled m r
   in-range-settled g i = record { good = g; below = i .below }
 
-  pub settled-in-range : {r : Residue} → Settled m r → InRange m r
-  settled-in-range s = record { below = s .below }
-
   -- settled residues that stand for one element are one value
   pub settled-unique : (a b : Residue) → Settled m a → Settled m b → el m a ≡ el m b → a ≡ b
   unfolding el

@@ -10,7 +10,7 @@ use Rattle.algebra.proofs.zmod.Zmod.{zmod, emb, emb-add, emb-mul, emb-mod, emb-
 use Rattle.field.specs.declared.Modulus.{Modulus}
 use Rattle.field.specs.declared.Residue.{Residue}
 use Rattle.field.specs.Residues.{el, Good, Kept, Settled, Stands}
-use Rattle.field.proofs.Laws.{positive}
+use Rattle.field.proofs.Laws.{positive, settled-unique}
 
 module _ (m : Modulus) where
   abbrev p : ℕ
@@ -75,5 +75,4 @@ module _ (m : Modulus) where
   equal-of a b e = ap (emb p) e
 
   pub equal-only : (a b : Residue) → Settled m a → Settled m b → el m a ≡ el m b → a .0 ≡ b .0
-  unfolding el
-  equal-only a b h k e = emb-inj p (positive m (h .good)) (a .0) (b .0) (h .below) (k .below) e
+  equal-only a b h k e = ap (λ (r : Residue). r .0) (settled-unique m a b h k e)

@@ -12,6 +12,7 @@ use lib.Pow.{shr-shr, high}
 use lib.Bits.{block-half, block-odd}
 use lib.Count.{ones, ones-cat}
 use Rattle.rules.specs.Bytes.{number}
+use Rattle.rules.proofs.calls.Bytes.{AreBytes}
 
 -- ---- the bits below a block
 bit-below : (w r a b : ℕ) → r < w → (a * 2 ^ w + b) / 2 ^ r % 2 ≡ b / 2 ^ r % 2
@@ -35,7 +36,7 @@ module _ (s : List ℕ) where
   pub number-all : number (take (length s) s) ≡ number s
   number-all = ap number (take-length s)
 
-  module _ (bytes : (i : ℕ) → getD s i 0 < 256) where
+  module _ (bytes : AreBytes s) where
     pub ones-more : (i : ℕ) → i < length s → ones (number (take (i + 1) s)) ≡ ones (number (take i s)) + ones (getD s i 0)
     ones-more i l = ap ones (more-bits i l) ∙ ones-cat 8 (number (take i s)) (getD s i 0) (bytes i)
 

@@ -8,6 +8,7 @@ use lib.ListN.{length, take, getD}
 use lib.Count.{ones, ones-le, leadingZeros}
 use Rattle.rules.specs.Multiple.{bit-length}
 use Rattle.rules.specs.Bytes.{number}
+use Rattle.rules.proofs.calls.Bytes.{AreBytes}
 use Rattle.multiple.specs.Contracts.{Grown, Counted}
 use Rattle.multiple.proofs.Bytes.{number-more, number-all, ones-more}
 
@@ -24,7 +25,7 @@ module _ (s : List ℕ) where
   begin = record { place = omega arith; length-is = refl; ones-is = refl; length-most = omega arith; ones-most = omega arith }
 
   module _ (l o i : ℕ) (h : Counting s l o i) where
-    pub turn : i < length s → ((k : ℕ) → getD s k 0 < 256) → (r : ℕ) → Grown l (getD s i 0) r → Counting s r (o + ones (getD s i 0)) (i + 1)
+    pub turn : i < length s → AreBytes s → (r : ℕ) → Grown l (getD s i 0) r → Counting s r (o + ones (getD s i 0)) (i + 1)
     turn k bytes r g = record {
       place = omega arith;
       length-is = g .is (number (take i s)) (h .length-is) ∙ ap bit-length (sym (number-more s i k));

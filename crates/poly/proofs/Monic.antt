@@ -1,13 +1,14 @@
--- Monic Polys. Gives: what making a Poly monic promises; that a monic one isn't zero; the products and the exact quotients of monic
--- ones are monic, and their lengths.
-use Prim.Native.Nat.{ℕ, suc, _+_, _-_, _≤_}
+-- Monic Polys. Gives: what making a Poly monic promises; that a monic one isn't zero, and is 1 where its degree is 0; the products and the
+-- exact quotients of monic ones are monic, and their lengths.
+use Prim.Native.Nat.{ℕ, zero, suc, _+_, _-_, _≤_}
 use mathlib.Core.Path.{_≡_, refl, sym, ap, ap₂, _∙_}
 use mathlib.Core.Logic.{_≢_}
 use native.Mathlib.Omega.{arith}
 use native.Mathlib.Decide.{decLe}
 use Rattle.algebra.proofs.ring.CRing.{CRing, mul-one, zer-mul}
+use Rattle.algebra.proofs.poly.Series.{con}
 use Rattle.algebra.proofs.poly.Bound.{Below, lead-mul}
-use Rattle.algebra.proofs.poly.Poly.{coef, coef-mul, coef-zer}
+use Rattle.algebra.proofs.poly.Poly.{coef, coef-mul, coef-zer, coef-one, poly-ext}
 use Rattle.algebra.proofs.poly.Term.{at, C, coef-shift, term-one}
 use Rattle.field.specs.declared.Residue.{Residue}
 use Rattle.field.specs.declared.Modulus.{Modulus}
@@ -21,7 +22,7 @@ use Rattle.poly.proofs.Division.{monic-of}
 
 module _ (m : Modulus) where
   open CRing (K m) using (El as A, mul as _⊗_, zer as 𝟘, one as 𝟙)
-  open CRing (P m) using (El as Po, mul as _*P_, zer as 0P)
+  open CRing (P m) using (El as Po, mul as _*P_, zer as 0P, one as 1P)
 
   infixl 70 _⊗_
   infixl 70 _*P_
@@ -72,6 +73,15 @@ module _ (m : Modulus) where
   -- ---- monic ones
   pub monic-ne : {a : Poly} → Ok m a → IsMonic m a → pol m a ≢ 0P
   monic-ne {a} h o e = one-ne (h .fill .good) (sym (o .lead) ∙ ap (λ v. cf v (a .n - 1)) e ∙ at (K m) (coef-zer (K m)) (a .n - 1))
+
+  -- monic of degree 0 is 1
+  pub monic-one : {g : Poly} → Ok m g → g .n ≡ 1 → IsMonic m g → pol m g ≡ 1P
+  unfolding con
+  monic-one {g} h e o = poly-ext (K m) (λ k. go k ∙ sym (at (K m) (coef-one (K m)) k))
+    where
+      go : (k : ℕ) → cf (pol m g) k ≡ con (K m) 𝟙 k
+      go zero = ap (cf (pol m g)) {x = 0} {y = g .n - 1} (omega arith) ∙ o .lead
+      go (suc k) = h .size .end (suc k) (omega arith)
 
   lead-at : (i j k : ℕ) (a b : Po) → Below (K m) (suc i) (cf a) → Below (K m) (suc j) (cf b) → i + j ≡ k → cf (a *P b) k ≡ cf a i ⊗ cf b j
   lead-at i j k a b ha hb e = at (K m) (coef-mul (K m) a b) k ∙ lead-mul (K m) i j k (cf a) (cf b) ha hb e

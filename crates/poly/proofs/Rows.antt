@@ -1,6 +1,6 @@
--- The loops over coefficients, each an instance of `Built`: a term put in, a row added, a multiple, sum, difference. Gives for each its turn, what
--- the scan for the length asks, and its end.
-use Prim.Native.Nat.{ℕ, _+_, _-_, _<_, _≤_, max, zero-le}
+-- The loops over coefficients, each an instance of `Built`: a term put in, a row added, a multiple, sum, difference. Gives for each its
+-- turn, what the scan for the length asks, and its end.
+use Prim.Native.Nat.{ℕ, _+_, _<_, _≤_, max, zero-le}
 use mathlib.Core.Path.{_≡_, refl, sym, ap, ap₂, _∙_}
 use mathlib.Core.List.{List, [], _∷_}
 use native.Mathlib.Omega.{arith}

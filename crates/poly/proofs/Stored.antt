@@ -1,6 +1,6 @@
--- From the residues stored to the polynomial they stand for. Gives: what stands at each place (`stored`, `past`), that a store is a
--- term added (`set-is`), that stores keep the residues in range, the list of zeros, and what `get` and `size` promise.
-use Prim.Native.Nat.{ℕ, zero, suc, _+_, _-_, _*_, _<_, _≤_}
+-- From the residues stored to the polynomial they stand for. Gives: what stands at each place (`stored`, `past`), what `get` promises, that
+-- a store is a term added (`set-is`) and keeps the residues in range, the list of zeros, and that places in the array fit a word.
+use Prim.Native.Nat.{ℕ, zero, suc, _+_, _*_, _<_, _≤_}
 use mathlib.Core.Path.{_≡_, sym, ap, ap₂, _∙_, subst}
 use mathlib.Core.List.{List, [], _∷_}
 use native.Mathlib.Omega.{arith}

@@ -12,8 +12,8 @@ ghost use Rattle.poly.specs.Contracts.{Gets, Held, Size, Put, Product, L
 use field::Modulus;
 use field::Residue;
 
-// Room for every intermediate of the sum in genus 3. Its largest are v before it is reduced by u (degree 10 at most) and f - v * v
-// before it is divided by u (degree 10 at most); Euclid's cofactors are no longer than what it starts from.
+// Room for every intermediate of the sum in genus 3. Its largest are s2 * (v1 - v2) + s3 * w2 in the composition (degree 10 at most) and
+// f - v * v before it is divided by u (degree 10 at most); Euclid's cofactors are no longer than what it starts from.
 pub const ROOM: usize = 16;
 
 // n is one more than the degree, and 0 for the zero polynomial.

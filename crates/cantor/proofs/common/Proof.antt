@@ -1,5 +1,5 @@
 use native.Mathlib.Omega.{arith}
-use Rattle.cantor.proofs.Divisors3.{coprime-is, common-is, common-fits}
+use Rattle.cantor.proofs.CommonDivisor.{coprime-is, common-is, common-fits}
 use borrow.Author.Needs.{needs}
 use Rattle.cantor.proofs.common.Statement.{statement}
 use Rattle.cantor.proofs.common.Tie as tie

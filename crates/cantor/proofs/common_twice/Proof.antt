@@ -1,4 +1,4 @@
-use Rattle.cantor.proofs.Divisors3.{twice-is}
+use Rattle.cantor.proofs.CommonDivisor.{twice-is}
 use borrow.Author.Needs.{needs}
 use Rattle.cantor.proofs.common_twice.Statement.{statement}
 use Rattle.cantor.proofs.common_twice.Tie as tie

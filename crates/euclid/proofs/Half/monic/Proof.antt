@@ -1,6 +1,5 @@
 use native.Mathlib.Omega.{arith}
 use Rattle.euclid.proofs.Steps.{half-zero, half-scaled}
-use borrow.Author.Needs.{needs}
 use Rattle.euclid.proofs.Half.monic.Statement.{statement}
 use Rattle.euclid.proofs.Half.monic.Tie as tie
 

@@ -5,7 +5,6 @@ use Prim.Native.Nat.{_≤_, _-_}
 use native.Mathlib.Nat.{le-trans}
 use Rattle.algebra.proofs.poly.Bound.{Below}
 use Rattle.algebra.proofs.poly.Poly.{coef}
-use Rattle.field.specs.Residues.{el}
 use Rattle.field.proofs.Decide.{decided-yes, decided-no}
 use Rattle.poly.specs.Polys.{room, K, polL}
 use Rattle.field.proofs.Arrays.{length-of}

@@ -13,15 +13,14 @@ use Rattle.poly.specs.declared.Poly.{Poly}
 use Rattle.poly.specs.Polys.{P, pol, Ok, Is}
 use Rattle.poly.specs.Contracts.{IsMonic}
 use Rattle.poly.proofs.Lengths.{none-is}
-use Rattle.poly.proofs.Monic.{monic-ne}
+use Rattle.poly.proofs.Monic.{monic-ne, monic-one}
 use Rattle.euclid.specs.declared.Line.{Line}
 use Rattle.euclid.specs.declared.Half.{Half}
 use Rattle.euclid.specs.Euclid.{Xgcd, HalfXgcd}
 use Rattle.cantor.specs.Composing.{ToCommon, Common}
-use Rattle.cantor.proofs.Cofactors.{one-of}
 
 module _ (m : Modulus) where
-  open CRing (P m) using (El as Po, add as _+P_, mul as _*P_, zer as 0P)
+  open CRing (P m) using (add as _+P_, mul as _*P_, zer as 0P)
 
   infixl 65 _+P_
   infixl 70 _*P_
@@ -50,7 +49,7 @@ module _ (m : Modulus) where
             ∙ ap (λ t. he .s *P pol m u1 +P pol m (e .t) *P pol m u2 +P t *P pol m w) (sym (hz .is));
         of-1 = he .gcd .left;
         of-2 = he .gcd .right;
-        of-w = record { factor = pol m w; is = sym (ap (λ t. pol m w *P t) (one-of m (he .gcd .ok) first-monic l) ∙ mul-one (P m) (pol m w)) };
+        of-w = record { factor = pol m w; is = sym (ap (λ t. pol m w *P t) (monic-one m (he .gcd .ok) l first-monic) ∙ mul-one (P m) (pol m w)) };
         n-2 = omega (arith, he .short-t, to .n-1);
         n-3 = omega (arith, hz .short);
       }
