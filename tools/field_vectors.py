@@ -1,5 +1,5 @@
 #!/usr/bin/env python3
-"""field_vectors.py: what crates/field_table must print, by Python's own whole numbers.
+"""field_vectors.py: what crates/field_table must print, by Python's own whole numbers and from the definitions only.
 
     python3 tools/field_vectors.py > crates/field_table/stdout
 """
@@ -9,6 +9,8 @@ TRIED = [
     2147483631, 2147483643, 2147483645, 2147483646, 2147483647, 2147483648, 2147483659, 2**61 - 1, 18446744073709551557,
 ]
 LIMIT = 2147483647
+# Odd numbers up to the largest modulus; the last three are past the limit of a record, and primes.
+EDGES = [3, 5, 7, 65537, 2147483647, 693386350578511591, 27 * 2**56 + 1, 2**61 - 1]
 
 
 def odd_prime_within_limit(n):
@@ -40,3 +42,25 @@ for p in PRIMES:
             print(p, a, b, (a + b) % p, (a - b) % p, a * b % p, -a % p, inverse)
 for n in TRIED:
     print(n, "prime" if odd_prime_within_limit(n) else "refused")
+
+
+def edge_rows(p):
+    # A residue that holds x stands for x / 2^64. Operands are given by what they hold, results by the numbers that they stand for.
+    held = [0, 1, p - 1, p, p + 1, 2 * p - 1]
+    value = {x: x * pow(2**64, -1, p) % p for x in held}
+    yield [p]
+    for x in held:
+        a = value[x]
+        half = next(h for h in (a // 2, (a + p) // 2) if 2 * h % p == a)
+        yield [x, -a % p, 2 * a % p, half, a * a % p, pow(a, 0, p), pow(a, p, p), pow(a, 2**64 - 1, p)]
+    d = value[2 * p - 1]
+    for x in held:
+        for y in held:
+            a, b = value[x], value[y]
+            thirds = [n % p for z in (0, p, 2 * p - 1) for c in [value[z]] for n in (a * (b + c), a * (b - c), a * b + c * d, a * b - c * d)]
+            yield [x, y] + thirds + [(a + b) % p, (a - b) % p, a * b % p]
+
+
+for p in EDGES:
+    for row in edge_rows(p):
+        print(*row)

@@ -3,4 +3,5 @@ pub mod CRing
 pub mod Normal
 pub mod Quote
 pub mod Field
+pub mod Power
 pub mod Divides

@@ -56,7 +56,7 @@ module _ (c : Curve) (h : Sound c) where
   f-is = mon-coefs (K m) (suc (c .g + c .g)) (pol m (c .f)) (subst (λ n. Monic (K m) n (coef (K m) (pol m (c .f)))) (omega (arith, h .odd)) (monic-of m (h .ok) (h .monic)))
 
   pub accepted : Accepted (curveOf c)
-  accepted = accepted-mod-p (m .p) (c .g) _ (h .ok .fill .good .prime .is) (omega (arith, h .ok .fill .good .prime .odd)) (length-coefs (K m) (suc (c .g + c .g)) (coef (K m) (pol m (c .f)))) (h .square-free)
+  accepted = accepted-mod-p (m .p) (c .g) _ (h .ok .fill .good .prime) (omega (arith, h .ok .fill .good .ring .from)) (length-coefs (K m) (suc (c .g + c .g)) (coef (K m) (pol m (c .f)))) (h .square-free)
 
   module _ (d : Divisor) (x : Mumford) (hx : AsPair m d x) (sq y q r : Poly) (h-sq : Is m sq (pol m (x .v) *P pol m (x .v)) (x .v .n + x .v .n - 1))
       (h-y : Is m y (pol m (c .f) +P negP (pol m sq)) (max (c .f .n) (sq .n))) (hd : PolyDivided m y (x .u) q r) where

@@ -6,7 +6,7 @@ ghost use Rattle.algebra.proofs.list.Value.{pol as list-pol};
 ghost use Rattle.rules.specs.Sum.{sum, double};
 ghost use Rattle.rules.specs.Pair.{opposite};
 ghost use Rattle.field.specs.Primes.{Decides};
-ghost use Rattle.field.specs.Residues.{el, Settled, Settles};
+ghost use Rattle.field.specs.Residues.{el, Good, Settled, Settles};
 ghost use Rattle.poly.specs.Polys.{pol, Ok, Is};
 ghost use Rattle.divisor.specs.Divisors.{pair, Held};
 ghost use Rattle.curve.specs.Pairs.{AsPair, ToDivisor, FromPair};
@@ -29,7 +29,7 @@ pub struct Curve {
 
 // a + b * x.
 fn line(a: Residue, b: Residue, m: Modulus) -> Poly
-    requires { ⌜ Settled m a × Settled m b ⌝ }
+    requires { ⌜ Good m × Settled m a × Settled m b ⌝ }
     ensures { λ r. ⌜ Is m r (list-pol (zmod (m .p)) (el m a ∷ el m b ∷ [])) 2 ⌝ }
 {
     Poly::constant(a, m).put(1, b, m)
@@ -37,7 +37,7 @@ fn line(a: Residue, b: Residue, m: Modulus) -> Poly
 
 // a + b * x + c * x^2.
 fn parabola(a: Residue, b: Residue, c: Residue, m: Modulus) -> Poly
-    requires { ⌜ Settled m a × Settled m b × Settled m c ⌝ }
+    requires { ⌜ Good m × Settled m a × Settled m b × Settled m c ⌝ }
     ensures { λ r. ⌜ Is m r (list-pol (zmod (m .p)) (el m a ∷ el m b ∷ el m c ∷ [])) 3 ⌝ }
 {
     line(a, b, m).put(2, c, m)

@@ -53,7 +53,7 @@ module _ (s : List ℕ) (g : ℕ) (m : Modulus) (h : ToLow s g m) where
 
   -- what the rule comes to, and by the two tests
   here : Headed s → g ≡ getD s 5 0 → m .p ≡ word64 s 6 → read-curve s ≡ low-rule s g (m .p)
-  here hd g-is p-is = behind s hd ∙ ap (λ b. choose b (low-rule s (getD s 5 0) (word64 s 6)) (refused 5 0)) (odd-prime-yes (word64 s 6) (subst OddPrime p-is (h .good .prime)))
+  here hd g-is p-is = behind s hd ∙ ap (λ b. choose b (low-rule s (getD s 5 0) (word64 s 6)) (refused 5 0)) (odd-prime-yes (word64 s 6) (subst OddPrime p-is (h .first)))
       ∙ ap₂ (low-rule s) (sym g-is) (sym p-is)
 
   by-below : {b : Bool} → below? (m .p) (words s 14 (suc (g + g))) ≡ b → low-rule s g (m .p) ≡ choose b (choose (square-free? (curve rule)) (taken rule) (refused 7 0)) (refused 6 0)
@@ -115,7 +115,7 @@ module _ (s : List ℕ) (g : ℕ) (m : Modulus) (h : ToLow s g m) where
     pub built-curve : Free → LowIs s g m (record { number = 0; curve = built })
     built-curve a = λ hd g-is p-is. record {
       sound = λ z. sound a;
-      takes = λ z. here hd g-is p-is ∙ by-below below ∙ by-free (square-free-test (m .p) (h .good .prime .is) g low .1 (free a)) ∙ ap taken (sym record-is);
+      takes = λ z. here hd g-is p-is ∙ by-below below ∙ by-free (square-free-test (m .p) (h .good .prime) g low .1 (free a)) ∙ ap taken (sym record-is);
       refuses = λ z. absurd (z refl);
     }
 
@@ -123,5 +123,5 @@ module _ (s : List ℕ) (g : ℕ) (m : Modulus) (h : ToLow s g m) where
     repeated n = λ hd g-is p-is. record {
       sound = λ z. absurd (omega arith);
       takes = λ z. absurd (omega arith);
-      refuses = λ z. here hd g-is p-is ∙ by-below below ∙ by-free (otherwise (square-free? (curve rule)) (λ e. n (free-back (square-free-test (m .p) (h .good .prime .is) g low .0 e))));
+      refuses = λ z. here hd g-is p-is ∙ by-below below ∙ by-free (otherwise (square-free? (curve rule)) (λ e. n (free-back (square-free-test (m .p) (h .good .prime) g low .0 e))));
     }

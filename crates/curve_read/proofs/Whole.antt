@@ -35,7 +35,7 @@ module _ (s : List ℕ) where
       module _ (m : Modulus) (e : a ≡ Modulo m) (g : ℕ) (g-is : g ≡ getD s 5 0) where
         pub to-low : ToLow s g m
         to-low = let k = genus-is (getD s 5 0) (h .passes z .genus) in
-            record { good = subst (ModulusIs p) e ha .0; least = omega (arith, k); most = omega (arith, k); long = omega (arith, h .passes z .long) }
+            record { good = subst (ModulusIs p) e ha .0; first = subst OddPrime (sym (subst (ModulusIs p) e ha .1)) (subst (ModulusIs p) e ha .2); least = omega (arith, k); most = omega (arith, k); long = omega (arith, h .passes z .long) }
 
         pub modulus-read : (r : CurveRead) → LowIs s g m r → CurveIs s r
         modulus-read r k = k (h .passes z) g-is (subst (ModulusIs p) e ha .1 ∙ p-is)

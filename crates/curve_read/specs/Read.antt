@@ -9,6 +9,7 @@ use Rattle.algebra.proofs.list.Value.{pol as list-pol}
 use Rattle.rules.specs.Bytes.{word64, words}
 use Rattle.rules.specs.Records.{refused, taken, below?, elements, read-curve}
 use Rattle.field.specs.declared.Modulus.{Modulus}
+use Rattle.field.specs.Primes.{OddPrime}
 use Rattle.field.specs.Residues.{Good}
 use Rattle.poly.specs.Polys.{Ok, Is}
 use Rattle.curve.specs.Curves.{Sound}
@@ -26,6 +27,7 @@ pub record CurveIs (s : List ℕ) (r : CurveRead) : Type 0 where
 -- ---- what stands behind p
 pub record ToLow (s : List ℕ) (g : ℕ) (m : Modulus) : Type 0 where
   pub good : Good m
+  pub first : OddPrime (m .p)
   pub least : 2 ≤ g
   pub most : g ≤ 3
   pub long : length s ≡ 22 + 16 * g

@@ -8,10 +8,10 @@ use Rattle.field.specs.declared.Residue.{Residue}
 use Rattle.field.specs.declared.ResidueRead.{ResidueRead}
 use Rattle.field.specs.declared.ResidueRead.the-variants.{Below, TooLarge}
 use Rattle.field.specs.Read.{ResidueIs}
-use Rattle.field.specs.Residues.{Good, Settles}
+use Rattle.field.specs.Residues.{Settles}
 
-pub read-below : (m : Modulus) (n w : ℕ) (r : ResidueRead) (x : Residue) → Good m → ResidueIs m n r → r ≡ Below x → n ≡ w → (w < m .p) × Settles m x (emb (m .p) w)
-read-below m n w r x g h e i = let k = subst (ResidueIs m n) e h in (omega (arith, k .0), subst (λ (j : ℕ). Settles m x (emb (m .p) j)) i (k .2 g))
+pub read-below : (m : Modulus) (n w : ℕ) (r : ResidueRead) (x : Residue) → ResidueIs m n r → r ≡ Below x → n ≡ w → (w < m .p) × Settles m x (emb (m .p) w)
+read-below m n w r x h e i = let k = subst (ResidueIs m n) e h in (omega (arith, k .0), subst (λ (j : ℕ). Settles m x (emb (m .p) j)) i (k .1))
 
 pub read-above : (m : Modulus) (n w : ℕ) (r : ResidueRead) → ResidueIs m n r → r ≡ TooLarge → n ≡ w → m .p ≤ w
 read-above m n w r h e i = subst (λ (j : ℕ). m .p ≤ j) i (subst (ResidueIs m n) e h)

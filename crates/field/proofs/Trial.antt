@@ -4,9 +4,10 @@ use Prim.Native.Nat.{ℕ, _+_, _*_, _/_, _%_, _≤_, _<_}
 use mathlib.Core.Path.{_≡_, sym, ap, _∙_}
 use native.Mathlib.Omega.{arith}
 use native.Mathlib.Decide.{ℕ-discrete, decLt}
-use native.Mathlib.Nat.{div-add-mod, mul-assoc, mul-mod-right, mul-le-mul-left}
+use native.Mathlib.Nat.{div-add-mod, mul-assoc, mul-mod-right, mul-le-mul-left, mul-le-mul}
 use Rattle.algebra.proofs.zmod.Prime.{prime-by-root}
 use Rattle.field.specs.Primes.{OddPrime, limit}
+use Rattle.field.specs.Constants.{Odd}
 
 pub record Tried (p d : ℕ) : Type 0 where
   pub from : 3 ≤ d
@@ -57,3 +58,10 @@ not-even p e h = omega (arith, h .is .none 2 (omega arith) (omega (arith, h .odd
 
 pub not-divided : (p d : ℕ) → Tried p d → d * d ≤ p → p % d ≡ 0 → OddPrime p → ⊥
 not-divided p d t r e h = omega (arith, h .is .none d (omega (arith, t .from)) (omega (arith, mul-le-mul-left {m = 3} {n = d} d (t .from))))
+
+-- a product of two numbers within the limit fits a word
+pub fits : {a b : ℕ} → a ≤ limit → b ≤ limit → a * b ≤ 4611686014132420609
+fits {a} {b} ha hb = mul-le-mul {n₁ = a} {m₁ = b} {n₂ = limit} {m₂ = limit} ha hb
+
+pub odd-of : (p : ℕ) → OddPrime p → Odd p
+odd-of p h = record { from = h .odd; most = omega (arith, h .small); odd = omega (arith, h .is .none 2 (omega arith) (omega (arith, h .odd))) }

@@ -1,3 +1,5 @@
 pub mod Primes
 pub mod Residues
 pub mod Read
+pub mod Constants
+pub mod Almost

@@ -8,6 +8,7 @@ abbrev pub Decides : Bool → Type 0 → Type 0
 Decides true A = A
 Decides false A = A → ⊥
 
+-- of a curve record of version 1
 abbrev pub limit : ℕ
 limit = 2147483647
 

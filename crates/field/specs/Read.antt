@@ -12,10 +12,10 @@ use Rattle.field.specs.Residues.{Good, Settles}
 
 -- p as a modulus
 abbrev pub ModulusIs : ℕ → ModulusRead → Type 0
-ModulusIs p (Modulo m) = Good m × (m .p ≡ p)
+ModulusIs p (Modulo m) = Good m × (m .p ≡ p) × OddPrime p
 ModulusIs p NoPrime = OddPrime p → ⊥
 
 -- n as a residue of m
 abbrev pub ResidueIs : Modulus → ℕ → ResidueRead → Type 0
-ResidueIs m n (Below r) = (n < m .p) × (r .0 ≡ n) × (Good m → Settles m r (emb (m .p) n))
+ResidueIs m n (Below r) = (n < m .p) × Settles m r (emb (m .p) n)
 ResidueIs m n TooLarge = m .p ≤ n

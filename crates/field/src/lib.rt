@@ -1,16 +1,29 @@
-// Residues modulo an odd prime. A residue stands for an element of Z/p, `el m r`; above this crate the number inside is seen
-// only through `number`, and of running totals through `kept` and `written`.
+// Residues modulo an odd number p up to 2^61 - 1, in Montgomery's form with R = 2^64: a residue holds a number below 2p and stands for an element
+// of Z/p, `el m r`. Above this crate the number inside is seen only through `number`, and of running totals through `kept` and `written`.
+// A modulus is a `Ring`: odd, 3 ≤ p ≤ 2^61 - 1, its constants right, which is enough for all but the inverse; or `Good`: a `Ring` whose p is prime.
+// A residue is `Kept`: below 2p, so that sums and products need no last step; or `Settled`: below p, to be compared, tested for zero or written.
 ghost use mathlib.Core.Path.{_≡_};
+ghost use Rattle.algebra.proofs.ring.Power.{power};
 ghost use Rattle.algebra.proofs.zmod.Zmod.{zmod, num};
-ghost use Rattle.field.specs.Residues.{el, Good, Kept, Settled, Unit, Stands, Settles, Inverts, Everywhere, InRange, raw};
+ghost use Rattle.field.specs.Residues.{el, Ring, Good, Kept, Settled, Unit, Stands, Settles, Halves, Inverts, Everywhere, InRange, raw};
+ghost use Rattle.field.specs.Constants.{Odd, OfNumber};
 ghost use Rattle.field.specs.Primes.{Decides, OddPrime};
 ghost use Rattle.field.specs.Read.{ModulusIs, ResidueIs};
+
+mod binary;
+mod montgomery;
 
 // A number of its own kind, so that it can't be mixed with a plain count.
 pub struct Residue(u64);
 
+// p and 2p; 1/p modulo 2^64; 2^64, its square and its cube modulo p.
 pub struct Modulus {
     p: u64,
+    twice: u64,
+    turn: u64,
+    one: u64,
+    square: u64,
+    cube: u64,
 }
 
 // What a plain number is as a modulus, and as a residue.
@@ -48,16 +61,36 @@ pub fn is_odd_prime(p: u64) -> bool
 }
 
 impl Modulus {
-    // The largest prime that products of residues leave room for.
+    // The largest prime of a record of version 1.
     pub const LIMIT: u64 = 2147483647;
 
     pub fn read(p: u64) -> ModulusRead
         ensures { λ r. ⌜ ModulusIs p r ⌝ }
     {
         if is_odd_prime(p) {
-            ModulusRead::Modulo(Modulus { p: p })
+            ModulusRead::Modulo(Modulus::of(p))
         } else {
             ModulusRead::NoPrime
+        }
+    }
+
+    // Any odd number from 3 to 2^61 - 1, to calculate modulo it.
+    pub fn of(p: u64) -> Modulus
+        requires { ⌜ Odd p ⌝ }
+        ensures { λ r. ⌜ OfNumber p r ⌝ }
+    {
+        let q = wide::turn(p);
+        let one = montgomery::word(p);
+        let x = montgomery::squared(one, p, q);
+        let square = montgomery::lower(x, p);
+        let cube = montgomery::lower(wide::product(square, square, p, q), p);
+        Modulus {
+            p: p,
+            twice: p + p,
+            turn: q,
+            one: one,
+            square: square,
+            cube: cube,
         }
     }
 
@@ -65,7 +98,7 @@ impl Modulus {
     pub fn least() -> Modulus
         ensures { λ r. ⌜ Good r ⌝ }
     {
-        Modulus { p: 3 }
+        Modulus::of(3)
     }
 
     pub fn number(self) -> u64
@@ -83,18 +116,20 @@ impl Residue {
     }
 
     pub fn one(m: Modulus) -> Residue
-        requires { ⌜ Good m ⌝ }
+        requires { ⌜ Ring m ⌝ }
         ensures { λ r. ⌜ Settles m r (zmod (m .p) .one) ⌝ }
     {
-        Residue(1)
+        Residue(m.one)
     }
 
     // The residue written as n, where n is below p.
     pub fn read(n: u64, m: Modulus) -> ResidueRead
+        requires { ⌜ Ring m ⌝ }
         ensures { λ r. ⌜ ResidueIs m n r ⌝ }
     {
         if n < m.p {
-            ResidueRead::Below(Residue(n))
+            let x = wide::product(n, m.square, m.p, m.turn);
+            ResidueRead::Below(Residue(montgomery::lower(x, m.p)))
         } else {
             ResidueRead::TooLarge
         }
@@ -104,7 +139,7 @@ impl Residue {
         requires { ⌜ Settled m self ⌝ }
         ensures { λ r. ⌜ r ≡ num (m .p) (el m self) ⌝ }
     {
-        self.0
+        montgomery::lower(wide::product(self.0, 1, m.p, m.turn), m.p)
     }
 
     // A number kept from an earlier call, under whatever modulus, and back.
@@ -120,7 +155,7 @@ impl Residue {
         self.0
     }
 
-    // Whether a residue, perhaps one kept under another modulus, is one of m's.
+    // Whether a plain number, kept from an earlier call, is one of m's.
     pub fn in_range(self, m: Modulus) -> bool
         ensures { λ r. ⌜ Decides r (InRange m self) ⌝ }
     {
@@ -135,7 +170,7 @@ impl Residue {
         requires { ⌜ Kept m self ⌝ }
         ensures { λ r. ⌜ Settles m r (el m self) ⌝ }
     {
-        self
+        Residue(montgomery::lower(self.0, m.p))
     }
 
     pub fn is_zero(self, m: Modulus) -> bool
@@ -163,10 +198,10 @@ impl Residue {
         ensures { λ r. ⌜ Stands m r (zmod (m .p) .add (el m self) (el m other)) ⌝ }
     {
         let sum = self.0 + other.0;
-        if sum < m.p {
+        if sum < m.twice {
             return Residue(sum);
         }
-        Residue(sum - m.p)
+        Residue(sum - m.twice)
     }
 
     pub fn sub(self, other: Residue, m: Modulus) -> Residue
@@ -174,7 +209,7 @@ impl Residue {
         ensures { λ r. ⌜ Stands m r (zmod (m .p) .add (el m self) (zmod (m .p) .neg (el m other))) ⌝ }
     {
         if self.0 < other.0 {
-            return Residue(m.p - other.0 + self.0);
+            return Residue(self.0 + m.twice - other.0);
         }
         Residue(self.0 - other.0)
     }
@@ -186,32 +221,95 @@ impl Residue {
         if self.0 == 0 {
             return self;
         }
-        Residue(m.p - self.0)
+        Residue(m.twice - self.0)
+    }
+
+    pub fn dbl(self, m: Modulus) -> Residue
+        requires { ⌜ Kept m self ⌝ }
+        ensures { λ r. ⌜ Stands m r (zmod (m .p) .add (el m self) (el m self)) ⌝ }
+    {
+        self.add(self, m)
+    }
+
+    pub fn half(self, m: Modulus) -> Residue
+        requires { ⌜ Kept m self ⌝ }
+        ensures { λ r. ⌜ Halves m self r ⌝ }
+    {
+        if self.0 % 2 == 0 {
+            return Residue(self.0 / 2);
+        }
+        Residue((self.0 + m.p) / 2)
     }
 
     pub fn mul(self, other: Residue, m: Modulus) -> Residue
         requires { ⌜ Kept m self × Kept m other ⌝ }
         ensures { λ r. ⌜ Stands m r (zmod (m .p) .mul (el m self) (el m other)) ⌝ }
     {
-        let product = self.0 * other.0;
-        let rest = product % m.p;
-        Residue(rest)
+        Residue(wide::product(self.0, other.0, m.p, m.turn))
     }
 
-    // a * y = x throughout, and x falls to p % x, which isn't 0 while 1 < x, until it is 1. So no new y is 0 modulo p, and y stays below p.
+    pub fn sqr(self, m: Modulus) -> Residue
+        requires { ⌜ Kept m self ⌝ }
+        ensures { λ r. ⌜ Stands m r (zmod (m .p) .mul (el m self) (el m self)) ⌝ }
+    {
+        self.mul(self, m)
+    }
+
+    // self * (b + c) and self * (b - c): the sum isn't reduced.
+    pub fn mul_sum(self, b: Residue, c: Residue, m: Modulus) -> Residue
+        requires { ⌜ Kept m self × Kept m b × Kept m c ⌝ }
+        ensures { λ r. ⌜ Stands m r (zmod (m .p) .mul (el m self) (zmod (m .p) .add (el m b) (el m c))) ⌝ }
+    {
+        Residue(wide::product(b.0 + c.0, self.0, m.p, m.turn))
+    }
+
+    pub fn mul_diff(self, b: Residue, c: Residue, m: Modulus) -> Residue
+        requires { ⌜ Kept m self × Kept m b × Kept m c ⌝ }
+        ensures { λ r. ⌜ Stands m r (zmod (m .p) .mul (el m self) (zmod (m .p) .add (el m b) (zmod (m .p) .neg (el m c)))) ⌝ }
+    {
+        Residue(wide::product(b.0 + m.twice - c.0, self.0, m.p, m.turn))
+    }
+
+    // self * b + c * d and self * b - c * d, by one reduction.
+    pub fn dot(self, b: Residue, c: Residue, d: Residue, m: Modulus) -> Residue
+        requires { ⌜ Kept m self × Kept m b × Kept m c × Kept m d ⌝ }
+        ensures { λ r. ⌜ Stands m r (zmod (m .p) .add (zmod (m .p) .mul (el m self) (el m b)) (zmod (m .p) .mul (el m c) (el m d))) ⌝ }
+    {
+        Residue(wide::products(self.0, b.0, c.0, d.0, m.p, m.turn))
+    }
+
+    pub fn cross(self, b: Residue, c: Residue, d: Residue, m: Modulus) -> Residue
+        requires { ⌜ Kept m self × Kept m b × Kept m c × Kept m d ⌝ }
+        ensures { λ r. ⌜ Stands m r (zmod (m .p) .add (zmod (m .p) .mul (el m self) (el m b)) (zmod (m .p) .neg (zmod (m .p) .mul (el m c) (el m d)))) ⌝ }
+    {
+        Residue(wide::products(self.0, b.0, m.twice - c.0, d.0, m.p, m.turn))
+    }
+
+    // self to the n, modulo any odd number.
+    pub fn power(self, n: u64, m: Modulus) -> Residue
+        requires { ⌜ Kept m self ⌝ }
+        ensures { λ r. ⌜ Stands m r (power (zmod (m .p)) (el m self) n) ⌝ }
+    {
+        let mut x = Residue::one(m);
+        let mut y = self;
+        let mut k = n;
+        while 0 < k {
+            if k % 2 == 1 {
+                x = x.mul(y, m);
+                k = k - 1;
+                continue;
+            }
+            y = y.sqr(m);
+            k = k / 2;
+        }
+        x
+    }
+
     pub fn inverse(self, m: Modulus) -> Residue
         requires { ⌜ Unit m self ⌝ }
         ensures { λ r. ⌜ Inverts m self r ⌝ }
     {
-        let p = m.p;
-        let a = self.0;
-        let mut x: u64 = a;
-        let mut y: u64 = 1;
-        while 1 < x {
-            let q = p / x;
-            y = p - q * y % p;
-            x = p % x;
-        }
-        Residue(y)
+        let x = binary::almost(self.0, m.p);
+        Residue(binary::finish(x.s, x.k, m))
     }
 }

@@ -1,10 +1,12 @@
-// Prints sums, differences, products, opposites and inverses modulo several primes, and what the prime test says around its corners.
-// The expected text is made by tools/field_vectors.py, which shares no code with this.
+// Prints sums, differences, products, opposites and inverses modulo several primes, what the prime test says around its corners, and every
+// operation on residues at the edges of their range. The expected text is made by tools/field_vectors.py, which shares no code with this.
 ghost use Rattle.field.specs.Residues.{Good, Kept, Settled};
 use field::Modulus;
 use field::ModulusRead;
 use field::Residue;
 use field::ResidueRead;
+
+mod edges;
 
 const OUT: i32 = 1;
 
@@ -75,7 +77,7 @@ fn sample(p: u64, k: usize) -> u64 {
 }
 
 fn print_inverse(a: Residue, m: Modulus)
-    requires { ⌜ Settled m a ⌝ }
+    requires { ⌜ Good m × Settled m a ⌝ }
 {
     if a.is_zero(m) {
         io::write_all(OUT, b"none\n");
@@ -91,7 +93,7 @@ fn print_kept(r: Residue, m: Modulus)
 }
 
 fn print_pair(a: Residue, b: Residue, m: Modulus)
-    requires { ⌜ Settled m a × Settled m b ⌝ }
+    requires { ⌜ Good m × Settled m a × Settled m b ⌝ }
 {
     item(m.number());
     item(a.number(m));
@@ -104,7 +106,7 @@ fn print_pair(a: Residue, b: Residue, m: Modulus)
 }
 
 fn try_second(x: Residue, b: u64, m: Modulus)
-    requires { ⌜ Settled m x ⌝ }
+    requires { ⌜ Good m × Settled m x ⌝ }
 {
     match Residue::read(b, m) {
         ResidueRead::Below(y) => print_pair(x, y, m),
@@ -160,4 +162,5 @@ fn main() {
         k += 1;
     }
     print_primes();
+    edges::print_edges();
 }

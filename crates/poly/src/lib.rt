@@ -84,7 +84,7 @@ impl Poly {
     }
 
     pub fn constant(x: Residue, m: Modulus) -> Poly
-        requires { ⌜ Kept m x ⌝ }
+        requires { ⌜ Good m × Kept m x ⌝ }
         ensures { λ r. ⌜ Is m r (C (K m) (el m x)) 1 ⌝ }
     {
         Poly::zero(m).put(0, x, m)

@@ -1,4 +1,4 @@
-// A running total as a value: the sum of the divisors taken so far, and how many they were.
+// A running total as a value: the sum of the divisors taken so far, as plain numbers, and how many they were.
 ghost use Rattle.running.specs.Totals.{Fresh, ToTake, Taken};
 use curve::Curve;
 use divisor::Divisor;
@@ -18,14 +18,15 @@ impl Running {
         }
     }
 
-    pub fn take(self, c: Curve, d: Divisor) -> Running
-        requires { ⌜ ToTake c self d ⌝ }
-        ensures { λ r. ⌜ Taken c self d r ⌝ }
+    // One divisor more, where the total's own, taken up again, is `total`.
+    pub fn take(self, c: Curve, total: Divisor, d: Divisor) -> Running
+        requires { ⌜ ToTake c self total d ⌝ }
+        ensures { λ r. ⌜ Taken c self total d r ⌝ }
     {
-        let total = self.divisor;
         let n = self.count;
+        let m = c.m;
         Running {
-            divisor: c.sum(total, d),
+            divisor: numbers::stored(c.sum(total, d), m),
             count: n + 1,
         }
     }

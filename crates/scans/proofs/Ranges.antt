@@ -1,7 +1,7 @@
 -- Ranges of coefficients. Gives: a test at each place of the row decides all of a divisor's; what the tests decide is the rule's `below?`
--- of its numbers; a divisor in range is held, and is read from and written as its numbers.
-use Prim.Native.Nat.{ℕ, zero, suc, _+_, _*_, _≤_, _<_}
-use mathlib.Core.Path.{_≡_, refl, sym, ap, ap₂, _∙_, subst}
+-- of its numbers.
+use Prim.Native.Nat.{ℕ, suc, _+_, _*_, _≤_, _<_}
+use mathlib.Core.Path.{_≡_, refl, sym, _∙_, subst}
 use mathlib.Core.Bool.{Bool, true, false}
 use mathlib.Core.List.{List, [], _∷_, _++_, map}
 use native.Mathlib.Omega.{arith}
@@ -9,33 +9,24 @@ use borrow.Author.Tests.{lt-ltb, ltb-true}
 use lib.Dec.{ltb}
 use lib.ListN.{length, getD, take, length-map}
 use lib.Seq.{take-suc}
-use Rattle.rules.specs.Records.{both, below?, elements, numbers}
+use Rattle.rules.specs.Records.{both, below?}
 use Rattle.rules.proofs.calls.Tests.{both-true, true-both}
 use Rattle.field.specs.declared.Modulus.{Modulus}
 use Rattle.field.specs.declared.Residue.{Residue}
-use Rattle.field.specs.Residues.{el, raw, Good, InRange}
-use Rattle.field.proofs.Laws.{in-range-settled, number-is}
+use Rattle.field.specs.Residues.{raw, InRange}
 use Rattle.field.proofs.Decide.{otherwise}
 use Rattle.divisor.specs.declared.Divisor.{Divisor}
-use Rattle.divisor.specs.Divisors.{weightOf, us, vs, coefficients, pair, elements as values, AllSettled, RowOf, Held}
+use Rattle.divisor.specs.Divisors.{weightOf, us, vs, coefficients, RowOf}
 use Rattle.divisor.proofs.Laws.{length-us, length-vs}
 use Rattle.divisor.proofs.Rows.{length-coefficients, row-long, row-at}
-use Rattle.scans.specs.Scans.{ListIn, AllIn}
+use Rattle.numbers.specs.Plain.{ListIn, AllIn}
+use Rattle.numbers.proofs.Kept.{in-both, in-at}
 
 -- ---- the test, place by place along the row
 module _ (m : Modulus) where
-  in-both : (a b : List Residue) → ListIn m a → ListIn m b → ListIn m (a ++ b)
-  in-both [] b h k = k
-  in-both (x ∷ a) b h k = (h .0, in-both a b (h .1) k)
-
   in-parts : (a b : List Residue) → ListIn m (a ++ b) → ListIn m a × ListIn m b
   in-parts [] b h = (tt, h)
   in-parts (x ∷ a) b h = let t = in-parts a b (h .1) in ((h .0, t .0), t .1)
-
-  in-at : (l : List Residue) (k : ℕ) (z : Residue) → ListIn m l → k < length l → InRange m (getD l k z)
-  in-at [] k z h i = absurd (omega arith)
-  in-at (x ∷ l) zero z h i = h .0
-  in-at (x ∷ l) (suc k) z h i = in-at l k z (h .1) (omega arith)
 
   -- the first k are in range
   pub record Ranged (n : ℕ) (r : List Residue) (k : ℕ) : Type 0 where
@@ -46,11 +37,11 @@ module _ (m : Modulus) where
     pub range-turn : (z : Residue) → Ranged (2 * w) r k → k < 2 * w → InRange m (getD r k z) → Ranged (2 * w) r (k + 1)
     range-turn z t l i = record {
       within = omega arith;
-      all = subst (λ n. ListIn m (take n r)) {x = suc k} {y = k + 1} (omega arith) (rw (take-suc r k z (omega (arith, row-long d r h))) (in-both (take k r) (getD r k z ∷ []) (t .all) (i, tt)));
+      all = subst (λ n. ListIn m (take n r)) {x = suc k} {y = k + 1} (omega arith) (rw (take-suc r k z (omega (arith, row-long d r h))) (in-both m (take k r) (getD r k z ∷ []) (t .all) (i, tt)));
     }
 
     pub range-stop : (z : Residue) → k < 2 * w → (InRange m (getD r k z) → ⊥) → AllIn m d → ⊥
-    range-stop z l n a = n (subst (InRange m) (sym (row-at d r h k z (omega arith))) (in-at (coefficients d) k z (in-both (us d) (vs d) (a .0) (a .1)) (omega (arith, length-coefficients d))))
+    range-stop z l n a = n (subst (InRange m) (sym (row-at d r h k z (omega arith))) (in-at m (coefficients d) k z (in-both m (us d) (vs d) (a .0) (a .1)) (omega (arith, length-coefficients d))))
 
     pub range-end : Ranged (2 * w) r k → 2 * w ≤ k → AllIn m d
     range-end t l = in-parts (us d) (vs d) (subst (ListIn m) (h .is) (subst (λ n. ListIn m (take n r)) {x = k} {y = 2 * weightOf d} (omega (arith, t .within)) (t .all)))
@@ -67,21 +58,6 @@ module _ (m : Modulus) where
   below-only [] e = tt
   below-only (r ∷ l) e = let t = both-true (ltb (raw r) (m .p)) (below? (m .p) (map raw l)) e in (record { below = ltb-true (raw r) (m .p) (t .0) }, below-only l (t .1))
 
-  -- residues in range, as elements and as numbers
-  all-settled : Good m → (l : List Residue) → ListIn m l → AllSettled m l
-  all-settled g [] h = tt
-  all-settled g (r ∷ l) h = (in-range-settled m g (h .0), all-settled g l (h .1))
-
-  values-of : (l : List Residue) → elements (m .p) (map raw l) ≡ values m l
-  unfolding elements el
-  values-of [] = refl
-  values-of (r ∷ l) = ap (λ t. el m r ∷ t) (values-of l)
-
-  numbers-of : (l : List Residue) → AllSettled m l → map raw l ≡ numbers (m .p) (values m l)
-  unfolding numbers
-  numbers-of [] h = refl
-  numbers-of (r ∷ l) h = ap₂ _∷_ (number-is m r (h .0)) (numbers-of l (h .1))
-
   module _ (d : Divisor) where
     abbrev below-both : Bool
     below-both = both (below? (m .p) (map raw (us d))) (below? (m .p) (map raw (vs d)))
@@ -91,21 +67,6 @@ module _ (m : Modulus) where
 
     pub not-below : (AllIn m d → ⊥) → below-both ≡ false
     not-below n = otherwise below-both (λ e. let t = both-true (below? (m .p) (map raw (us d))) (below? (m .p) (map raw (vs d))) e in n (below-only (us d) (t .0), below-only (vs d) (t .1)))
-
-    pub held-of : Good m → AllIn m d → Held m d
-    held-of g h = record { good = g; u = all-settled g (us d) (h .0); v = all-settled g (vs d) (h .1) }
-
-    pub read-as : record { u = elements (m .p) (map raw (us d)); v = elements (m .p) (map raw (vs d)) } ≡ pair m d
-    unfolding pair
-    read-as = ap₂ (λ u v. record { u = u; v = v }) (values-of (us d)) (values-of (vs d))
-
-    pub written-u : Held m d → map raw (us d) ≡ numbers (m .p) (pair m d .u)
-    unfolding pair
-    written-u h = numbers-of (us d) (h .u)
-
-    pub written-v : Held m d → map raw (vs d) ≡ numbers (m .p) (pair m d .v)
-    unfolding pair
-    written-v h = numbers-of (vs d) (h .v)
 
 pub one-length : (d : Divisor) → length (map raw (vs d)) ≡ length (map raw (us d))
 one-length d = simp length-map (length-vs d ∙ sym (length-us d))

@@ -12,7 +12,8 @@ use Rattle.rules.specs.Records.{Checked, refused, taken, choose, PairOf}
 use Rattle.rules.specs.Lists.{most}
 use Rattle.rules.specs.Calls.{resume}
 use Rattle.rules.proofs.Demand3.{on-curve-test}
-use Rattle.field.specs.Residues.{raw, Good}
+use Rattle.field.specs.Residues.{raw}
+use Rattle.numbers.specs.Plain.{AllIn, Resumed}
 use Rattle.divisor.specs.declared.Divisor.{Divisor}
 use Rattle.divisor.specs.Divisors.{weightOf, us, vs, pair}
 use Rattle.divisor.proofs.Laws.{weight-is, weight-is-v}
@@ -20,9 +21,9 @@ use Rattle.curve.specs.declared.Curve.{Curve}
 use Rattle.curve.specs.Curves.{curveOf, Divided}
 use Rattle.running.specs.declared.Running.{Running}
 use Rattle.curve.specs.Record.{recordOf}
-use Rattle.scans.specs.Scans.{runningOf, AllIn, ResumeIs}
+use Rattle.scans.specs.Scans.{runningOf, ResumeIs}
 use Rattle.field.proofs.Decide.{otherwise}
-use Rattle.scans.proofs.Ranges.{all-below, not-below, held-of, read-as, one-length, length-raw}
+use Rattle.scans.proofs.Ranges.{all-below, not-below, one-length, length-raw}
 
 module _ (c : Curve) (t : Running) where
   abbrev d : Divisor
@@ -41,8 +42,8 @@ module _ (c : Curve) (t : Running) where
       (refused 15 0))
       (refused 15 0)
 
-  stops : (n : ℕ) → 0 < n → resume (recordOf c) (runningOf t) ≡ refused n 0 → ResumeIs c t n
-  stops n l e = record {
+  stops : (n : ℕ) (y : Divisor) → 0 < n → resume (recordOf c) (runningOf t) ≡ refused n 0 → ResumeIs c t (record { number = n; divisor = y })
+  stops n y l e = record {
     holds = λ z. absurd (omega arith);
     room = λ z. absurd (omega arith);
     takes = λ z. absurd (omega arith);
@@ -50,36 +51,36 @@ module _ (c : Curve) (t : Running) where
   }
 
   module _ (w : ℕ) (w-is : w ≡ weightOf d) where
-    pub heavy : c .g < w → ResumeIs c t 15
+    pub heavy : c .g < w → ResumeIs c t (record { number = 15; divisor = d })
     unfolding resume
-    heavy l = stops 15 (omega arith) (rw (lt-leb (length (map raw (us d))) (c .g) (omega (arith, length-raw d))))
+    heavy l = stops 15 d (omega arith) (rw (lt-leb (length (map raw (us d))) (c .g) (omega (arith, length-raw d))))
 
     module _ (light : w ≤ c .g) where
-      pub out-of-range : (AllIn (c .m) d → ⊥) → ResumeIs c t 15
+      pub out-of-range : (AllIn (c .m) d → ⊥) → ResumeIs c t (record { number = 15; divisor = d })
       unfolding resume
-      out-of-range n = stops 15 (omega arith) (rw (le-leb (length (map raw (us d))) (c .g) (omega (arith, length-raw d)), same, not-below (c .m) d n))
+      out-of-range n = stops 15 d (omega arith) (rw (le-leb (length (map raw (us d))) (c .g) (omega (arith, length-raw d)), same, not-below (c .m) d n))
 
-      module _ (all : AllIn (c .m) d) (good : Good (c .m)) where
-        rule-is : resume (recordOf c) (runningOf t) ≡ last (pair (c .m) d)
+      module _ (all : AllIn (c .m) d) (x : Divisor) (hx : Resumed (c .m) d x) where
+        rule-is : resume (recordOf c) (runningOf t) ≡ last (pair (c .m) x)
         unfolding resume
-        rule-is = rw (le-leb (length (map raw (us d))) (c .g) (omega (arith, length-raw d)), same, all-below (c .m) d all) refl ∙ ap last (read-as (c .m) d)
+        rule-is = rw (le-leb (length (map raw (us d))) (c .g) (omega (arith, length-raw d)), same, all-below (c .m) d all) refl ∙ ap last (hx .is)
 
-        pub off-curve : (Divided c d → ⊥) → ResumeIs c t 15
-        off-curve n = stops 15 (omega arith) (rule-is ∙ rw (otherwise (on-curve? (curveOf c) (pair (c .m) d)) (λ e. n (on-curve-test (curveOf c) (pair (c .m) d) .0 e))))
+        pub off-curve : (Divided c x → ⊥) → ResumeIs c t (record { number = 15; divisor = d })
+        off-curve n = stops 15 d (omega arith) (rule-is ∙ rw (otherwise (on-curve? (curveOf c) (pair (c .m) x)) (λ e. n (on-curve-test (curveOf c) (pair (c .m) x) .0 e))))
 
-        module _ (on : Divided c d) where
-          counted : resume (recordOf c) (runningOf t) ≡ choose (leb (t .count) most) (choose (ltb (t .count) most) (taken (pair (c .m) d)) (refused 14 0)) (refused 15 0)
-          counted = rule-is ∙ rw (on-curve-test (curveOf c) (pair (c .m) d) .1 on)
+        module _ (on : Divided c x) where
+          counted : resume (recordOf c) (runningOf t) ≡ choose (leb (t .count) most) (choose (ltb (t .count) most) (taken (pair (c .m) x)) (refused 14 0)) (refused 15 0)
+          counted = rule-is ∙ rw (on-curve-test (curveOf c) (pair (c .m) x) .1 on)
 
-          pub overfull : most < t .count → ResumeIs c t 15
-          overfull l = stops 15 (omega arith) (counted ∙ rw (lt-leb (t .count) most l))
+          pub overfull : most < t .count → ResumeIs c t (record { number = 15; divisor = d })
+          overfull l = stops 15 d (omega arith) (counted ∙ rw (lt-leb (t .count) most l))
 
-          pub full : t .count ≡ most → ResumeIs c t 14
-          full e = stops 14 (omega arith) (counted ∙ rw (le-leb (t .count) most (omega arith), le-ltb (t .count) most (omega arith)))
+          pub full : t .count ≡ most → ResumeIs c t (record { number = 14; divisor = d })
+          full e = stops 14 d (omega arith) (counted ∙ rw (le-leb (t .count) most (omega arith), le-ltb (t .count) most (omega arith)))
 
-          pub goes-on : t .count < most → ResumeIs c t 0
+          pub goes-on : t .count < most → ResumeIs c t (record { number = 0; divisor = x })
           goes-on l = record {
-            holds = λ z. record { held = held-of (c .m) d good all; valid = record { fits = omega (arith, weight-is (c .m) d, weight-is-v (c .m) d); small = omega (arith, weight-is (c .m) d); divides = on } };
+            holds = λ z. record { held = hx .held; valid = record { fits = omega (arith, weight-is (c .m) x, weight-is-v (c .m) x); small = omega (arith, weight-is (c .m) x, hx .weight); divides = on } };
             room = λ z. l;
             takes = λ z. counted ∙ rw (le-leb (t .count) most (omega arith), lt-ltb (t .count) most l);
             refuses = λ z. absurd (z refl);

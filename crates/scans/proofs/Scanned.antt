@@ -19,10 +19,10 @@ use Rattle.divisor_read.specs.declared.DivisorRead.the-variants.{Taken as Read,
 use Rattle.curve.specs.Record.{recordOf}
 use Rattle.curve_read.specs.Read.{CurveIs}
 use Rattle.divisor_read.specs.Read.{DivisorIs}
+use Rattle.scans.specs.declared.TakenUp.{TakenUp}
 use Rattle.scans.specs.declared.ScanAnswer.{ScanAnswer}
 use Rattle.scans.specs.declared.ScanAnswer.the-variants.{Done, Refused}
 use Rattle.scans.specs.Scans.{runningOf, scannedOf, ResumeIs}
-use Rattle.scans.proofs.Ranges.{written-u, written-v}
 
 module _ (c : Curve) (t : Running) (a : List ℕ) where
   abbrev rule : RuleRunning
@@ -39,30 +39,30 @@ module _ (c : Curve) (t : Running) (a : List ℕ) where
   unfolding scan-on
   rule-is = refl
 
-  module _ (n : ℕ) (h : ResumeIs c t n) where
-    pub not-resumed : (n ≡ 0 → ⊥) → scannedOf t (Refused n 0) ≡ scan-on (recordOf c) rule a
+  module _ (r : TakenUp) (h : ResumeIs c t r) where
+    pub not-resumed : (r .number ≡ 0 → ⊥) → scannedOf t (Refused (r .number) 0) ≡ scan-on (recordOf c) rule a
     not-resumed z = sym (rule-is ∙ ap (λ x. check x (not-scanned rule) rest) (h .refuses z))
 
-    module _ (z : n ≡ 0) where
-      resumed : scan-on (recordOf c) rule a ≡ rest (pair (c .m) (t .divisor))
+    module _ (z : r .number ≡ 0) where
+      resumed : scan-on (recordOf c) rule a ≡ rest (pair (c .m) (r .divisor))
       resumed = rule-is ∙ ap (λ x. check x (not-scanned rule) rest) (h .takes z)
 
       module _ (b : DivisorRead) (b-is : DivisorIs c true a 0 b) where
         pub not-read : (k : ℕ) → b ≡ NotRead k → scannedOf t (Refused k 1) ≡ scan-on (recordOf c) rule a
-        not-read k e = sym (resumed ∙ ap (λ x. check x (not-scanned rule) (λ y. made (sum (curveOf c) (pair (c .m) (t .divisor)) y))) (subst (DivisorIs c true a 0) e b-is 1))
+        not-read k e = sym (resumed ∙ ap (λ x. check x (not-scanned rule) (λ y. made (sum (curveOf c) (pair (c .m) (r .divisor)) y))) (subst (DivisorIs c true a 0) e b-is 1))
 
         module _ (d : Divisor) (e : b ≡ Read d) where
           read : DivisorIs c true a 0 (Read d)
           read = subst (DivisorIs c true a 0) e b-is
 
-          pub to-take : Sound c → ToTake c t d
+          pub to-take : Sound c → ToTake c t (r .divisor) d
           to-take s = record { sound = s; total = h .holds z; taken = read .0; room = omega (arith, h .room z) }
 
-          pub scanned : (x : Running) → Taken c t d x → scannedOf t (Done x) ≡ scan-on (recordOf c) rule a
-          scanned x k = total-is ∙ ap made (k .gives .is) ∙ sym (resumed ∙ ap (λ q. check q (not-scanned rule) (λ y. made (sum (curveOf c) (pair (c .m) (t .divisor)) y))) (read .1 1))
+          pub scanned : (x : Running) → Taken c t (r .divisor) d x → scannedOf t (Done x) ≡ scan-on (recordOf c) rule a
+          scanned x k = total-is ∙ sym (resumed ∙ ap (λ q. check q (not-scanned rule) (λ y. made (sum (curveOf c) (pair (c .m) (r .divisor)) y))) (read .1 1))
             where
-              total-is : scannedOf t (Done x) ≡ made (pair (c .m) (x .divisor))
-              total-is = λ i. record { answer = done 0; total = record { u = written-u (c .m) (x .divisor) (k .gives .holds .held) i; v = written-v (c .m) (x .divisor) (k .gives .holds .held) i; count = k .count-is i } }
+              total-is : scannedOf t (Done x) ≡ made (sum (curveOf c) (pair (c .m) (r .divisor)) (pair (c .m) d))
+              total-is = λ i. record { answer = done 0; total = record { u = k .u-is i; v = k .v-is i; count = k .count-is i } }
 
 -- the curve first
 module _ (t : Running) (s a : List ℕ) (r : CurveRead) (h : CurveIs s r) where

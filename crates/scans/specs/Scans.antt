@@ -1,19 +1,17 @@
 -- The running total in code, as the rule has it: its divisor by the numbers it is written as, and its count.
-use Prim.Native.Nat.{ℕ, _<_}
+use Prim.Native.Nat.{_<_}
 use mathlib.Core.Path.{_≡_}
-use mathlib.Core.List.{List, [], _∷_, map}
+use mathlib.Core.List.{map}
 use Rattle.rules.specs.Records.{refused, taken}
 use Rattle.rules.specs.Lists.{most}
 use Rattle.rules.specs.Calls.{Running as RuleRunning, Scanned, done, not-scanned, resume}
-use Rattle.field.specs.declared.Modulus.{Modulus}
-use Rattle.field.specs.declared.Residue.{Residue}
-use Rattle.field.specs.Residues.{raw, InRange}
-use Rattle.divisor.specs.declared.Divisor.{Divisor}
+use Rattle.field.specs.Residues.{raw}
 use Rattle.divisor.specs.Divisors.{us, vs, pair}
 use Rattle.curve.specs.declared.Curve.{Curve}
 use Rattle.curve.specs.Curves.{Holds}
 use Rattle.running.specs.declared.Running.{Running}
 use Rattle.curve.specs.Record.{recordOf}
+use Rattle.scans.specs.declared.TakenUp.{TakenUp}
 use Rattle.scans.specs.declared.ScanAnswer.{ScanAnswer}
 use Rattle.scans.specs.declared.ScanAnswer.the-variants.{Done, Refused}
 
@@ -25,16 +23,8 @@ abbrev pub scannedOf : Running → ScanAnswer → Scanned
 scannedOf t (Done r) = record { answer = done 0; total = runningOf r }
 scannedOf t (Refused n k) = not-scanned (runningOf t) n k
 
--- every coefficient is below p
-abbrev pub ListIn : Modulus → List Residue → Type 0
-ListIn m [] = Unit {0}
-ListIn m (r ∷ l) = InRange m r × ListIn m l
-
-abbrev pub AllIn : Modulus → Divisor → Type 0
-AllIn m d = ListIn m (us d) × ListIn m (vs d)
-
-pub record ResumeIs (c : Curve) (t : Running) (n : ℕ) : Type 0 where
-  pub holds : n ≡ 0 → Holds c (t .divisor)
-  pub room : n ≡ 0 → t .count < most
-  pub takes : n ≡ 0 → resume (recordOf c) (runningOf t) ≡ taken (pair (c .m) (t .divisor))
-  pub refuses : (n ≡ 0 → ⊥) → resume (recordOf c) (runningOf t) ≡ refused n 0
+pub record ResumeIs (c : Curve) (t : Running) (r : TakenUp) : Type 0 where
+  pub holds : r .number ≡ 0 → Holds c (r .divisor)
+  pub room : r .number ≡ 0 → t .count < most
+  pub takes : r .number ≡ 0 → resume (recordOf c) (runningOf t) ≡ taken (pair (c .m) (r .divisor))
+  pub refuses : (r .number ≡ 0 → ⊥) → resume (recordOf c) (runningOf t) ≡ refused (r .number) 0

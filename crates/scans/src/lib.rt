@@ -4,7 +4,8 @@ ghost use Rattle.rules.specs.Calls.{scan-call, scan-on};
 ghost use Rattle.field.specs.Primes.{Decides};
 ghost use Rattle.curve.specs.Curves.{Sound};
 ghost use Rattle.curve.specs.Record.{recordOf};
-ghost use Rattle.scans.specs.Scans.{AllIn, ResumeIs, runningOf, scannedOf};
+ghost use Rattle.numbers.specs.Plain.{AllIn};
+ghost use Rattle.scans.specs.Scans.{ResumeIs, runningOf, scannedOf};
 use curve::Curve;
 use divisor::Divisor;
 use divisor_read::DivisorRead;
@@ -33,28 +34,50 @@ pub fn in_range(d: Divisor, m: Modulus) -> bool
     true
 }
 
-// 15, 14, or 0 where the total can go on.
-fn resume_number(c: Curve, t: Running) -> u64
+// A total's divisor taken up again, beside 0; or beside 15 or 14, where it can't go on, any divisor.
+struct TakenUp {
+    number: u64,
+    divisor: Divisor,
+}
+
+fn take_up(c: Curve, t: Running) -> TakenUp
     requires { ⌜ Sound c ⌝ }
     ensures { λ r. ⌜ ResumeIs c t r ⌝ }
 {
     let d = t.divisor;
     let g = c.g;
+    let m = c.m;
     if g < d.weight() {
-        return 15;
+        return TakenUp {
+            number: 15,
+            divisor: d,
+        };
     }
-    if in_range(d, c.m) {
-        if c.carries(d) {
+    if in_range(d, m) {
+        let x = numbers::resumed(d, m);
+        if c.carries(x) {
             if 4096 < t.count {
-                return 15;
+                return TakenUp {
+                    number: 15,
+                    divisor: d,
+                };
             }
             if t.count == 4096 {
-                return 14;
+                return TakenUp {
+                    number: 14,
+                    divisor: d,
+                };
             }
-            return 0;
+            return TakenUp {
+                number: 0,
+                divisor: x,
+            };
         }
     }
-    15
+    TakenUp {
+        number: 15,
+        divisor: d,
+    }
 }
 
 // On a curve that was taken.
@@ -62,12 +85,14 @@ pub fn scan_on(c: Curve, t: Running, record: &[u8]) -> ScanAnswer
     requires { ⌜ Sound c ⌝ }
     ensures { λ r. ⌜ scannedOf t r ≡ scan-on (recordOf c) (runningOf t) (now («record» .entry)) ⌝ }
 {
-    let number = resume_number(c, t);
+    let x = take_up(c, t);
+    let number = x.number;
+    let total = x.divisor;
     if number != 0 {
         return ScanAnswer::Refused(number, 0);
     }
     match divisor_read::divisor_at(c, true, record, 0) {
-        DivisorRead::Taken(d) => ScanAnswer::Done(t.take(c, d)),
+        DivisorRead::Taken(d) => ScanAnswer::Done(t.take(c, total, d)),
         DivisorRead::Refused(n) => ScanAnswer::Refused(n, 1),
     }
 }

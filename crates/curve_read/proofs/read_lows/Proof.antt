@@ -40,7 +40,7 @@ enum-known-x : tie.Need-enum-known-x Inv-loop μ-loop
 enum-known-x c = search needs
 
 put-requires : tie.Need-put-requires Inv-loop μ-loop
-put-requires c κs = let s = c .before .before .before .before .before .before .before .before .before in lows-put (s .args .s .now) (s .args .g) (s .args .m) _ _ _ (s .pre) (c .before .before .before .before .before .before .loop .inv) (omega arith) (read-below _ _ _ _ _ (s .pre .good) (c .before .before .before .read .ensures) (c .before .x .given .1) (c .before .before .before .before .read64 .ensures))
+put-requires c κs = let s = c .before .before .before .before .before .before .before .before .before in lows-put (s .args .s .now) (s .args .g) (s .args .m) _ _ _ (s .pre) (c .before .before .before .before .before .before .loop .inv) (omega arith) (read-below _ _ _ _ _ (c .before .before .before .read .ensures) (c .before .x .given .1) (c .before .before .before .before .read64 .ensures))
 
 enum-told : tie.Need-enum-told Inv-loop μ-loop
 enum-told c = search needs
@@ -55,7 +55,7 @@ loop-less : tie.Need-loop-less Inv-loop μ-loop
 loop-less c = search needs
 
 loop-again : tie.Need-loop-again Inv-loop μ-loop
-loop-again c = let s = c .before .before .before .before .before .before .before .before .before .before in lows-turn (s .args .s .now) (s .args .g) (s .args .m) _ _ _ _ (c .before .before .before .before .before .before .before .loop .inv) (omega arith) (read-below _ _ _ _ _ (s .pre .good) (c .before .before .before .before .read .ensures) (c .before .before .x .given .1) (c .before .before .before .before .before .read64 .ensures)) (c .put .ensures)
+loop-again c = let s = c .before .before .before .before .before .before .before .before .before .before in lows-turn (s .args .s .now) (s .args .g) (s .args .m) _ _ _ _ (c .before .before .before .before .before .before .before .loop .inv) (omega arith) (read-below _ _ _ _ _ (c .before .before .before .before .read .ensures) (c .before .before .x .given .1) (c .before .before .before .before .before .read64 .ensures)) (c .put .ensures)
 
 returns-2 : tie.Need-returns-2 Inv-loop μ-loop
 returns-2 c = lows-end _ _ _ _ _ (c .before .loop .inv) (omega arith)

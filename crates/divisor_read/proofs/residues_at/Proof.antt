@@ -53,7 +53,7 @@ loop-less : tie.Need-loop-less Inv-loop μ-loop
 loop-less c = search needs
 
 loop-again : tie.Need-loop-again Inv-loop μ-loop
-loop-again c = let s = c .before .before .before .before .before .before .before .before .before in fill-turn (s .args .s .now) (s .args .a) (s .args .n) (s .args .m) _ _ _ (s .pre .1) (c .before .before .before .before .before .before .loop .inv) (omega arith) (read-below _ _ _ _ _ (s .pre .0) (c .before .before .before .read .ensures) (c .before .x .given .1) (c .before .before .before .before .read64 .ensures))
+loop-again c = let s = c .before .before .before .before .before .before .before .before .before in fill-turn (s .args .s .now) (s .args .a) (s .args .n) (s .args .m) _ _ _ (s .pre .1) (c .before .before .before .before .before .before .loop .inv) (omega arith) (read-below _ _ _ _ _ (c .before .before .before .read .ensures) (c .before .x .given .1) (c .before .before .before .before .read64 .ensures))
 
 returns-2 : tie.Need-returns-2 Inv-loop μ-loop
 returns-2 c = fill-end _ _ _ _ _ _ (c .before .loop .inv) (omega arith)

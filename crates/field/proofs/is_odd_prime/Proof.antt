@@ -1,7 +1,7 @@
 use native.Mathlib.Omega.{arith}
 use borrow.Author.Needs.{needs}
 use Prim.Native.Nat.{_-_}
-use Rattle.field.proofs.Laws.{fits}
+use Rattle.field.proofs.Trial.{fits}
 use Rattle.field.proofs.Trial.{Tried, tried-begin, room, tried-turn, tried-end, not-even, not-divided}
 use Rattle.field.proofs.is_odd_prime.Statement.{statement}
 use Rattle.field.proofs.is_odd_prime.Tie as tie

@@ -33,6 +33,9 @@ loop-again c = search needs
 print-primes-requires : tie.Need-print-primes-requires Inv-loop μ-loop
 print-primes-requires c κs = search needs
 
+print-edges-requires : tie.Need-print-edges-requires Inv-loop μ-loop
+print-edges-requires c κs = search needs
+
 returns : tie.Need-returns Inv-loop μ-loop
 returns c = search needs
 
@@ -50,4 +53,5 @@ main-spec =
     loop-less
     loop-again
     print-primes-requires
+    print-edges-requires
     returns)

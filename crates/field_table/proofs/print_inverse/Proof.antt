@@ -17,7 +17,7 @@ write-all-requires : tie.Need-write-all-requires
 write-all-requires c κs = search needs
 
 inverse-requires : tie.Need-inverse-requires
-inverse-requires c κs = let s = c .before .before in record { kept = settled-kept (s .args .m) (s .pre); nonzero = subst (λ b. Decides b (el (s .args .m) (s .args .a) ≡ zmod (s .args .m .p) .zer)) (c .if1 .left) (c .before .is-zero .ensures) }
+inverse-requires c κs = let s = c .before .before in record { good = s .pre .0; kept = settled-kept (s .args .m) (s .pre .1); nonzero = subst (λ b. Decides b (el (s .args .m) (s .args .a) ≡ zmod (s .args .m .p) .zer)) (c .if1 .left) (c .before .is-zero .ensures) }
 
 settle-requires : tie.Need-settle-requires
 settle-requires c κs = search needs

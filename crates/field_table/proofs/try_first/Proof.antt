@@ -12,7 +12,7 @@ enum-known-x : tie.Need-enum-known-x
 enum-known-x c = search needs
 
 try-second-requires : tie.Need-try-second-requires
-try-second-requires c κs = let s = c .before .before .before .before in (subst (λ (r : ResidueRead). ResidueIs (s .args .m) (s .args .a) r) (c .before .x .given .1) (c .before .before .before .read .ensures)) .2 (s .pre) .settled
+try-second-requires c κs = let s = c .before .before .before .before in (s .pre, (subst (λ (r : ResidueRead). ResidueIs (s .args .m) (s .args .a) r) (c .before .x .given .1) (c .before .before .before .read .ensures)) .1 .settled)
 
 enum-told : tie.Need-enum-told
 enum-told c = search needs

@@ -12,7 +12,7 @@ enum-known-y : tie.Need-enum-known-y
 enum-known-y c = search needs
 
 print-pair-requires : tie.Need-print-pair-requires
-print-pair-requires c κs = let s = c .before .before .before .before in (s .pre, (subst (λ (r : ResidueRead). ResidueIs (s .args .m) (s .args .b) r) (c .before .y .given .1) (c .before .before .before .read .ensures)) .2 (s .pre .good) .settled)
+print-pair-requires c κs = let s = c .before .before .before .before in (s .pre .0, s .pre .1, (subst (λ (r : ResidueRead). ResidueIs (s .args .m) (s .args .b) r) (c .before .y .given .1) (c .before .before .before .read .ensures)) .1 .settled)
 
 enum-told : tie.Need-enum-told
 enum-told c = search needs

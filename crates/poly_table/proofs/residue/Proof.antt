@@ -19,7 +19,7 @@ one-requires : tie.Need-one-requires
 one-requires c κs = search needs
 
 returns : tie.Need-returns
-returns c = let s = c .before .before .before .before in settled-kept (s .args .m) ((subst (λ (r : ResidueRead). ResidueIs (s .args .m) (s .args .x) r) (c .before .r .given .1) (c .before .before .before .read .ensures)) .2 (s .pre) .settled)
+returns c = let s = c .before .before .before .before in settled-kept (s .args .m) ((subst (λ (r : ResidueRead). ResidueIs (s .args .m) (s .args .x) r) (c .before .r .given .1) (c .before .before .before .read .ensures)) .1 .settled)
 
 returns-2 : tie.Need-returns-2
 returns-2 c = settled-kept (c .before .before .before .before .args .m) (c .one .ensures .settled)

@@ -1,14 +1,15 @@
-use native.Mathlib.Omega.{arith}
-use mathlib.Core.Path.{refl}
-use Rattle.algebra.proofs.zmod.Prime.{is-prime, prime-by-test}
+use mathlib.Core.Path.{refl, sym, subst}
+use Rattle.algebra.proofs.zmod.Prime.{Prime, is-prime, prime-by-test}
+use Prim.Native.Nat.{ℕ}
+use borrow.Author.Needs.{needs}
 use Rattle.field.proofs.Modulus.least.Statement.{statement}
 use Rattle.field.proofs.Modulus.least.Tie as tie
-use Rattle.field.proofs.Modulus.least.Reads as reads
-use Rattle.field.proofs.Modulus.least.Lts as lts
 
--- src/lib.rt:64:5
+of-requires : tie.Need-of-requires
+of-requires c κs = search needs
+
 returns : tie.Need-returns
-returns c = record { prime = record { is = prime-by-test 3 (unfold is-prime in refl); odd = omega arith; small = omega arith } }
+returns c = record { ring = c .of .ensures .ring; prime = subst (λ (n : ℕ). Prime n) (sym (c .of .ensures .is)) (prime-by-test 3 (unfold is-prime in refl)) }
 
 pub least-spec : {M : Type 1} → statement M
-least-spec = tie.close (tie.spec returns)
+least-spec = tie.close (tie.spec of-requires returns)

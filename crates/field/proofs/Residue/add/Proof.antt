@@ -1,10 +1,12 @@
+use native.Mathlib.Omega.{arith}
+use Rattle.field.proofs.Bounds.{room}
 use Rattle.field.proofs.Sums.{sum-below, sum-past}
 use borrow.Author.Needs.{needs}
 use Rattle.field.proofs.Residue.add.Statement.{statement}
 use Rattle.field.proofs.Residue.add.Tie as tie
 
 add-sum : tie.Need-add-sum
-add-sum c = search needs
+add-sum c = let s = c .before .before in room (s .pre .0 .ring .turns .most) _ (omega (arith, s .pre .0 .below, s .pre .1 .below))
 
 returns : tie.Need-returns
 returns c = let s = c .before .before .before .before in sum-below (s .args .m) (s .args .self) (s .pre .0) (s .args .other) (s .pre .1) (c .if1 .taken)

@@ -3,7 +3,7 @@ use Rattle.field.proofs.Residue.is_zero.Statement.{statement}
 use Rattle.field.proofs.Residue.is_zero.Tie as tie
 
 returns : tie.Need-returns
-returns c = let s = c .before .before in zero-of (s .args .m) (s .args .self) (c .if1 .taken)
+returns c = let s = c .before .before in zero-of (s .args .m) (s .args .self) (s .pre) (c .if1 .taken)
 
 returns-2 : tie.Need-returns-2
 returns-2 c = λ e. let s = c .before .before in c .if1 .left (zero-only (s .args .m) (s .args .self) (s .pre) e)

@@ -16,7 +16,7 @@ abbrev μ-loop : tie.MeasureT-loop
 μ-loop self m one i₀ r₀ n k₀ i r k = n - k
 
 one-requires : tie.Need-one-requires Inv-loop μ-loop
-one-requires c κs = c .pre .fill .good
+one-requires c κs = c .pre .fill .good .ring
 
 zero-requires : tie.Need-zero-requires Inv-loop μ-loop
 zero-requires c κs = search needs

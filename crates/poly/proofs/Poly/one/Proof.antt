@@ -8,7 +8,7 @@ one-requires : tie.Need-one-requires
 one-requires c κs = search needs
 
 constant-requires : tie.Need-constant-requires
-constant-requires c κs = settled-kept (c .before .args .m) (c .one .ensures .settled)
+constant-requires c κs = (c .before .pre, settled-kept (c .before .args .m) (c .one .ensures .settled))
 
 returns : tie.Need-returns
 returns c = one-is (c .before .before .args .m) (c .before .one .ensures) (c .constant .ensures)

@@ -9,7 +9,7 @@ lead-requires : tie.Need-lead-requires
 lead-requires c κs = search needs
 
 inverse-requires : tie.Need-inverse-requires
-inverse-requires c κs = let s = c .before in record { kept = c .lead .ensures .kept; nonzero = λ e. s .pre .ok .size .top (s .pre .some) (sym (c .lead .ensures .is) ∙ e) }
+inverse-requires c κs = let s = c .before in record { good = s .pre .ok .fill .good; kept = c .lead .ensures .kept; nonzero = λ e. s .pre .ok .size .top (s .pre .some) (sym (c .lead .ensures .is) ∙ e) }
 
 returns : tie.Need-returns
 returns c = let s = c .before .before in (c .inverse .ensures .kept, ap (λ t. K (s .args .m) .mul t (el (s .args .m) (c .inverse .result))) (sym (c .before .lead .ensures .is)) ∙ c .inverse .ensures .is)

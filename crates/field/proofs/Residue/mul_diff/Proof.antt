@@ -1,0 +1,21 @@
+use native.Mathlib.Omega.{arith}
+use Rattle.field.proofs.Bounds.{room}
+use Rattle.field.proofs.Products.{diff-requires, mul-diff-is}
+use borrow.Author.Needs.{needs}
+use Rattle.field.proofs.Residue.mul_diff.Statement.{statement}
+use Rattle.field.proofs.Residue.mul_diff.Tie as tie
+
+add-product : tie.Need-add-product
+add-product c = let s = c .before .before in room (s .pre .0 .ring .turns .most) _ (omega (arith, s .pre .1 .below, s .pre .0 .ring .twice))
+
+sub-product : tie.Need-sub-product
+sub-product c = search needs
+
+product-requires : tie.Need-product-requires
+product-requires c κs = let s = c .before .before .before in diff-requires (s .args .m) (s .args .self) (s .pre .0) (s .args .b) (s .pre .1) (s .args .c) (s .pre .2)
+
+returns : tie.Need-returns
+returns c = let s = c .before .before .before .before in mul-diff-is (s .args .m) (s .args .self) (s .pre .0) (s .args .b) (s .pre .1) (s .args .c) (s .pre .2) (c .product .ensures)
+
+pub mul-diff-spec : {M : Type 1} → statement M
+mul-diff-spec = tie.close (tie.spec add-product sub-product product-requires returns)

@@ -1,0 +1,3 @@
+pub mod Words
+pub mod Reduced
+pub mod Newton
