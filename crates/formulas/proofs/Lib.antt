@@ -1,0 +1,6 @@
+pub mod Chord
+pub mod Turns
+pub mod Lists
+pub mod Formula
+pub mod Opened
+pub mod Genus2

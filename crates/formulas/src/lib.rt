@@ -1,0 +1,37 @@
+// When a sum is made by formula, for every table of both genera. Four conditions, and nothing else goes by formula:
+// 1. both divisors have weight g (`Curve::quick_sum`, `quick_double`: the two cases of a divisor are matched there);
+// 2. in genus 3, f_6 = 0 (`Curve::quick_three`, `twice_three`);
+// 3. r isn't 0, so that u of the one has an inverse modulo u of the other (of a double: 2v modulo u);
+// 4. the top coefficient of s' isn't 0. Genus 2 also takes s' of lower degree, by formulae of its own.
+// 3 and 4 are looked at here, once. Whatever fails one of them goes to the plain sum.
+ghost use Rattle.field.specs.Residues.{Settled};
+ghost use Rattle.formulas.specs.Conditions.{Looked};
+use divisor::Divisor;
+use field::Modulus;
+use field::Residue;
+
+// What a formula finds: the sum, or that its pair is one that it doesn't take.
+pub enum Sought {
+    Found(Divisor),
+    Special,
+}
+
+// r = 0; s' of lower degree; neither.
+pub enum Condition {
+    Special,
+    Flat,
+    Main,
+}
+
+pub fn look(r: Residue, top: Residue, m: Modulus) -> Condition
+    requires { ⌜ Settled m r × Settled m top ⌝ }
+    ensures { λ x. ⌜ Looked m r top x ⌝ }
+{
+    if r.is_zero(m) {
+        return Condition::Special;
+    }
+    if top.is_zero(m) {
+        return Condition::Flat;
+    }
+    Condition::Main
+}
