@@ -3,14 +3,60 @@
 #
 #     bash tools/bench.sh [RUNS]        (15 where left out)
 #
-# builds both into one program and prints, for genus 2 and 3, the median time of a batch total of 4,096 records and of a
-# 256-bit multiple, and the ratio. Then it counts the instructions of each, exactly, by Debian's qemu-user or by valgrind,
-# whichever is there. Under an emulator times say nothing but their ratio.
+# looks at the library's product of residues, and exits 1 where the compiler didn't make one multiplication of each product of
+# words; builds both into one program and prints, for genus 2, genus 3 with f_6 = 0 and genus 3 with another f_6, the median
+# time of a batch total of 4,096 records and of a 256-bit multiple, and the ratio. Then it counts the instructions of
+# each, exactly, by Debian's qemu-user or by valgrind, whichever is there. Under an emulator times say nothing but their ratio.
 set -eu
 cd "$(dirname "$0")/.."
 . tools/foreign.sh
 want_rust
 library
+
+# The product of two words is written by halves, since no type here is wider than a word, and the compiler is to make one
+# multiplication of it. Then a product of residues has three, one and two for its reduction, or four where the compiler multiplies a
+# factor that it uses again by 1/p first; a sum of two products has four. Not folded a product has nine or more. These functions are
+# straight and stand by themselves in the library: how many products and sums of two products each has is by its source.
+objdump=objdump binutils=binutils
+[ ${#emulator[@]} = 0 ] || objdump=x86_64-linux-gnu-objdump binutils=binutils-x86-64-linux-gnu
+want $objdump $binutils
+say "multiplications in the library's products"
+$objdump -d --no-show-raw-insn "$YUBI_LIB_DIR/libtablet.a" | awk '
+    function known(short, products, sums) { source[short] = 3 * products + 4 * sums; most[short] = 4 * (products + sums) }
+    BEGIN { known("genus2::rest", 2, 2); known("opens3::times", 1, 6); known("genus3::rest", 1, 4); known("genus3::second", 4, 3) }
+    /^[0-9a-f]+ <.*>:$/ {
+        name = $2
+        gsub(/^<|>:$/, "", name)
+        short = name
+        sub(/^.*::/, "", short)
+        if (name in most) { seen[name] = 1 }
+        at = 0
+        wide = 0
+    }
+    /^ *[0-9a-f]+:\t/ {
+        at++
+        if ($2 ~ /^(mul|imul|mulx)q?$/) { of[name]++ }
+        # The modulus is made by six squares in a row: from one to the next is a product whole.
+        if (short == "read_curve" && $2 ~ /^mulq?$/) {
+            place[++wide] = at
+            if (wide > 2 && ++times[at - place[wide - 2]] > times[step]) { step = at - place[wide - 2] }
+        }
+    }
+    END {
+        split("genus2::rest opens3::times genus3::rest genus3::second", order)
+        for (k = 1; k in order; k++) {
+            name = order[k]
+            if (!(name in seen)) { continue }
+            count++
+            printf "%-16s %3d, by the source %d, at most %d\n", name, of[name], source[name], most[name]
+            if (of[name] > most[name]) { bad = 1 }
+        }
+        if (step) { printf "a product after a product: %d instructions, at most 10\n", step }
+        if (step > 10) { bad = 1 }
+        if (!count) { print "none of the functions looked for stands by itself: look again, and name others here"; bad = 1 }
+        exit bad
+    }' || fail "a product of two words isn't one multiplication"
+
 rust_program bench
 bench=target/foreign/bench
 
@@ -18,7 +64,7 @@ bench=target/foreign/bench
 say "times"
 "${emulator[@]}" $bench "${1:-15}"
 
-# instructions ENGINE WORK GENUS ROUNDS: what a run of the program executes.
+# instructions ENGINE WORK CURVE ROUNDS: what a run of the program executes.
 if command -v qemu-x86_64 >/dev/null; then
     counter="qemu-x86_64 with bindings/bench/insn.c"
     want cc gcc libc6-dev
@@ -37,18 +83,19 @@ else
 fi
 
 say "instructions, by $counter: two runs that differ in one round"
-for genus in 2 3; do
+declare -A names=([2]="genus 2" [3]="genus 3, f_6 = 0" [3-f6]="genus 3, f_6 ≠ 0")
+for curve in 2 3 3-f6; do
     for work in total multiple; do
         counts=()
         for engine in proved plain; do
-            one=$(instructions $engine $work $genus 1)
-            two=$(instructions $engine $work $genus 2)
+            one=$(instructions $engine $work $curve 1)
+            two=$(instructions $engine $work $curve 2)
             if [ -z "$one" ] || [ -z "$two" ]; then
-                fail "the counter of instructions failed on $engine $work $genus"
+                fail "the counter of instructions failed on $engine $work $curve"
             fi
             counts+=($((two - one)))
         done
-        awk -v g=$genus -v w=$work -v proved="${counts[0]}" -v plain="${counts[1]}" \
-            'BEGIN { printf "genus %d %-8s  proved %12d   plain %12d   ratio %.2f\n", g, w, proved, plain, proved / plain }'
+        ratio=$(awk -v proved="${counts[0]}" -v plain="${counts[1]}" 'BEGIN { printf "%.2f", proved / plain }')
+        printf '%-16s %-8s  proved %12d   plain %12d   ratio %s\n' "${names[$curve]}" $work "${counts[@]}" "$ratio"
     done
 done

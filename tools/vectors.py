@@ -18,6 +18,7 @@ import os
 import sys
 from collections import Counter
 
+import classes
 import corners
 import ideals
 import reference as r
@@ -27,9 +28,9 @@ from frames import (
     read_parts, text_of,
 )  # fmt: skip
 
-PRIMES = (3, 5, 7, 11, 1009, 65537, 2147483629, 2147483647)
+PRIMES = classes.PRIMES
 GENERA = (2, 3)
-MOST_BYTES = 930000  # of input and expected text together: both stand in the repository
+MOST_BYTES = 990000  # of input and expected text together: both stand in the repository, with some 55,000 of the corners
 ENOUGH = 20  # of each main kind of sum, per genus and prime
 NEUTRAL_RECORD = r.write_divisor(r.NEUTRAL)
 
@@ -338,7 +339,7 @@ ASKED_SHAPES = 2  # of each shape, per prime, where the tries come by them
 
 class Collection:
     def __init__(self):
-        self.frames, self.seen, self.orders = [], set(), Counter()
+        self.frames, self.seen, self.orders, self.classes = [], set(), Counter(), Counter()
 
     def put(self, frame):
         """Takes a frame once; says whether it was new."""
@@ -391,8 +392,32 @@ def pools_for(dice, g, p):
     return [pool for pool in pools if pool.has_divisors]
 
 
-def put_sums(dice, collection, g, p, pools):
-    counts = Counter()
+def put_sum(dice, collection, curve, a, b):
+    """A sum, or a double where b is None, that is done; says whether it was new, and counts its class then."""
+    records = [r.write_divisor(divisor) for divisor in (a, b) if divisor is not None]
+    frame = Frame(DOUBLE if b is None else ADD, r.write_curve(curve), *records)
+    new = collection.put(frame._replace(output=enough_output(dice, need_of(frame))))
+    if new:
+        collection.classes[classes.class_of(curve, a, b)] += 1
+    return new
+
+
+def put_classes(dice, collection, g, p):
+    """Pairs of the classes that a formula must tell apart, until there are as many as are asked for by this prime. Answers the
+    kinds of the sums."""
+    kinds = Counter()
+    for key in classes.CLASSES:
+        while key[0] == g and collection.classes[key] < classes.asked(key, p):
+            drawn = classes.drawn(dice, key, p)
+            if drawn is None:
+                break
+            if put_sum(dice, collection, *drawn) and key[1] == "add":
+                kinds.update(kinds_of_sum(*drawn) | {shape_of_sum(*drawn)})
+    return kinds
+
+
+def put_sums(dice, collection, g, p, pools, counts):
+    """Sums of every kind and shape; `counts` has those that are there."""
     wanted = {**KINDS, **{shape: ASKED_SHAPES for shape in SHAPES}}
     if g == 2:
         wanted[TWO_STEPS] = 0  # never more than g - 1 reductions
@@ -408,10 +433,10 @@ def put_sums(dice, collection, g, p, pools):
         kinds = kinds_of_sum(pool.curve, *pair) | {shape_of_sum(pool.curve, *pair)}
         if sum(counts[k] < wanted[k] for k in kinds) < (3 if tries < 300 else 2 if tries < 600 else 1):
             continue
-        frame = Frame(ADD, pool.record, *map(r.write_divisor, pair))
-        if collection.put(frame._replace(output=enough_output(dice, need_of(frame)))):
+        if put_sum(dice, collection, pool.curve, *pair):
             counts.update(kinds)
             if dice.below(16) == 0:
+                frame = Frame(ADD, pool.record, *map(r.write_divisor, pair))
                 need = need_of(frame)
                 collection.put(frame._replace(output=dice.pick([need - 1, dice.below(need), 0])))
 
@@ -424,9 +449,13 @@ def put_doubles_and_opposites(dice, collection, pools):
             a = pool.sum(dice.pick(pool.flats), *some(dice, pool.signed_points(2), pool.curve.g - 1))
         elif n % 3 == 1:
             a = pool.sum(*pool.signed_points(1 + dice.below(pool.curve.g)))
-        for operation in (DOUBLE, OPPOSITE)[: 1 if n % 2 else 2]:
-            outputs = [enough_output] if n % 4 else [enough_output, any_output]
-            put_with_outputs(dice, collection, Frame(operation, pool.record, r.write_divisor(a)), outputs)
+        if n % 3 == 1 or n % 4 == 0:
+            put_sum(dice, collection, pool.curve, a, None)
+        outputs = [enough_output] if n % 4 else [enough_output, any_output]
+        if n % 4 == 0:
+            put_with_outputs(dice, collection, Frame(DOUBLE, pool.record, r.write_divisor(a)), [any_output])
+        if n % 2 == 0:
+            put_with_outputs(dice, collection, Frame(OPPOSITE, pool.record, r.write_divisor(a)), outputs)
 
 
 def put_checks(dice, collection, pools):
@@ -478,17 +507,15 @@ def put_batches(dice, collection, pools):
     for n, length in enumerate((0, 1, 2, 3, 5, 12)):
         pool = pools[n % len(pools)]
         batch = b"".join(map(r.write_divisor, drawn_batch(dice, pool, length)))
-        put_with_outputs(dice, collection, Frame(TOTAL_BATCH, pool.record, batch), [enough_output if n else any_output])
+        put_with_outputs(dice, collection, Frame(TOTAL_BATCH, pool.record, batch), [any_output if n == 1 else enough_output])
         if n % 2:
             collection.put(Frame(FIRST_REPEAT, pool.record, batch))
-        # different divisors, and the same with one of them again
+        # different divisors, or the same with one of them again
         different = sorted(set(drawn_batch(dice, pool, length) + [pool.anything() for _ in range(3)]))
         records = [r.write_divisor(a) for a in dice.turned(different)[: length + 1]]
+        for _ in range(1 + dice.below(2) if n % 2 else 0):
+            records.insert(dice.below(len(records) + 1), dice.pick(records))
         collection.put(Frame(FIRST_REPEAT, pool.record, b"".join(records)))
-        again = list(records)
-        for _ in range(1 + dice.below(2)):
-            again.insert(dice.below(len(again) + 1), dice.pick(records))
-        collection.put(Frame(FIRST_REPEAT, pool.record, b"".join(again)))
         # a last record that is cut
         record = r.write_divisor(pool.heavy())
         cut = batch + dice.pick([record[:-1], record[: 1 + dice.below(len(record) - 1)]])
@@ -860,7 +887,7 @@ def made(seed):
     pools_of = {}
     for g, p in itertools.product(GENERA, PRIMES):
         pools = pools_of[g, p] = pools_for(dice, g, p)
-        put_sums(dice, collection, g, p, pools)
+        put_sums(dice, collection, g, p, pools, put_classes(dice, collection, g, p))
         put_doubles_and_opposites(dice, collection, pools)
         put_multiples(dice, collection, pools)
         put_batches(dice, collection, pools)
@@ -891,6 +918,7 @@ class Census:
         self.done_per_curve = Counter()
         self.longest = Counter()
         self.shapes = Counter()
+        self.classes = Counter()
         self.text = []
         for frame in frames:
             self.take(frame)
@@ -935,8 +963,11 @@ class Census:
             a, b = r.read_divisor(curve, frame.first, 1), r.read_divisor(curve, frame.second, 2)
             self.kinds[key].update(kinds_of_sum(curve, a, b))
             self.shapes[shape_of_sum(curve, a, b)] += 1
-        if operation == DOUBLE and has_flat_point(curve, r.read_divisor(curve, frame.first, 1)):
-            self.done_per_curve[key, "flat double"] += 1
+            self.classes[classes.class_of(curve, a, b)] += 1
+        if operation == DOUBLE:
+            a = r.read_divisor(curve, frame.first, 1)
+            self.done_per_curve[key, "flat double"] += has_flat_point(curve, a)
+            self.classes[classes.class_of(curve, a)] += 1
 
     def shortfalls(self):
         short = []
@@ -958,6 +989,8 @@ class Census:
         for shape in SHAPES:
             least = 8 if shape == (2, 0, 0, 0, 0) or shape == (3, 0, 0, 0, 0) else 12
             need("shape %d %d %d %d %d" % shape, self.shapes[shape], least)
+        for key in classes.CLASSES:
+            need("g = %d, %s: %s" % key, self.classes[key], classes.LEAST)
         if set(self.shapes) - set(SHAPES):
             short.append("shapes that can't be: %s" % (set(self.shapes) - set(SHAPES)))
         for number in range(16):
@@ -1006,6 +1039,12 @@ class Census:
         shapes = ["%d %d %d %d %d: %d" % (shape + (n,)) for shape, n in sorted(self.shapes.items())]
         for k in range(0, len(shapes), 6):
             yield "   ".join("%-15s" % shape for shape in shapes[k : k + 6])
+        yield ""
+        yield "sums and doubles by what a formula must tell apart (classes.py); at least %d of each" % classes.LEAST
+        for g, call in itertools.product(GENERA, ("add", "double")):
+            of_each = ["%s: %d" % (key[2], self.classes[key]) for key in classes.CLASSES if key[:2] == (g, call)]
+            for k in range(0, len(of_each), 5):
+                yield "%d %-8s" % (g, call) + "".join("%-28s" % one for one in of_each[k : k + 5]).rstrip()
         yield ""
         yield "outputs: " + ", ".join("%s %d" % pair for pair in sorted(self.outputs.items()))
         yield "batches: " + ", ".join("%s %d" % pair for pair in sorted(self.batches.items()))

@@ -1,10 +1,10 @@
 //! Times the proved library and the plain implementation in one program, on the same bytes.
 //!
 //!     bench [RUNS]                        medians of RUNS runs (15) of each work and engine, and their ratio
-//!     bench count ENGINE WORK GENUS N     does a work N times and prints nothing, for a counter of instructions
+//!     bench count ENGINE WORK CURVE N     does a work N times and prints nothing, for a counter of instructions
 //!
-//! ENGINE is `proved` or `plain`, WORK is `total` (a batch of 4,096 records) or `multiple` (a 256-bit scalar), GENUS 2 or 3;
-//! p is 2,147,483,647. Every call checks its curve and its records, in both engines. A program that was built without
+//! ENGINE is `proved` or `plain`, WORK is `total` (a batch of 4,096 records) or `multiple` (a 256-bit scalar), CURVE is `2` for genus
+//! 2, `3` for genus 3 with f_6 = 0, or `3-f6` for genus 3 with another f_6; p is 2,147,483,647. Every call checks its curve and its records, in both engines. A program that was built without
 //! the library times plain against plain. Exit 1 where the engines' results differ, 2 on wrong arguments.
 
 use std::process::exit;
@@ -70,6 +70,21 @@ impl Work {
     }
 }
 
+/// The curves: their genus, and f_2g = 0 or not. Genus 3 has explicit formulae for f_6 = 0 alone.
+#[derive(Clone, Copy)]
+struct On {
+    key: &'static str,
+    name: &'static str,
+    genus: u8,
+    f_2g: bool,
+}
+
+const CURVES: [On; 3] = [
+    On { key: "2", name: "genus 2", genus: 2, f_2g: true },
+    On { key: "3", name: "genus 3, f_6 = 0", genus: 3, f_2g: false },
+    On { key: "3-f6", name: "genus 3, f_6 ≠ 0", genus: 3, f_2g: true },
+];
+
 /// What both engines work on.
 struct Input {
     genus: u8,
@@ -79,13 +94,19 @@ struct Input {
 }
 
 impl Input {
-    /// A curve with every coefficient in use, and 4,096 different divisors, all but the first few of full weight.
-    fn new(genus: u8) -> Input {
+    /// A curve with every coefficient in use, but for f_2g where it is to be 0, and 4,096 different divisors, all but the first few
+    /// of full weight.
+    fn new(on: On) -> Input {
+        let genus = on.genus;
         let mut curve = vec![b'H', b'J', b'C', 0, 1, genus];
         curve.extend_from_slice(&P.to_be_bytes());
         // f_0 = 4, so that (x, 2) is on the curve; the others are far from 0.
         for i in 0..=2 * u64::from(genus) {
-            let f = if i == 0 { 4 } else { i * 1_234_567_891 % P };
+            let f = match i {
+                0 => 4,
+                i if i == 2 * u64::from(genus) && !on.f_2g => 0,
+                i => i * 1_234_567_891 % P,
+            };
             curve.extend_from_slice(&f.to_be_bytes());
         }
         let mut point = vec![1];
@@ -129,7 +150,7 @@ impl Input {
 }
 
 fn usage() -> ! {
-    eprintln!("usage: bench [RUNS]\n       bench count proved|plain total|multiple 2|3 N");
+    eprintln!("usage: bench [RUNS]\n       bench count proved|plain total|multiple 2|3|3-f6 N");
     exit(2)
 }
 
@@ -139,16 +160,16 @@ fn main() {
     match words[..] {
         [] => compare(15),
         [runs] => compare(runs.parse().ok().filter(|&runs| runs > 0).unwrap_or_else(|| usage())),
-        ["count", engine, work, genus, n] => {
+        ["count", engine, work, curve, n] => {
             let engine = match engine {
                 "proved" => &PROVED,
                 "plain" => &PLAIN,
                 _ => usage(),
             };
             let work = Work::ALL.iter().find(|known| known.name() == work).unwrap_or_else(|| usage());
-            let genus = if genus == "2" || genus == "3" { genus.as_bytes()[0] - b'0' } else { usage() };
+            let on = CURVES.iter().find(|known| known.key == curve).unwrap_or_else(|| usage());
             let n: u64 = n.parse().unwrap_or_else(|_| usage());
-            let input = Input::new(genus);
+            let input = Input::new(*on);
             for _ in 0..n {
                 input.run(engine, *work);
             }
@@ -160,8 +181,8 @@ fn main() {
 /// Runs the engines in turn, so that a slow moment of the machine hits both.
 fn compare(runs: usize) {
     println!("p = {}, medians of {} runs, the curve check included", P, runs);
-    for genus in [2, 3] {
-        let input = Input::new(genus);
+    for on in CURVES {
+        let input = Input::new(on);
         for work in Work::ALL {
             let mut times = [Vec::new(), Vec::new()];
             for _ in 0..runs {
@@ -172,14 +193,14 @@ fn compare(runs: usize) {
                     times.push(start.elapsed().as_secs_f64() * 1e6);
                 }
                 if results[0] != results[1] {
-                    eprintln!("genus {} {}: the engines' results differ", genus, work.name());
+                    eprintln!("{} {}: the engines' results differ", on.name, work.name());
                     exit(1);
                 }
             }
             let [proved, plain] = times.map(median);
             println!(
-                "genus {} {:8}  {} {:10.1} us   {} {:10.1} us   ratio {:.2}",
-                genus,
+                "{:16} {:8}  {} {:10.1} us   {} {:10.1} us   ratio {:.2}",
+                on.name,
                 work.name(),
                 PROVED.name,
                 proved,

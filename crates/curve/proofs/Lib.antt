@@ -3,3 +3,4 @@ pub mod Convert
 pub mod Carry
 pub mod Chain
 pub mod Sums
+pub mod Quicks

@@ -12,6 +12,8 @@ use Rattle.rules.specs.Pair.{Pair, Valid, u-of, f-v²}
 use Rattle.poly.specs.Polys.{pol, Ok}
 use Rattle.poly.specs.Contracts.{IsMonic}
 use Rattle.divisor.specs.declared.Divisor.{Divisor}
+use Rattle.formulas.specs.declared.Sought.{Sought}
+use Rattle.formulas.specs.declared.Sought.the-variants.{Found, Special}
 use Rattle.divisor.specs.Divisors.{pair, Held}
 use Rattle.curve.specs.declared.Curve.{Curve}
 
@@ -40,3 +42,8 @@ pub record Holds (c : Curve) (d : Divisor) : Type 0 where
 pub record Gives (c : Curve) (d : Divisor) (a : Pair (modulo (c .m .p))) : Type 0 where
   pub holds : Holds c d
   pub is : pair (c .m) d ≡ a
+
+-- what a formula finds is a; where it finds nothing, nothing is said
+abbrev pub Tried : (c : Curve) → Pair (modulo (c .m .p)) → Sought → Type 0
+Tried c a (Found d) = Gives c d a
+Tried c a Special = Unit {0}

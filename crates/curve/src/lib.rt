@@ -10,7 +10,7 @@ ghost use Rattle.field.specs.Residues.{el, Good, Settled, Settles};
 ghost use Rattle.poly.specs.Polys.{pol, Ok, Is};
 ghost use Rattle.divisor.specs.Divisors.{pair, Held};
 ghost use Rattle.curve.specs.Pairs.{AsPair, ToDivisor, FromPair};
-ghost use Rattle.curve.specs.Curves.{curveOf, Sound, Holds, Gives, Divided};
+ghost use Rattle.curve.specs.Curves.{curveOf, Sound, Holds, Gives, Divided, Tried};
 use cantor::Mumford;
 use divisor::Cubic;
 use divisor::Divisor;
@@ -18,6 +18,7 @@ use divisor::Linear;
 use divisor::Quadratic;
 use field::Modulus;
 use field::Residue;
+use formulas::Sought;
 use poly::Poly;
 
 // f is held whole, its leading 1 too.
@@ -167,8 +168,7 @@ impl Curve {
         false
     }
 
-    // Every sum of two goes through here, every double through the next one: quick cases can stand in front of the plain sum, and nobody above notices.
-    pub fn sum(self, a: Divisor, b: Divisor) -> Divisor
+    fn plain_sum(self, a: Divisor, b: Divisor) -> Divisor
         requires { ⌜ Sound self × (Holds self a × Holds self b) ⌝ }
         ensures { λ r. ⌜ Gives self r (sum (curveOf self) (pair (self .m) a) (pair (self .m) b)) ⌝ }
     {
@@ -179,7 +179,7 @@ impl Curve {
         divisor_of(cantor::sum(self.f, g, x, y, m), m)
     }
 
-    pub fn double(self, a: Divisor) -> Divisor
+    fn plain_double(self, a: Divisor) -> Divisor
         requires { ⌜ Sound self × Holds self a ⌝ }
         ensures { λ r. ⌜ Gives self r (double (curveOf self) (pair (self .m) a)) ⌝ }
     {
@@ -187,6 +187,130 @@ impl Curve {
         let g = self.g;
         let x = pair_of(a, m);
         divisor_of(cantor::double(self.f, g, x, m), m)
+    }
+
+    // By formula: genus 2 and weight 2.
+    fn quick_two(self, a: Quadratic, b: Quadratic) -> Sought
+        requires { ⌜ Sound self × (Holds self (Divisor.Two a) × Holds self (Divisor.Two b)) ⌝ }
+        ensures { λ r. ⌜ Tried self (sum (curveOf self) (pair (self .m) (Divisor.Two a)) (pair (self .m) (Divisor.Two b))) r ⌝ }
+    {
+        let m = self.m;
+        let g = self.g;
+        if g == 2 {
+            let f = self.f;
+            let f4 = f.get(4);
+            return genus2::add(a, b, f4, m);
+        }
+        Sought::Special
+    }
+
+    fn twice_two(self, a: Quadratic) -> Sought
+        requires { ⌜ Sound self × Holds self (Divisor.Two a) ⌝ }
+        ensures { λ r. ⌜ Tried self (sum (curveOf self) (pair (self .m) (Divisor.Two a)) (pair (self .m) (Divisor.Two a))) r ⌝ }
+    {
+        let m = self.m;
+        let g = self.g;
+        if g == 2 {
+            let f = self.f;
+            let f2 = f.get(2);
+            let f3 = f.get(3);
+            let f4 = f.get(4);
+            return genus2::double(a, f2, f3, f4, m);
+        }
+        Sought::Special
+    }
+
+    // By formula: weight 3, so genus 3, and f6 = 0.
+    fn quick_three(self, a: Cubic, b: Cubic) -> Sought
+        requires { ⌜ Sound self × (Holds self (Divisor.Three a) × Holds self (Divisor.Three b)) ⌝ }
+        ensures { λ r. ⌜ Tried self (sum (curveOf self) (pair (self .m) (Divisor.Three a)) (pair (self .m) (Divisor.Three b))) r ⌝ }
+    {
+        let m = self.m;
+        let f = self.f;
+        let f6 = f.get(6).settle(m);
+        if f6.is_zero(m) {
+            let f4 = f.get(4);
+            let f5 = f.get(5);
+            return genus3::add(a, b, f4, f5, m);
+        }
+        Sought::Special
+    }
+
+    fn twice_three(self, a: Cubic) -> Sought
+        requires { ⌜ Sound self × Holds self (Divisor.Three a) ⌝ }
+        ensures { λ r. ⌜ Tried self (sum (curveOf self) (pair (self .m) (Divisor.Three a)) (pair (self .m) (Divisor.Three a))) r ⌝ }
+    {
+        let m = self.m;
+        let f = self.f;
+        if f.get(6).settle(m).is_zero(m) {
+            let f3 = f.get(3);
+            let f4 = f.get(4);
+            let f5 = f.get(5);
+            return genus3::double(a, f3, f4, f5, m);
+        }
+        Sought::Special
+    }
+
+    // Both of one weight that a formula takes.
+    fn quick_sum(self, a: Divisor, b: Divisor) -> Sought
+        requires { ⌜ Sound self × (Holds self a × Holds self b) ⌝ }
+        ensures { λ r. ⌜ Tried self (sum (curveOf self) (pair (self .m) a) (pair (self .m) b)) r ⌝ }
+    {
+        match a {
+            Divisor::Neutral => Sought::Special,
+            Divisor::One(_) => Sought::Special,
+            Divisor::Two(x) => {
+                match b {
+                    Divisor::Neutral => Sought::Special,
+                    Divisor::One(_) => Sought::Special,
+                    Divisor::Two(y) => self.quick_two(x, y),
+                    Divisor::Three(_) => Sought::Special,
+                }
+            }
+            Divisor::Three(x) => {
+                match b {
+                    Divisor::Neutral => Sought::Special,
+                    Divisor::One(_) => Sought::Special,
+                    Divisor::Two(_) => Sought::Special,
+                    Divisor::Three(y) => self.quick_three(x, y),
+                }
+            }
+        }
+    }
+
+    fn quick_double(self, a: Divisor) -> Sought
+        requires { ⌜ Sound self × Holds self a ⌝ }
+        ensures { λ r. ⌜ Tried self (sum (curveOf self) (pair (self .m) a) (pair (self .m) a)) r ⌝ }
+    {
+        match a {
+            Divisor::Neutral => Sought::Special,
+            Divisor::One(_) => Sought::Special,
+            Divisor::Two(x) => self.twice_two(x),
+            Divisor::Three(x) => self.twice_three(x),
+        }
+    }
+
+    // Every sum of two goes through here, every double through the next one: the formula first, and the plain sum where it has none.
+    pub fn sum(self, a: Divisor, b: Divisor) -> Divisor
+        requires { ⌜ Sound self × (Holds self a × Holds self b) ⌝ }
+        ensures { λ r. ⌜ Gives self r (sum (curveOf self) (pair (self .m) a) (pair (self .m) b)) ⌝ }
+    {
+        let q = self.quick_sum(a, b);
+        match q {
+            Sought::Found(d) => d,
+            Sought::Special => self.plain_sum(a, b),
+        }
+    }
+
+    pub fn double(self, a: Divisor) -> Divisor
+        requires { ⌜ Sound self × Holds self a ⌝ }
+        ensures { λ r. ⌜ Gives self r (double (curveOf self) (pair (self .m) a)) ⌝ }
+    {
+        let q = self.quick_double(a);
+        match q {
+            Sought::Found(d) => d,
+            Sought::Special => self.plain_double(a),
+        }
     }
 
     pub fn opposite(self, a: Divisor) -> Divisor

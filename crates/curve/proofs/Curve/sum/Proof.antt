@@ -1,24 +1,35 @@
-use Rattle.curve.proofs.Sums.{to-sum, sum-gives}
+use mathlib.Core.Path.{subst}
+use Rattle.formulas.specs.declared.Sought.{Sought}
+use Rattle.divisor.specs.Divisors.{pair}
+use Rattle.rules.specs.Sum.{sum}
+use Rattle.curve.specs.Curves.{curveOf, Tried}
 use borrow.Author.Needs.{needs}
 use Rattle.curve.proofs.Curve.sum.Statement.{statement}
 use Rattle.curve.proofs.Curve.sum.Tie as tie
+use Rattle.curve.proofs.Curve.sum.Reads as reads
+use Rattle.curve.proofs.Curve.sum.Lts as lts
+use Rattle.curve.proofs.Curve.plain_sum.Reads as plain-sum-reads
+use Rattle.curve.proofs.Curve.quick_sum.Reads as quick-sum-reads
 
-pair-of-requires : tie.Need-pair-of-requires
-pair-of-requires c κs = search needs
+quick-sum-requires : tie.Need-quick-sum-requires
+quick-sum-requires c κs = search needs
 
-pair-of-requires-2 : tie.Need-pair-of-requires-2
-pair-of-requires-2 c κs = search needs
+enum-known-q : tie.Need-enum-known-q
+enum-known-q c = search needs
 
-sum-requires : tie.Need-sum-requires
-sum-requires c κs = let s = c .before .before .before in to-sum (s .args .self) (s .pre .0) (s .args .a) (s .args .b) (c .before .pair-of .result) (c .pair-of2 .result) (c .before .pair-of .ensures) (c .pair-of2 .ensures) (s .pre .1 .0) (s .pre .1 .1)
+enum-told : tie.Need-enum-told
+enum-told c = search needs
 
-divisor-of-requires : tie.Need-divisor-of-requires
-divisor-of-requires c κs = search needs
+plain-sum-requires : tie.Need-plain-sum-requires
+plain-sum-requires c κs = search needs
 
 returns : tie.Need-returns
-returns c = let s = c .before .before .before .before .before in sum-gives (s .args .self) (s .pre .0) (s .args .a) (s .args .b) (c .before .before .before .pair-of .result) (c .before .before .pair-of2 .result) (c .before .before .before .pair-of .ensures) (c .before .before .pair-of2 .ensures) (s .pre .1 .0) (s .pre .1 .1) (c .before .sum .result) (c .before .sum .ensures) (c .divisor-of .result) (c .divisor-of .ensures)
+returns c = let e = c .before .before .before .before .args .self in subst (λ (r : Sought). Tried e (sum (curveOf e) (pair (e .m) (c .before .before .before .before .args .a)) (pair (e .m) (c .before .before .before .before .args .b))) r) (c .before .q .given .1) (c .before .before .before .quick-sum .ensures)
+
+returns-2 : tie.Need-returns-2
+returns-2 c = search needs
 
 pub sum-spec : {M : Type 1} → statement M
 sum-spec =
     tie.close
-    (tie.spec pair-of-requires pair-of-requires-2 sum-requires divisor-of-requires returns)
+    (tie.spec quick-sum-requires enum-known-q enum-told plain-sum-requires returns returns-2)
