@@ -91,7 +91,7 @@ typedef struct YubiAnswer {
     uint64_t length; /* bytes written to the front of the output */
 } YubiAnswer;
 
-/* What yubi_multiply answers. */
+/* What yubi_multiply and yubi_multiply_inversion_free answer. */
 typedef struct YubiMultiple {
     uint64_t number;
     uint64_t place;
@@ -166,6 +166,11 @@ YubiAnswer yubi_opposite(const uint8_t *curve, size_t curve_length, const uint8_
  * scalar. */
 YubiMultiple yubi_multiply(const uint8_t *curve, size_t curve_length, const uint8_t *a, size_t a_length,
                            const uint8_t *scalar, size_t scalar_length, uint8_t *out, size_t out_length);
+
+/* The same multiple by inversion-free coordinates, for machines that divide slowly: one division at the end, where genus 2
+ * meets no special pair. Answer and output are those of yubi_multiply on the same bytes: 0 to 13. */
+YubiMultiple yubi_multiply_inversion_free(const uint8_t *curve, size_t curve_length, const uint8_t *a, size_t a_length,
+                                          const uint8_t *scalar, size_t scalar_length, uint8_t *out, size_t out_length);
 
 /* Writes the sum of a batch's divisors to out, neutral for an empty batch, and answers how many: 0 to 11, 13, 14. */
 YubiTotal yubi_total_batch(const uint8_t *curve, size_t curve_length, const uint8_t *batch, size_t batch_length,

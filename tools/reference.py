@@ -417,7 +417,7 @@ def opposite(curve, a, out):
 
 
 def multiply(curve, a, scalar, out):
-    """number, place, length, doublings, additions"""
+    """number, place, length, doublings, additions; also of the call multiply_inversion_free, which answers the same"""
 
     def work():
         on = read_curve(curve)

@@ -13,6 +13,7 @@ pub enum Call<'a> {
     Double { curve: &'a [u8], a: &'a [u8] },
     Opposite { curve: &'a [u8], a: &'a [u8] },
     Multiply { curve: &'a [u8], a: &'a [u8], scalar: &'a [u8] },
+    MultiplyInversionFree { curve: &'a [u8], a: &'a [u8], scalar: &'a [u8] },
     TotalBatch { curve: &'a [u8], batch: &'a [u8] },
     FirstRepeat { curve: &'a [u8], batch: &'a [u8] },
     FreshTotal,
@@ -41,6 +42,14 @@ impl Call<'_> {
             self,
             CheckCurve { .. } | CheckDivisor { .. } | FirstRepeat { .. } | FreshTotal | Scan { .. } | ScanLent { .. }
         )
+    }
+
+    /// The call that must answer the same on the same bytes, where there is one.
+    pub fn twin(&self) -> Option<Self> {
+        match *self {
+            Call::Multiply { curve, a, scalar } => Some(Call::MultiplyInversionFree { curve, a, scalar }),
+            _ => None,
+        }
     }
 
     /// The running total that went in; a fresh one where there is none.
@@ -88,6 +97,9 @@ macro_rules! answer_through {
             Call::Opposite { curve, a } => reply!(calls::opposite(curve, a, $out)),
             Call::Multiply { curve, a, scalar } => {
                 reply!(calls::multiply(curve, a, scalar, $out), [doublings, additions])
+            }
+            Call::MultiplyInversionFree { curve, a, scalar } => {
+                reply!(calls::multiply_inversion_free(curve, a, scalar, $out), [doublings, additions])
             }
             Call::TotalBatch { curve, batch } => reply!(calls::total_batch(curve, batch, $out), [count]),
             Call::FirstRepeat { curve, batch } => reply!(calls::first_repeat(curve, batch), [first, second]),

@@ -85,8 +85,8 @@ mod simple {
         f.iter().rev().fold(0, |sum, &c| (mul(sum, x, p) + c) % p)
     }
 
-    /// Whether two polynomials, not both zero, share a factor of degree 1 or more.
-    pub fn share_factor(a: &[u64], b: &[u64], p: u64) -> bool {
+    /// The degree of the gcd of two polynomials, not both zero.
+    pub fn common_degree(a: &[u64], b: &[u64], p: u64) -> usize {
         let trim = |v: &mut Vec<u64>| {
             while v.last() == Some(&0) {
                 v.pop();
@@ -107,7 +107,12 @@ mod simple {
             }
             std::mem::swap(&mut a, &mut b);
         }
-        a.len() > 1
+        a.len() - 1
+    }
+
+    /// Whether they share a factor of degree 1 or more.
+    pub fn share_factor(a: &[u64], b: &[u64], p: u64) -> bool {
+        common_degree(a, b, p) > 0
     }
 }
 
@@ -144,6 +149,18 @@ pub struct Pair {
     pub below_genus: bool,
 }
 
+/// What an explicit formula meets in a sum, f_2g aside: its main case, or why it must go another way.
+#[derive(Clone, Copy, Debug, PartialEq, Eq, PartialOrd, Ord)]
+pub enum Class {
+    Main,
+    /// A weight below g.
+    Light,
+    /// u1 and u2 share a factor of this degree; of a double, u and v.
+    Shared(usize),
+    /// None of these, and a result of weight below g: the slope s has a lower degree than g - 1.
+    Low,
+}
+
 /// A curve, and divisors on it.
 pub struct Sample {
     pub genus: usize,
@@ -155,16 +172,23 @@ pub struct Sample {
 }
 
 /// Where a prime is this small, all divisors of weight 2 are looked at.
-const SMALL: u64 = 11;
+const SMALL: u64 = 13;
 
 impl Sample {
-    /// A curve of this genus and prime with its pool.
+    /// A curve of this genus and prime with its pool; f_2g = 0 one time in three.
     pub fn new(rng: &mut Rng, genus: usize, p: u64) -> Sample {
+        Sample::drawn(rng, genus, p, |rng, f_2g| if rng.one_in(3) { 0 } else { f_2g })
+    }
+
+    /// The same, f_2g = 0 or not as asked.
+    pub fn with_f_2g(rng: &mut Rng, genus: usize, p: u64, set: bool) -> Sample {
+        Sample::drawn(rng, genus, p, |rng, _| if set { 1 + rng.below(p - 1) } else { 0 })
+    }
+
+    fn drawn(rng: &mut Rng, genus: usize, p: u64, f_2g: impl Fn(&mut Rng, u64) -> u64) -> Sample {
         loop {
             let mut f: Vec<u64> = (0..=2 * genus).map(|_| rng.below(p)).collect();
-            if rng.one_in(3) {
-                f[2 * genus] = 0;
-            }
+            f[2 * genus] = f_2g(rng, f[2 * genus]);
             // On most curves f_0 moves so that some x is a root: a point with y = 0.
             let zero = rng.below(p);
             if !rng.one_in(4) {
@@ -205,7 +229,7 @@ impl Sample {
         }
         for _ in 0..8 {
             let a = self.any(rng).to_vec();
-            self.pool.push(written(|out| plain::opposite(&self.curve, &a, out).length));
+            self.pool.push(self.opposite(&a));
         }
         for _ in 0..24 {
             let (a, b) = (self.any(rng).to_vec(), self.any(rng).to_vec());
@@ -225,6 +249,10 @@ impl Sample {
     /// The plain sum of two good records.
     pub fn sum(&self, a: &[u8], b: &[u8]) -> Vec<u8> {
         written(|out| plain::add(&self.curve, a, b, out).length)
+    }
+
+    pub fn opposite(&self, a: &[u8]) -> Vec<u8> {
+        written(|out| plain::opposite(&self.curve, a, out).length)
     }
 
     /// The record of a curve whose f has a double root.
@@ -257,6 +285,26 @@ impl Sample {
             opposite,
             zero_y: simple::share_factor(&u1, &v1, self.p) || simple::share_factor(&u2, &v2, self.p),
             below_genus: u1.len() <= self.genus || u2.len() <= self.genus,
+        }
+    }
+}
+
+impl Sample {
+    /// What a formula meets in the sum of two good records, or in a double where the second is left out.
+    pub fn class(&self, a: &[u8], b: Option<&[u8]>) -> Class {
+        let ((mut u1, v1), (mut u2, _)) = (numbers_of(a), numbers_of(b.unwrap_or(a)));
+        if u1.len() < self.genus || u2.len() < self.genus {
+            return Class::Light;
+        }
+        u1.push(1);
+        u2.push(1);
+        let common = simple::common_degree(&u1, if b.is_some() { &u2 } else { &v1 }, self.p);
+        if common > 0 {
+            Class::Shared(common)
+        } else if usize::from(self.sum(a, b.unwrap_or(a))[0]) < self.genus {
+            Class::Low
+        } else {
+            Class::Main
         }
     }
 }

@@ -1,7 +1,7 @@
 //! Puts calls to two engines and compares what they do.
 
 use crate::engine::{Call, Engine, Reply};
-use crate::inputs::{Pair, Rng};
+use crate::inputs::{Class, Pair, Rng};
 use std::collections::BTreeMap;
 
 /// Differences that are printed in full; the rest are only counted.
@@ -28,9 +28,13 @@ pub struct Tally {
     /// Calls that wrote a divisor of weight 1 or more, or moved a running total to one.
     pub not_neutral: u64,
     pub differences: u64,
+    /// Multiples made by both calls on the same bytes.
+    pub twins: u64,
     /// Calls by the number answered.
     pub numbers: BTreeMap<u64, u64>,
     pub census: BTreeMap<(usize, u64), Census>,
+    /// Sums and doubles of [`crate::plan::sums_by_class`]: by genus, whether f_2g isn't 0, whether it is a double, and class.
+    pub classes: BTreeMap<(usize, bool, bool, Class), u64>,
 }
 
 pub struct Judge<'e> {
@@ -41,6 +45,7 @@ pub struct Judge<'e> {
 }
 
 /// An engine's reply, with its output and the guard bytes on both sides of it.
+#[derive(PartialEq)]
 struct Outcome {
     reply: Reply,
     buffer: Vec<u8>,
@@ -51,15 +56,34 @@ impl<'e> Judge<'e> {
         Judge { engines: [first, second], rng: Rng::new(seed), tally: Tally::default(), quiet }
     }
 
-    /// Puts a call to both engines, with an output of `room` bytes, and gives the second engine's number.
+    /// Puts a call to both engines, with an output of `room` bytes, and gives the second engine's number. A multiple is made by
+    /// both of its calls, on the same bytes, and they must answer the same.
     pub fn put(&mut self, call: Call, room: usize) -> u64 {
         let room = if call.has_output() { room } else { 0 };
         // The output starts anywhere and is filled with bytes that no engine can guess.
         let guard = 16 + self.rng.below(16) as usize;
         let before: Vec<u8> = (0..guard + room + 32).map(|_| self.rng.next() as u8).collect();
+        let first = self.compare(&call, &before, guard, room, None);
+        let number = first[1].reply.number;
+        if let Some(twin) = call.twin() {
+            self.tally.twins += 1;
+            self.compare(&twin, &before, guard, room, Some(first));
+        }
+        number
+    }
+
+    /// Both engines' outcomes, compared with each other and with those of the call's twin.
+    fn compare(
+        &mut self,
+        call: &Call,
+        before: &[u8],
+        guard: usize,
+        room: usize,
+        twins: Option<[Outcome; 2]>,
+    ) -> [Outcome; 2] {
         let outcomes = self.engines.map(|engine| {
-            let mut buffer = before.clone();
-            let reply = engine.answer(&call, &mut buffer[guard..guard + room]);
+            let mut buffer = before.to_vec();
+            let reply = engine.answer(call, &mut buffer[guard..guard + room]);
             Outcome { reply, buffer }
         });
 
@@ -67,7 +91,7 @@ impl<'e> Judge<'e> {
         let [first, second] = &outcomes;
         let mut faults = Vec::new();
         for (outcome, engine) in outcomes.iter().zip(self.engines) {
-            if let Some(fault) = broken_rule(&call, outcome, &before, guard, room) {
+            if let Some(fault) = broken_rule(call, outcome, before, guard, room) {
                 faults.push(format!("{}: {}", engine.name(), fault));
             }
         }
@@ -77,11 +101,18 @@ impl<'e> Judge<'e> {
         if first.buffer != second.buffer {
             faults.push("the outputs differ".to_string());
         }
+        if let Some(twins) = twins {
+            for (k, engine) in self.engines.iter().enumerate() {
+                if outcomes[k] != twins[k] {
+                    faults.push(format!("{}: the two multiply calls differ", engine.name()));
+                }
+            }
+        }
         if !faults.is_empty() {
             self.tally.differences += 1;
             if self.tally.differences <= SHOWN && !self.quiet {
                 println!("DIFFERENCE at call {}: {}", self.tally.calls, faults.join("; "));
-                println!("  call, output of {} bytes: {}", room, shown(&call));
+                println!("  call, output of {} bytes: {}", room, shown(call));
                 for (outcome, engine) in outcomes.iter().zip(self.engines) {
                     println!("  {}: {:?}", engine.name(), outcome.reply);
                     println!("    output {}", hex(&outcome.buffer[guard..guard + room]));
@@ -99,7 +130,7 @@ impl<'e> Judge<'e> {
         if self.tally.calls % STEP == 0 && !self.quiet {
             println!("{} calls, {} differences", self.tally.calls, self.tally.differences);
         }
-        reply.number
+        outcomes
     }
 
     /// Counts a pair of divisors that is about to be added.
@@ -167,6 +198,9 @@ fn shown(call: &Call) -> String {
         Call::Double { curve, a } => format!("double {} {}", hex(curve), hex(a)),
         Call::Opposite { curve, a } => format!("opposite {} {}", hex(curve), hex(a)),
         Call::Multiply { curve, a, scalar } => format!("multiply {} {} {}", hex(curve), hex(a), hex(scalar)),
+        Call::MultiplyInversionFree { curve, a, scalar } => {
+            format!("multiply_inversion_free {} {} {}", hex(curve), hex(a), hex(scalar))
+        }
         Call::TotalBatch { curve, batch } => format!("total_batch {} {}", hex(curve), hex(batch)),
         Call::FirstRepeat { curve, batch } => format!("first_repeat {} {}", hex(curve), hex(batch)),
         Call::FreshTotal => "fresh_total".to_string(),

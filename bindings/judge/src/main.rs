@@ -1,17 +1,21 @@
 //! The judge: puts the same calls to the proved library and to the plain implementation, and compares every answer and
 //! every output byte.
 //!
-//!     judge [--self] SEED COUNT
+//!     judge [--self] [--sums | --multiples] SEED COUNT
 //!
-//! runs at least COUNT calls that SEED decides. `--self` puts plain against plain, to try the judge itself. Exit 1 on any
-//! difference, 2 on wrong arguments.
+//! runs at least COUNT calls that SEED decides. `--self` puts plain against plain, to try the judge itself. `--sums` has
+//! sums and doubles at small primes alone, half of them special to an explicit formula. `--multiples` has multiples alone, by
+//! both multiply calls: by every scalar to 300 of every divisor on small curves, and COUNT by scalars of 32 bytes at the
+//! largest prime. Exit 1 on any difference, 2 on wrong arguments.
 
 mod engine;
 mod inputs;
 mod judge;
+mod multiples;
 mod plan;
 
 use engine::{Engine, Plain};
+use inputs::Class;
 use judge::{Judge, Tally};
 use std::process::exit;
 use std::thread;
@@ -27,16 +31,22 @@ const PROVED: Option<&(dyn Engine + Sync)> = Some(&engine::Proved);
 const PROVED: Option<&(dyn Engine + Sync)> = None;
 
 fn usage() -> ! {
-    eprintln!("usage: judge [--self] SEED COUNT");
+    eprintln!("usage: judge [--self] [--sums | --multiples] SEED COUNT");
     exit(2)
 }
 
 fn main() {
     let mut arguments: Vec<String> = std::env::args().skip(1).collect();
-    let to_itself = arguments.first().map(|word| word == "--self").unwrap_or(false);
-    if to_itself {
-        arguments.remove(0);
-    }
+    let mut flag = |name: &str| {
+        let given = arguments.first().map_or(false, |word| word == name);
+        if given {
+            arguments.remove(0);
+        }
+        given
+    };
+    let to_itself = flag("--self");
+    let sums = flag("--sums");
+    let only_multiples = flag("--multiples");
     let (seed, count) = match &arguments[..] {
         [seed, count] => match (seed.parse(), count.parse()) {
             (Ok(seed), Ok(count)) => (seed, count),
@@ -53,11 +63,21 @@ fn main() {
         }
     };
 
-    println!("{} against plain, seed {}, at least {} calls", first.name(), seed, count);
+    if only_multiples {
+        println!("{} against plain, multiples, seed {}, {} by scalars of 32 bytes", first.name(), seed, count);
+    } else {
+        println!("{} against plain, seed {}, at least {} calls", first.name(), seed, count);
+    }
     let start = Instant::now();
     let run = move || {
         let mut judge = Judge::new(first, &Plain, seed, false);
-        plan::run(&mut judge, count);
+        if sums {
+            plan::sums_by_class(&mut judge, count);
+        } else if only_multiples {
+            multiples::run(&mut judge, count);
+        } else {
+            plan::run(&mut judge, count);
+        }
         judge.tally
     };
     let tally =
@@ -70,6 +90,34 @@ fn main() {
 }
 
 fn report(tally: &Tally) {
+    if tally.classes.is_empty() {
+        report_pairs(tally);
+    } else {
+        report_classes(tally);
+    }
+    println!(
+        "{} calls, {} of them done with a result that isn't neutral, {} differences",
+        tally.calls, tally.not_neutral, tally.differences
+    );
+}
+
+fn report_classes(tally: &Tally) {
+    for ((genus, set, double, class), count) in &tally.classes {
+        let call = if *double { "double" } else { "add" };
+        let class = match class {
+            Class::Main => "main".to_string(),
+            Class::Light => "a weight below g".to_string(),
+            Class::Shared(n) if *double => format!("{} with y = 0", n),
+            Class::Shared(n) => format!("gcd of degree {}", n),
+            Class::Low => "s of low degree".to_string(),
+        };
+        println!("  g {} f_2g {} 0, {}, {}: {}", genus, if *set { "≠" } else { "=" }, call, class, count);
+    }
+    let special: u64 = tally.classes.iter().filter(|(key, _)| key.3 != Class::Main).map(|(_, n)| n).sum();
+    println!("{} sums and doubles, {} of them special", tally.calls, special);
+}
+
+fn report_pairs(tally: &Tally) {
     println!("pairs added, by genus and prime:");
     for ((genus, p), c) in &tally.census {
         println!(
@@ -81,8 +129,5 @@ fn report(tally: &Tally) {
     for (number, calls) in &tally.numbers {
         println!("  {:2}: {}", number, calls);
     }
-    println!(
-        "{} calls, {} of them done with a result that isn't neutral, {} differences",
-        tally.calls, tally.not_neutral, tally.differences
-    );
+    println!("{} multiples by both multiply calls on the same bytes", tally.twins);
 }

@@ -1,7 +1,7 @@
 //! What is put to the engines.
 
 use crate::engine::Call;
-use crate::inputs::{numbers_of, Rng, Sample};
+use crate::inputs::{numbers_of, Class, Rng, Sample};
 use crate::judge::Judge;
 use plain::Running;
 
@@ -48,11 +48,7 @@ fn sums(judge: &mut Judge, sample: &Sample) {
         let a = sample.any(&mut judge.rng);
         let b = match judge.rng.below(10) {
             0 => a.to_vec(),
-            1 => {
-                let mut out = [0; ROOM];
-                let length = plain::opposite(curve, a, &mut out).length;
-                out[..length as usize].to_vec()
-            }
+            1 => sample.opposite(a),
             _ => sample.any(&mut judge.rng).to_vec(),
         };
         judge.count_pair(sample.genus, sample.p, sample.f_2g_is_set(), sample.pair(a, &b));
@@ -67,6 +63,57 @@ fn sums(judge: &mut Judge, sample: &Sample) {
     }
     judge.put(Call::CheckCurve { curve }, 0);
     judge.put(Call::RewriteCurve { curve }, 70);
+}
+
+/// Where most pairs of some kind or other are special.
+const SMALL_PRIMES: [u64; 5] = [3, 5, 7, 11, 13];
+
+/// Sums and doubles at small primes, of both genera, with f_2g = 0 and not, until `count` are made; half of them are of the main
+/// case of a formula, half are special. A third are doubles.
+pub fn sums_by_class(judge: &mut Judge, count: u64) {
+    for round in 0.. {
+        if judge.tally.calls >= count {
+            break;
+        }
+        let (genus, set) = (2 + round % 2, round / 2 % 2 == 1);
+        let p = SMALL_PRIMES[round / 4 % SMALL_PRIMES.len()];
+        let sample = Sample::with_f_2g(&mut judge.rng, genus, p, set);
+        for n in 0..60 {
+            let (a, b, class) = pair_by_class(&mut judge.rng, &sample, n % 2 == 1, n % 3 == 0);
+            let curve = &sample.curve;
+            let call = b.as_ref().map_or(Call::Double { curve, a: &a }, |b| Call::Add { curve, a: &a, b });
+            judge.put(call, ROOM);
+            *judge.tally.classes.entry((genus, set, b.is_none(), class)).or_default() += 1;
+        }
+    }
+}
+
+/// Two records, or one to be doubled: special or not as asked, where the curve has such.
+fn pair_by_class(rng: &mut Rng, sample: &Sample, special: bool, double: bool) -> (Vec<u8>, Option<Vec<u8>>, Class) {
+    for tries in 0.. {
+        let mut a = sample.any(rng).to_vec();
+        let mut b = sample.any(rng).to_vec();
+        match rng.below(6) {
+            // What both have in common.
+            0 | 1 => {
+                let c = sample.any(rng);
+                let turned = sample.opposite(c);
+                a = sample.sum(&a, c);
+                b = sample.sum(&b, if rng.one_in(2) { c } else { &turned });
+            }
+            2 if special => b = a.clone(),
+            3 if special => b = sample.opposite(&a),
+            _ => {}
+        }
+        let b = if double { None } else { Some(b) };
+        let class = sample.class(&a, b.as_deref());
+        // Small weights are so frequent that they are left out mostly.
+        let wanted = if special { class != Class::Main } else { class == Class::Main };
+        if tries == 200 || wanted && (class != Class::Light || rng.one_in(8)) {
+            return (a, b, class);
+        }
+    }
+    unreachable!("the tries end")
 }
 
 /// A scalar: random of any length, or one with few bits, many bits or leading zeros.
@@ -560,6 +607,7 @@ fn running_totals(judge: &mut Judge, sample: &Sample) {
 mod tests {
     use super::*;
     use crate::engine::{Engine, Plain, Reply};
+    use crate::judge::Tally;
 
     /// The plain engine with one thing wrong.
     struct Wrong<F: Fn(&Call, &mut [u8], &mut Reply)>(F);
@@ -596,6 +644,34 @@ mod tests {
             let rare = [census.shared_root, census.opposite, census.below_genus, census.zero_y, census.f_2g];
             assert!(rare.iter().all(|&n| n >= 20), "{:?} {:?}", key, census);
         }
+    }
+
+    /// Every class of both genera is there, half of the pairs are special, and a slip on one class alone shows.
+    #[test]
+    fn sums_by_class_have_them_all() {
+        let mut judge = Judge::new(&Plain, &Plain, 1, true);
+        sums_by_class(&mut judge, 20_000);
+        let Tally { calls, differences, classes, .. } = &judge.tally;
+        assert_eq!(*differences, 0);
+        let special: u64 = classes.iter().filter(|(key, _)| key.3 != Class::Main).map(|(_, n)| n).sum();
+        assert!(special * 2 >= *calls, "{} of {}", special, calls);
+        for (genus, set, double) in (0..8).map(|n| (2 + n % 2, n / 2 % 2 == 1, n / 4 == 1)) {
+            let shared = (1..=genus).map(Class::Shared);
+            for class in [Class::Main, Class::Light, Class::Low].into_iter().chain(shared) {
+                let found = classes.get(&(genus, set, double, class)).copied().unwrap_or(0);
+                assert!(found >= 8, "{} {} {} {:?}: {}", genus, set, double, class, found);
+            }
+        }
+        let low = Wrong(|c: &Call, out: &mut [u8], r: &mut Reply| {
+            if let Call::Add { a, b, .. } = c {
+                if a.len() == 49 && b.len() == 49 && r.length == 17 {
+                    out[16] ^= 1;
+                }
+            }
+        });
+        let mut judge = Judge::new(&low, &Plain, 1, true);
+        sums_by_class(&mut judge, 2_000);
+        assert!(judge.tally.differences > 0);
     }
 
     #[test]

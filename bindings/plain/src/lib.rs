@@ -175,6 +175,11 @@ pub fn multiply(curve: &[u8], a: &[u8], scalar: &[u8], out: &mut [u8]) -> Multip
     Multiple { number, place, length, doublings, additions }
 }
 
+/// The same multiple: the library makes it by a second engine, here one does for both calls.
+pub fn multiply_inversion_free(curve: &[u8], a: &[u8], scalar: &[u8], out: &mut [u8]) -> Multiple {
+    multiply(curve, a, scalar, out)
+}
+
 /// The total of a batch: no or more divisor records one after the other, at most 4,096.
 pub fn total_batch(curve: &[u8], batch: &[u8], out: &mut [u8]) -> Total {
     let (mut sum, mut count) = (Divisor::NEUTRAL, 0);

@@ -45,7 +45,7 @@ pub const SCALAR_ROOM: usize = 32;
 /// The most records of a batch, and the largest count of a running total.
 pub const MOST_RECORDS: u64 = 4096;
 
-/// What [`multiply`] did.
+/// What [`multiply`] or [`multiply_inversion_free`] did.
 #[derive(Clone, Copy, Debug, PartialEq, Eq)]
 pub struct Multiple {
     /// Bytes written.
@@ -120,7 +120,16 @@ pub fn opposite(curve: &[u8], a: &[u8], out: &mut [u8]) -> Result<usize, Refusal
 
 /// Writes the sum of n copies of a divisor to the front of `out`; the scalar n has 0 to 32 bytes, big-endian.
 pub fn multiply(curve: &[u8], a: &[u8], scalar: &[u8], out: &mut [u8]) -> Result<Multiple, Refusal> {
-    let answer = raw::multiply(curve, a, scalar, out);
+    multiple_of(raw::multiply(curve, a, scalar, out))
+}
+
+/// The same by inversion-free coordinates, for machines that divide slowly; answer and output are those of [`multiply`], on any
+/// bytes.
+pub fn multiply_inversion_free(curve: &[u8], a: &[u8], scalar: &[u8], out: &mut [u8]) -> Result<Multiple, Refusal> {
+    multiple_of(raw::multiply_inversion_free(curve, a, scalar, out))
+}
+
+fn multiple_of(answer: raw::YubiMultiple) -> Result<Multiple, Refusal> {
     Refusal::check(answer.number, answer.place)?;
     Ok(Multiple { length: answer.length as usize, doublings: answer.doublings, additions: answer.additions })
 }

@@ -16,7 +16,7 @@ pub struct YubiAnswer {
     pub length: u64,
 }
 
-/// What [`multiply`] answers.
+/// What [`multiply`] and [`multiply_inversion_free`] answer.
 #[repr(C)]
 #[derive(Clone, Copy, Debug, Default, PartialEq, Eq)]
 pub struct YubiMultiple {
@@ -132,6 +132,16 @@ extern "C" {
         out: *mut u8,
         out_length: usize,
     ) -> YubiMultiple;
+    fn yubi_multiply_inversion_free(
+        curve: *const u8,
+        curve_length: usize,
+        a: *const u8,
+        a_length: usize,
+        scalar: *const u8,
+        scalar_length: usize,
+        out: *mut u8,
+        out_length: usize,
+    ) -> YubiMultiple;
     fn yubi_total_batch(
         curve: *const u8,
         curve_length: usize,
@@ -205,6 +215,22 @@ pub fn opposite(curve: &[u8], a: &[u8], out: &mut [u8]) -> YubiAnswer {
 pub fn multiply(curve: &[u8], a: &[u8], scalar: &[u8], out: &mut [u8]) -> YubiMultiple {
     unsafe {
         yubi_multiply(
+            curve.as_ptr(),
+            curve.len(),
+            a.as_ptr(),
+            a.len(),
+            scalar.as_ptr(),
+            scalar.len(),
+            out.as_mut_ptr(),
+            out.len(),
+        )
+    }
+}
+
+/// The same by inversion-free coordinates.
+pub fn multiply_inversion_free(curve: &[u8], a: &[u8], scalar: &[u8], out: &mut [u8]) -> YubiMultiple {
+    unsafe {
+        yubi_multiply_inversion_free(
             curve.as_ptr(),
             curve.len(),
             a.as_ptr(),

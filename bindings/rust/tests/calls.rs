@@ -45,13 +45,15 @@ fn sums() {
 #[test]
 fn multiples() {
     let (c, a) = (curve_a(), divisor(&[0], &[1]));
-    let mut out = [0; DIVISOR_ROOM];
-    let four = multiply(&c, &a, &[4], &mut out);
-    assert_eq!(four, Ok(Multiple { length: 17, doublings: 2, additions: 0 }));
-    assert_eq!(out[..17], divisor(&[0], &[6])[..]);
-    assert_eq!(multiply(&c, &a, &[], &mut out), Ok(Multiple { length: 1, doublings: 0, additions: 0 }));
-    assert_eq!(multiply(&c, &a, &[0; SCALAR_ROOM + 1], &mut out), Err(Refusal::ScalarLength));
-    assert_eq!(multiply(&c, &a, &[2], &mut out[..32]), Err(Refusal::OutputLength));
+    for call in [multiply, multiply_inversion_free] {
+        let mut out = [0; DIVISOR_ROOM];
+        let four = call(&c, &a, &[4], &mut out);
+        assert_eq!(four, Ok(Multiple { length: 17, doublings: 2, additions: 0 }));
+        assert_eq!(out[..17], divisor(&[0], &[6])[..]);
+        assert_eq!(call(&c, &a, &[], &mut out), Ok(Multiple { length: 1, doublings: 0, additions: 0 }));
+        assert_eq!(call(&c, &a, &[0; SCALAR_ROOM + 1], &mut out), Err(Refusal::ScalarLength));
+        assert_eq!(call(&c, &a, &[2], &mut out[..32]), Err(Refusal::OutputLength));
+    }
 }
 
 #[test]

@@ -139,6 +139,7 @@ fn declarations_are_the_headers() {
         "yubi_first_repeat",
         "yubi_fresh_total",
         "yubi_multiply",
+        "yubi_multiply_inversion_free",
         "yubi_opposite",
         "yubi_rewrite_curve",
         "yubi_rewrite_divisor",

@@ -14,9 +14,9 @@ pub struct Multiple {
 }
 
 // The bit length of a number, and its ones.
-struct Counts {
-    length: u64,
-    ones: u64,
+pub struct Counts {
+    pub length: u64,
+    pub ones: u64,
 }
 
 // The bit length with one byte more behind.
@@ -31,7 +31,7 @@ fn grown(length: u64, b: u8) -> u64
 }
 
 impl Counts {
-    fn of(s: &[u8]) -> Counts
+    pub fn of(s: &[u8]) -> Counts
         requires { ⌜ length (now s) ≤ 32 ⌝ }
         ensures { λ r. ⌜ Counted (now (s .entry)) r ⌝ }
     {
@@ -52,7 +52,7 @@ impl Counts {
 }
 
 // Bit k of a scalar, counted from the lowest.
-fn bit(s: &[u8], k: u64) -> u8
+pub fn bit(s: &[u8], k: u64) -> u8
     requires { ⌜ k < 8 * length (now s) ⌝ }
     ensures { λ r. ⌜ r ≡ number (now (s .entry)) / 2 ^ k % 2 ⌝ }
 {
@@ -61,7 +61,7 @@ fn bit(s: &[u8], k: u64) -> u8
 }
 
 // r doubled, and a added where the bit is 1.
-fn step(c: Curve, a: Divisor, r: Divisor, bit: u8) -> Divisor
+pub fn step(c: Curve, a: Divisor, r: Divisor, bit: u8) -> Divisor
     requires { ⌜ ToStep c a r bit ⌝ }
     ensures { λ t. ⌜ Stepped c a r bit t ⌝ }
 {

@@ -1,6 +1,7 @@
--- From what was read and what was made to the rule's answer, for multiply: a scalar too long, an output too short, and the multiple written
--- with its two counts.
+-- From what was read and what was made to the rule's answer, for multiply, whichever the engine: a scalar too long, an output too short, and
+-- the multiple written with its two counts.
 use Prim.Native.Nat.{ℕ, _≤_, _<_}
+use native.Mathlib.Omega.{arith}
 use mathlib.Core.Path.{_≡_, refl, sym, ap, _∙_}
 use mathlib.Core.List.{List}
 use borrow.Author.Tests.{lt-ltb, le-ltb}
@@ -10,6 +11,7 @@ use Rattle.rules.specs.Bytes.{number}
 use Rattle.rules.specs.Multiple.{multiple, doublings, additions}
 use Rattle.rules.specs.Records.{choose, CurveRecord, curve, PairOf, divisor-bytes}
 use Rattle.rules.specs.Calls.{Written, Multiplied, done, write, not-multiplied, multiplied, multiply-call}
+use Rattle.field.specs.declared.Modulus.{Modulus}
 use Rattle.divisor.specs.Divisors.{pair}
 use Rattle.curve.specs.Record.{recordOf}
 use Rattle.multiple.specs.declared.Multiple.{Multiple}
@@ -18,50 +20,71 @@ use Rattle.answers.specs.declared.One.{One}
 use Rattle.answers.specs.Answers.{FirstRead, OneIs, PutIs}
 use Rattle.answers.proofs.Firsts.{one-stops, one-goes}
 use Rattle.answers.proofs.Written.{write-none, write-all}
+use Rattle.sums.specs.declared.MultipleAnswer.{MultipleAnswer}
+use Rattle.sums.specs.declared.MultipleAnswer.the-variants.{Done, Refused}
+use Rattle.sums.specs.Multiples.{MultipleIs, FactorsIs, WroteMultiple}
 
--- ---- what was put at the front of the output, with the counts of k
-module _ (out bytes : List ℕ) {o : List ℕ} {n : ℕ} (h : PutIs out bytes o n) (k : ℕ) where
-  multiplied-none : n ≡ 0 → not-multiplied o 13 0 ≡ multiplied (write out bytes) k
-  multiplied-none e = ap (λ (l : List ℕ). not-multiplied l 13 0) (h .kept e) ∙ sym (ap (λ (w : Written). multiplied w k) (write-none out bytes h e))
-
-  multiplied-all : (n ≡ 0 → ⊥) → _≡_ {A = Multiplied} (record { written = record { answer = done n; out = o }; doublings = doublings k; additions = additions k }) (multiplied (write out bytes) k)
-  multiplied-all e = sym (ap (λ (w : Written). multiplied w k) (write-all out bytes h e))
-
-module _ (s a out : List ℕ) (x : One) (h : OneIs s a x) where
+-- ---- before the engine: curve, divisor and scalar
+module _ (s a : List ℕ) (x : One) (h : OneIs s a x) (scalar : List ℕ) where
   abbrev c : CurveRecord
   c = recordOf (x .curve)
 
   abbrev d : PairOf c
   d = pair (x .curve .m) (x .divisor)
 
-  module _ (scalar : List ℕ) where
+  module _ (out : List ℕ) where
     fold : FirstRead → Multiplied
     fold p = choose (ltb 32 (length scalar)) (not-multiplied out 12 0) (multiplied (write out (divisor-bytes (p .0 .p) (multiple (curve (p .0)) (number scalar) (p .1)))) (number scalar))
 
-    pub multiply-refused : (x .number ≡ 0 → ⊥) → not-multiplied out (x .number) (x .place) ≡ multiply-call s a scalar out
+    refused : (x .number ≡ 0 → ⊥) → multiply-call s a scalar out ≡ not-multiplied out (x .number) (x .place)
     unfolding fold multiply-call
-    multiply-refused n = sym (one-stops (not-multiplied out) fold s a (x .number) (x .place) (h .refuses n))
+    refused n = one-stops (not-multiplied out) fold s a (x .number) (x .place) (h .refuses n)
 
-    module _ (z : x .number ≡ 0) where
-      on : multiply-call s a scalar out ≡ fold (c, d)
-      unfolding fold multiply-call
-      on = one-goes (not-multiplied out) fold s a (c, d) (h .takes z)
+    on : x .number ≡ 0 → multiply-call s a scalar out ≡ fold (c, d)
+    unfolding fold multiply-call
+    on z = one-goes (not-multiplied out) fold s a (c, d) (h .takes z)
 
-      pub multiply-long : 32 < length scalar → not-multiplied out 12 0 ≡ multiply-call s a scalar out
-      unfolding fold
-      multiply-long l = sym (on ∙ rw (lt-ltb 32 (length scalar) l) refl)
+    long : x .number ≡ 0 → 32 < length scalar → multiply-call s a scalar out ≡ not-multiplied out 12 0
+    unfolding fold
+    long z l = on z ∙ rw (lt-ltb 32 (length scalar) l) refl
 
-      module _ (l : length scalar ≤ 32) (y : Multiple) (g : IsMultiple (x .curve) (x .divisor) (number scalar) y) where
-        abbrev bytes : List ℕ
-        bytes = divisor-bytes (c .p) (pair (x .curve .m) (y .divisor))
+    short : x .number ≡ 0 → length scalar ≤ 32 → multiply-call s a scalar out ≡ multiplied (write out (divisor-bytes (c .p) (multiple (curve c) (number scalar) d))) (number scalar)
+    unfolding fold
+    short z l = on z ∙ rw (le-ltb 32 (length scalar) l) refl
 
-        through : multiply-call s a scalar out ≡ multiplied (write out bytes) (number scalar)
-        unfolding fold
-        through = on ∙ rw (le-ltb 32 (length scalar) l) (ap (λ t. multiplied (write out (divisor-bytes (c .p) t)) (number scalar)) (sym (g .gives .is)))
+  pub factors-refused : (x .number ≡ 0 → ⊥) → FactorsIs s a scalar x
+  factors-refused n = record { ready = λ z. absurd (n z); goes = λ z. absurd (n z); stops = λ _ out. refused out n }
 
-        module _ {o : List ℕ} {n : ℕ} (p : PutIs out bytes o n) where
-          pub multiply-short : n ≡ 0 → not-multiplied o 13 0 ≡ multiply-call s a scalar out
-          multiply-short e = multiplied-none out bytes p (number scalar) e ∙ sym through
+  pub factors-taken : x .number ≡ 0 → length scalar ≤ 32 → FactorsIs s a scalar x
+  factors-taken z l = record { ready = λ _. record { sound = h .sound z; holds = h .holds z; short = l }; goes = λ _ out. short out z l; stops = λ n. absurd (n z) }
 
-          pub multiply-done : (n ≡ 0 → ⊥) → _≡_ {A = Multiplied} (record { written = record { answer = done n; out = o }; doublings = y .doublings; additions = y .additions }) (multiply-call s a scalar out)
-          multiply-done e = (λ i. record { written = record { answer = done n; out = o }; doublings = (g .doublings-is) i; additions = (g .additions-is) i }) ∙ multiplied-all out bytes p (number scalar) e ∙ sym through
+  pub factors-long : x .number ≡ 0 → 32 < length scalar → (r : One) → r .number ≡ 12 → r .place ≡ 0 → FactorsIs s a scalar r
+  factors-long z l r n p = record {
+    ready = λ e. absurd (some e);
+    goes = λ e. absurd (some e);
+    stops = λ _ out. long out z l ∙ (λ i. not-multiplied out (sym n i) (sym p i));
+  }
+    where
+      some : r .number ≡ 0 → ⊥
+      some e = omega (arith, n, e)
+
+-- ---- after it: what was put at the front of the output, with the counts of k
+module _ (y : Multiple) (m : Modulus) (out : List ℕ) {o : List ℕ} {n : ℕ} (h : PutIs out (divisor-bytes (m .p) (pair m (y .divisor))) o n) where
+  abbrev bytes : List ℕ
+  bytes = divisor-bytes (m .p) (pair m (y .divisor))
+
+  pub wrote-none : n ≡ 0 → WroteMultiple y m out (Refused 13 0) o
+  wrote-none e k _ _ = ap (λ (l : List ℕ). not-multiplied l 13 0) (h .kept e) ∙ sym (ap (λ (w : Written). multiplied w k) (write-none out bytes h e))
+
+  pub wrote-all : (n ≡ 0 → ⊥) → WroteMultiple y m out (Done n (y .doublings) (y .additions)) o
+  wrote-all e k hd ha = (λ i. record { written = record { answer = done n; out = o }; doublings = hd i; additions = ha i }) ∙ sym (ap (λ (w : Written). multiplied w k) (write-all out bytes h e))
+
+-- ---- the whole call: whatever engine makes the multiple, the answer is the rule's
+module _ (s a scalar : List ℕ) (x : One) (h : FactorsIs s a scalar x) (out : List ℕ) where
+  pub multiply-refused : (x .number ≡ 0 → ⊥) → MultipleIs (Refused (x .number) (x .place)) out (multiply-call s a scalar out)
+  multiply-refused n = sym (h .stops n out)
+
+  pub multiply-done : x .number ≡ 0 → (y : Multiple) → IsMultiple (x .curve) (x .divisor) (number scalar) y
+      → (r : MultipleAnswer) (o : List ℕ) → WroteMultiple y (x .curve .m) out r o → MultipleIs r o (multiply-call s a scalar out)
+  multiply-done z y g r o w = w (number scalar) (g .doublings-is) (g .additions-is)
+      ∙ ap (λ t. multiplied (write out (divisor-bytes (x .curve .m .p) t)) (number scalar)) (g .gives .is) ∙ sym (h .goes z out)

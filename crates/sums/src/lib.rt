@@ -1,10 +1,17 @@
-// The calls inside Rattle that make a divisor out of those they read: double, opposite, add, multiply. Every promise is an equation with the
-// call's rule.
+// The calls inside Rattle that make a divisor out of those they read: double, opposite, add, multiply by either engine. Every promise is an
+// equation with the call's rule.
 ghost use Rattle.rules.specs.Calls.{double-call, opposite-call, add-call, multiply-call};
 ghost use Rattle.answers.specs.Answers.{Wrote};
-ghost use Rattle.sums.specs.Multiples.{MultipleIs};
+ghost use Rattle.divisor.specs.Divisors.{Held};
+ghost use Rattle.rules.specs.Bytes.{number};
+ghost use Rattle.multiple.specs.Contracts.{ToMultiply, Multiplied};
+ghost use Rattle.sums.specs.Multiples.{MultipleIs, FactorsIs, WroteMultiple};
 use answers::Answer;
+use answers::One;
+use curve::Curve;
+use divisor::Divisor;
 use divisor_read::DivisorRead;
+use field::Modulus;
 use multiple::Multiple;
 
 // Done, with the length and the two counts.
@@ -52,23 +59,77 @@ pub fn add(curve: &[u8], a: &[u8], b: &[u8], out: &mut [u8]) -> Answer
     }
 }
 
-pub fn multiply(curve: &[u8], a: &[u8], scalar: &[u8], out: &mut [u8]) -> MultipleAnswer
-    ensures { λ r. ⌜ MultipleIs r (now (out .exit)) (multiply-call (now (curve .entry)) (now (a .entry)) (now (scalar .entry)) (now (out .entry))) ⌝ }
+// What every multiplication reads and checks: number 12 where the scalar is too long.
+fn read_factors(curve: &[u8], a: &[u8], scalar: &[u8]) -> One
+    ensures { λ r. ⌜ FactorsIs (now (curve .entry)) (now (a .entry)) (now (scalar .entry)) r ⌝ }
 {
     let x = answers::read_one(curve, a);
     if x.number != 0 {
-        return MultipleAnswer::Refused(x.number, x.place);
+        return x;
     }
     if 32 < scalar.len() {
-        return MultipleAnswer::Refused(12, 0);
+        let c = x.curve;
+        return One {
+            number: 12,
+            place: 0,
+            curve: c,
+            divisor: Divisor::Neutral,
+        };
     }
-    let c = x.curve;
-    let d = x.divisor;
-    let y = Multiple::of(c, d, scalar);
+    x
+}
+
+// What every multiplication writes and answers.
+fn write_multiple(y: Multiple, m: Modulus, out: &mut [u8]) -> MultipleAnswer
+    requires { ⌜ Held m (y .divisor) ⌝ }
+    ensures { λ r. ⌜ WroteMultiple y m (now (out .entry)) r (now (out .exit)) ⌝ }
+{
     let e = y.divisor;
-    let n = answers::write_out(e, c.m, out);
+    let n = answers::write_out(e, m, out);
     if n == 0 {
         return MultipleAnswer::Refused(13, 0);
     }
     MultipleAnswer::Done(n, y.doublings, y.additions)
+}
+
+// The engine that takes fewer instructions (docs/BENCH.md): in genus 2 the one without inversions.
+fn quicker(c: Curve, a: Divisor, s: &[u8]) -> Multiple
+    requires { ⌜ ToMultiply c a (now s) ⌝ }
+    ensures { λ r. ⌜ Multiplied c a (number (now (s .entry))) r ⌝ }
+{
+    let g = c.g;
+    if g == 2 {
+        return free_multiple::of(c, a, s);
+    }
+    Multiple::of(c, a, s)
+}
+
+pub fn multiply(curve: &[u8], a: &[u8], scalar: &[u8], out: &mut [u8]) -> MultipleAnswer
+    ensures { λ r. ⌜ MultipleIs r (now (out .exit)) (multiply-call (now (curve .entry)) (now (a .entry)) (now (scalar .entry)) (now (out .entry))) ⌝ }
+{
+    let x = read_factors(curve, a, scalar);
+    if x.number != 0 {
+        return MultipleAnswer::Refused(x.number, x.place);
+    }
+    let c = x.curve;
+    let d = x.divisor;
+    write_multiple(quicker(c, d, scalar), c.m, out)
+}
+
+// The same by the second engine.
+pub fn multiply_inversion_free(
+    curve: &[u8],
+    a: &[u8],
+    scalar: &[u8],
+    out: &mut [u8],
+) -> MultipleAnswer
+    ensures { λ r. ⌜ MultipleIs r (now (out .exit)) (multiply-call (now (curve .entry)) (now (a .entry)) (now (scalar .entry)) (now (out .entry))) ⌝ }
+{
+    let x = read_factors(curve, a, scalar);
+    if x.number != 0 {
+        return MultipleAnswer::Refused(x.number, x.place);
+    }
+    let c = x.curve;
+    let d = x.divisor;
+    write_multiple(free_multiple::of(c, d, scalar), c.m, out)
 }

@@ -1,23 +1,29 @@
 -- The output is in the rule's answer as the call left it, whichever the case; and a fresh total is the rule's.
 use Prim.Native.Nat.{ℕ}
-use mathlib.Core.Path.{_≡_, refl, ap₂}
+use mathlib.Core.Path.{_≡_, refl, sym, ap, ap₂, _∙_}
 use mathlib.Core.List.{List}
 use Rattle.sums.specs.declared.MultipleAnswer.{MultipleAnswer}
 use Rattle.sums.specs.declared.MultipleAnswer.the-variants.{Done, Refused}
-use Rattle.sums.specs.Multiples.{multipleOf}
+use Rattle.sums.specs.Multiples.{multipleOf, MultipleIs}
 use Rattle.totals.specs.declared.TotalAnswer.{TotalAnswer}
 use Rattle.totals.specs.declared.TotalAnswer.the-variants.{Done as DoneTotal, Refused as RefusedTotal}
 use Rattle.totals.specs.Totals.{totalOf}
-use Rattle.rules.specs.Calls.{fresh}
+use Rattle.rules.specs.Calls.{Multiplied, fresh}
 use Rattle.divisor.specs.declared.Divisor.{Divisor}
 use Rattle.running.specs.declared.Running.{Running}
 use Rattle.running.specs.Totals.{Fresh}
 use Rattle.scans.specs.Scans.{runningOf}
 use Rattle.flats.specs.Flats.{flat-running}
+use Rattle.structs.specs.declared.YubiMultiple.{YubiMultiple}
+use Rattle.structs.specs.Flat.{flat-multiple, FlatMultiple}
 
-pub multiple-out : (a : MultipleAnswer) (out : List ℕ) → multipleOf a out .written .out ≡ out
+multiple-out : (a : MultipleAnswer) (out : List ℕ) → multipleOf a out .written .out ≡ out
 multiple-out (Done n d s) out = refl
 multiple-out (Refused n k) out = refl
+
+-- a multiple's answer flattened, whichever engine made it
+pub multiple-done : (a : MultipleAnswer) (out : List ℕ) (r : YubiMultiple) (rule : Multiplied) → FlatMultiple a r → MultipleIs a out rule → (r ≡ flat-multiple rule) × (out ≡ rule .written .out)
+multiple-done a out r rule f e = (f out ∙ ap flat-multiple e, sym (multiple-out a out) ∙ ap (λ (x : Multiplied). x .written .out) e)
 
 pub total-out : (a : TotalAnswer) (out : List ℕ) → totalOf a out .written .out ≡ out
 total-out (DoneTotal n k) out = refl

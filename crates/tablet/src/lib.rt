@@ -80,6 +80,20 @@ pub extern "C" fn yubi_multiply(
     structs::flatten_multiple(sums::multiply(curve, a, scalar, out))
 }
 
+// The same words, kept by the second engine.
+#[no_mangle]
+pub extern "C" fn yubi_multiply_inversion_free(
+    curve: &[u8],
+    a: &[u8],
+    scalar: &[u8],
+    out: &mut [u8],
+) -> YubiMultiple
+    ensures answer { λ r. ⌜ r ≡ flat-multiple (multiply-call (now (curve .entry)) (now (a .entry)) (now (scalar .entry)) (now (out .entry))) ⌝ }
+    ensures output { λ r. ⌜ now (out .exit) ≡ multiply-call (now (curve .entry)) (now (a .entry)) (now (scalar .entry)) (now (out .entry)) .written .out ⌝ }
+{
+    structs::flatten_multiple(sums::multiply_inversion_free(curve, a, scalar, out))
+}
+
 #[no_mangle]
 pub extern "C" fn yubi_total_batch(curve: &[u8], batch: &[u8], out: &mut [u8]) -> YubiTotal
     ensures answer { λ r. ⌜ r ≡ flat-total (total-call (now (curve .entry)) (now (batch .entry)) (now (out .entry))) ⌝ }

@@ -114,6 +114,10 @@ pub fn line(
         }
         10 => repeated(text, tablet::yubi_first_repeat(curve, first)),
         11 => scan(text, curve, first, total),
+        12 => {
+            let a = tablet::yubi_multiply_inversion_free(curve, first, second, out);
+            multiplied(text, a, out)
+        }
         _ => 0,
     }
 }

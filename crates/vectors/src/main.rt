@@ -15,21 +15,25 @@ const GUARD: u8 = 165;
 
 const MOST_OUTPUT: usize = 128;
 
-// The line of the frame at the front of s, put at the front of the text; answers its length, 0 where the frame is malformed.
-fn line(s: &[u8], f: Frame, text: &mut [u8]) -> usize
-    requires { ⌜ InOrder f × (f .end ≤ length (now s)) ⌝ }
+// The two operations that multiply, and more than the length of their line. No frame has the second: each of the first is run through both.
+const MULTIPLY: u8 = 8;
+
+const INVERSION_FREE: u8 = 12;
+
+const MOST_LINE: usize = 512;
+
+// The line of the frame at the front of s by a call, put at the front of the text; answers its length, 0 where there is no such call.
+fn line_by(operation: u8, s: &[u8], f: Frame, text: &mut [u8]) -> usize
+    requires { ⌜ InOrder f × ((f .end ≤ length (now s)) × (f .output ≤ 128)) ⌝ }
 {
     let a = f.first;
     let b = f.second;
     let c = f.total;
     let e = f.end;
     let n = f.output;
-    if MOST_OUTPUT < n {
-        return 0;
-    }
     let mut out = [GUARD; MOST_OUTPUT];
     calls::line(
-        s[0],
+        operation,
         &s[21..a],
         &s[a..b],
         &s[b..c],
@@ -37,6 +41,33 @@ fn line(s: &[u8], f: Frame, text: &mut [u8]) -> usize
         &s[c..e],
         text,
     )
+}
+
+// The same by the frame's own call, 0 where the frame is malformed; a multiple's is 0 too where the other call that multiplies has another line.
+fn line(s: &[u8], f: Frame, text: &mut [u8]) -> usize
+    requires { ⌜ InOrder f × (f .end ≤ length (now s)) ⌝ }
+{
+    let most = f.output;
+    if MOST_OUTPUT < most {
+        return 0;
+    }
+    let operation = s[0];
+    let k = line_by(operation, s, f, text);
+    if operation != MULTIPLY {
+        return k;
+    }
+    let mut again = [0; MOST_LINE];
+    let n = line_by(INVERSION_FREE, s, f, &mut again);
+    if text.len() < k {
+        return 0;
+    }
+    if MOST_LINE < n {
+        return 0;
+    }
+    if check::same(&text[..k], &again[..n]) {
+        return k;
+    }
+    0
 }
 
 // The lines of all frames, one after the other, at the front of the text; answers their length. They end at a malformed frame, so that the

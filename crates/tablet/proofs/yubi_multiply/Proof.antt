@@ -1,8 +1,4 @@
-use mathlib.Core.Path.{sym}
-use Rattle.tablet.proofs.Outputs.{multiple-out}
-use mathlib.Core.Path.{ap, _∙_}
-use Rattle.rules.specs.Calls.{Multiplied}
-use Rattle.structs.specs.Flat.{flat-multiple}
+use Rattle.tablet.proofs.Outputs.{multiple-done}
 use borrow.Author.Needs.{needs}
 use Rattle.tablet.proofs.yubi_multiply.Statement.{statement}
 use Rattle.tablet.proofs.yubi_multiply.Tie as tie
@@ -17,7 +13,7 @@ same-length : tie.Need-same-length
 same-length c = search needs
 
 returns : tie.Need-returns
-returns c = let m = c .before .before .before .multiply in (c .flatten-multiple .ensures (m .last .1 .1 .1 .0) ∙ ap flat-multiple (m .ensures), sym (multiple-out (m .result) (m .last .1 .1 .1 .0)) ∙ ap (λ (x : Multiplied). x .written .out) (m .ensures))
+returns c = let m = c .before .before .before .multiply in multiple-done (m .result) (m .last .1 .1 .1 .0) (c .flatten-multiple .result) _ (c .flatten-multiple .ensures) (m .ensures)
 
 pub yubi-multiply-spec : {M : Type 1} → statement M
 yubi-multiply-spec =

@@ -1,0 +1,105 @@
+//! Multiples by both multiply calls, where the second engine meets special pairs, and at full size.
+
+use crate::engine::Call;
+use crate::inputs::{divisor_record, Sample};
+use crate::judge::Judge;
+
+const SMALL: [(usize, u64); 6] = [(2, 3), (2, 5), (2, 7), (2, 11), (3, 3), (3, 5)];
+const CURVES: usize = 2;
+const MOST_SCALAR: u16 = 300;
+const LARGE: u64 = 2_147_483_647;
+const ROOM: usize = 49;
+
+/// Every divisor of small curves by every scalar to 300; then `count` multiples by scalars of 32 bytes.
+pub fn run(judge: &mut Judge, count: u64) {
+    for (genus, p) in SMALL {
+        let (before, mut divisors) = (judge.tally.twins, 0);
+        for _ in 0..CURVES {
+            let sample = Sample::new(&mut judge.rng, genus, p);
+            for a in every_divisor(&sample) {
+                divisors += 1;
+                for n in 0..=MOST_SCALAR {
+                    let a = &a;
+                    judge.put(Call::Multiply { curve: &sample.curve, a, scalar: &n.to_be_bytes() }, ROOM);
+                }
+            }
+        }
+        let multiples = judge.tally.twins - before;
+        println!("g {} p {}: {} curves, {} divisors, {} multiples", genus, p, CURVES, divisors, multiples);
+    }
+    let before = judge.tally.twins;
+    for round in 0..count {
+        let sample = Sample::new(&mut judge.rng, if round % 8 == 7 { 3 } else { 2 }, LARGE);
+        let a = sample.any(&mut judge.rng).to_vec();
+        let mut scalar = judge.rng.bytes(32);
+        if judge.rng.one_in(8) {
+            scalar.fill(0xff);
+        }
+        judge.put(Call::Multiply { curve: &sample.curve, a: &a, scalar: &scalar }, ROOM);
+    }
+    println!("p {}: {} multiples by scalars of 32 bytes", LARGE, judge.tally.twins - before);
+}
+
+/// The neutral divisor, then all of each weight: a brute search.
+fn every_divisor(sample: &Sample) -> Vec<Vec<u8>> {
+    let p = sample.p;
+    let mut found = Vec::new();
+    for weight in 0..=sample.genus {
+        for k in 0..p.pow(2 * weight as u32) {
+            let numbers: Vec<u64> = (0..2 * weight as u32).map(|i| k / p.pow(i) % p).collect();
+            let record = divisor_record(&numbers[..weight], &numbers[weight..]);
+            if plain::check_divisor(&sample.curve, &record).number == 0 {
+                found.push(record);
+            }
+        }
+    }
+    found
+}
+
+#[cfg(test)]
+mod tests {
+    use super::*;
+    use crate::engine::{Engine, Plain, Reply};
+    use crate::inputs::{curve_record, Rng};
+
+    /// The plain engine, its second multiply call wrong where the scalar is 255.
+    struct Wrong;
+
+    impl Engine for Wrong {
+        fn name(&self) -> &'static str {
+            "wrong"
+        }
+
+        fn answer(&self, call: &Call, out: &mut [u8]) -> Reply {
+            let mut reply = Plain.answer(call, out);
+            if let Call::MultiplyInversionFree { scalar, .. } = call {
+                reply.counts[1] += u64::from(scalar.ends_with(&[255]));
+            }
+            reply
+        }
+    }
+
+    /// Also where both engines are wrong in the same way: the two calls differ.
+    #[test]
+    fn a_wrong_second_call_shows() {
+        let engines: [(&dyn Engine, &dyn Engine, u64); 3] = [(&Plain, &Plain, 0), (&Wrong, &Plain, 2), (&Wrong, &Wrong, 2)];
+        for (first, second, differences) in engines {
+            let mut judge = Judge::new(first, second, 1, true);
+            let sample = Sample::new(&mut Rng::new(1), 2, 7);
+            for scalar in [[0, 3], [0, 255], [1, 255]] {
+                let a = sample.pool.iter().find(|record| record.len() > 1).expect("a point");
+                judge.put(Call::Multiply { curve: &sample.curve, a, scalar: &scalar }, ROOM);
+            }
+            assert_eq!((judge.tally.twins, judge.tally.differences), (3, differences));
+        }
+    }
+
+    /// y² = x^5 + 1 modulo 7 has 50 divisors.
+    #[test]
+    fn every_divisor_is_found() {
+        let (f, curve) = (vec![1, 0, 0, 0, 0], curve_record(2, 7, &[1, 0, 0, 0, 0]));
+        let sample = Sample { genus: 2, p: 7, f, curve, pool: Vec::new() };
+        let found = every_divisor(&sample);
+        assert_eq!((found.len(), &found[0]), (50, &vec![0]));
+    }
+}

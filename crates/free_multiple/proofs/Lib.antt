@@ -1,0 +1,4 @@
+pub mod Steps
+pub mod Running
+pub mod Engines
+pub mod Climbing

@@ -1,0 +1,99 @@
+-- What a partial multiple in code stands for, and what the engine's steps promise.
+use Prim.Native.Nat.{ℕ, _+_, _*_, _/_, _^_, _≤_, _<_}
+use mathlib.Core.Path.{_≡_}
+use mathlib.Core.Logic.{_≢_}
+use mathlib.Core.List.{List}
+use lib.ListN.{length}
+use Rattle.algebra.proofs.zmod.Zmod.{zmod}
+use Rattle.algebra.proofs.poly.Poly.{coef}
+use Rattle.algebra.proofs.zmod.PrimeField.{modulo}
+use Rattle.rules.specs.Pair.{Pair, Valid}
+use Rattle.rules.specs.Sum.{sum, double}
+use Rattle.rules.specs.Multiple.{multiple}
+use Rattle.rules.specs.Bytes.{number}
+use Rattle.field.specs.declared.Residue.{Residue}
+use Rattle.field.specs.Residues.{el, Stands, Settled}
+use Rattle.poly.specs.Polys.{K, pol}
+use Rattle.divisor.specs.declared.Divisor.{Divisor}
+use Rattle.divisor.specs.declared.Divisor.the-variants.{Two}
+use Rattle.divisor.specs.declared.Quadratic.{Quadratic}
+use Rattle.divisor.specs.Divisors.{pair}
+use Rattle.curve.specs.declared.Curve.{Curve}
+use Rattle.curve.specs.Curves.{curveOf, Sound, Holds, Gives}
+use Rattle.free.specs.declared.Tuple.{Tuple}
+use Rattle.free.specs.Tuples.{KeptTuple, Quotients}
+use Rattle.free_multiple.specs.declared.State.{State}
+use Rattle.free_multiple.specs.declared.Run.{Run}
+use Rattle.free_multiple.specs.declared.State.the-variants.{Free, Plain}
+
+module _ (c : Curve) where
+  -- t stands for the valid pair x, on a curve of genus 2
+  pub record IsFree (t : Tuple) (x : Pair (modulo (c .m .p))) : Type 0 where
+    pub genus : c .g ≡ 2
+    pub kept : KeptTuple (c .m) t
+    pub quotients : Quotients (c .m) t x
+    pub valid : Valid (curveOf c) x
+
+  abbrev pub Means : State → Pair (modulo (c .m .p)) → Type 0
+  Means (Free t) x = IsFree t x
+  Means (Plain d) x = Gives c d x
+
+  -- it stands for some valid pair
+  pub record SomeFree (t : Tuple) : Type 0 where
+    pub x : Pair (modulo (c .m .p))
+    pub free : IsFree t x
+
+  pub record Some (s : State) : Type 0 where
+    pub x : Pair (modulo (c .m .p))
+    pub means : Means s x
+
+  abbrev pub GivesIt : State → Divisor → Type 0
+  GivesIt s d = (x : Pair (modulo (c .m .p))) → Means s x → Gives c d x
+
+  abbrev pub Doubles : State → State → Type 0
+  Doubles s r = (x : Pair (modulo (c .m .p))) → Means s x → Means r (double (curveOf c) x)
+
+  abbrev pub Adds : State → Divisor → State → Type 0
+  Adds s a r = (x : Pair (modulo (c .m .p))) → Means s x → Means r (sum (curveOf c) x (pair (c .m) a))
+
+  -- a multiple of a with one bit more
+  abbrev pub Stepped : Divisor → State → ℕ → State → Type 0
+  Stepped a s bit t = (n : ℕ) → Means s (multiple (curveOf c) n (pair (c .m) a)) → Means t (multiple (curveOf c) (n + n + bit) (pair (c .m) a))
+
+  -- the curve's own coefficients
+  pub record Reads (f2 f3 f4 : Residue) : Type 0 where
+    pub second : Stands (c .m) f2 (coef (K (c .m)) (pol (c .m) (c .f)) 2)
+    pub third : Stands (c .m) f3 (coef (K (c .m)) (pol (c .m) (c .f)) 3)
+    pub fourth : Stands (c .m) f4 (coef (K (c .m)) (pol (c .m) (c .f)) 4)
+
+  pub record ToClimb (f2 f3 f4 : Residue) (q : Quadratic) (t : Tuple) (bit : ℕ) : Type 0 where
+    pub sound : Sound c
+    pub reads : Reads f2 f3 f4
+    pub left : SomeFree t
+    pub right : Holds c (Two q)
+    pub small : bit < 2
+
+  -- a step on tuples alone, where the last Z isn't 0
+  pub record Climbed (q : Quadratic) (t : Tuple) (bit : ℕ) (r : Tuple) : Type 0 where
+    pub settled : Settled (c .m) (r .z)
+    pub is : el (c .m) (r .z) ≢ zmod (c .m .p) .zer → Stepped (Two q) (Free t) bit (Free r)
+
+  -- s stands for the multiple of a by n without its lowest k bits
+  abbrev pub Reaches : Divisor → ℕ → State → ℕ → Type 0
+  Reaches a n s k = Means s (multiple (curveOf c) (n / 2 ^ k) (pair (c .m) a))
+
+  pub record ToRun (a : Divisor) (s : List ℕ) (r : State) (k : ℕ) : Type 0 where
+    pub sound : Sound c
+    pub right : Holds c a
+    pub place : k ≤ 8 * length s
+    pub reaches : Reaches a (number s) r k
+
+  -- some bits taken, or none
+  pub record Ran (a : Divisor) (n k : ℕ) (x : Run) : Type 0 where
+    pub at-most : x .k ≤ k
+    pub reaches : Reaches a n (x .state) (x .k)
+
+  -- one at least
+  pub record GoneOn (a : Divisor) (n k : ℕ) (x : Run) : Type 0 where
+    pub less : x .k < k
+    pub reaches : Reaches a n (x .state) (x .k)

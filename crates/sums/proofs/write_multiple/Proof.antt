@@ -1,0 +1,23 @@
+use Rattle.sums.proofs.Multiples.{wrote-none, wrote-all}
+use borrow.Author.Needs.{needs}
+use Rattle.sums.proofs.write_multiple.Statement.{statement}
+use Rattle.sums.proofs.write_multiple.Tie as tie
+
+write-out-requires : tie.Need-write-out-requires
+write-out-requires c κs = search needs
+
+same-length : tie.Need-same-length
+same-length c = search needs
+
+returns : tie.Need-returns
+returns c = let s = c .before .before .before .before .before .before in wrote-none (s .args .y) (s .args .m) (s .args .out .now) (c .before .before .before .write-out .ensures) (c .if1 .taken)
+
+same-length-2 : tie.Need-same-length-2
+same-length-2 c = search needs
+
+returns-2 : tie.Need-returns-2
+returns-2 c = let s = c .before .before .before .before .before .before in wrote-all (s .args .y) (s .args .m) (s .args .out .now) (c .before .before .before .write-out .ensures) (c .if1 .left)
+
+pub write-multiple-spec : {M : Type 1} → statement M
+write-multiple-spec =
+    tie.close (tie.spec write-out-requires same-length returns same-length-2 returns-2)
