@@ -33,7 +33,7 @@ ORDER = [
     "algebra/proofs/ring", "algebra/proofs/list/Ops", "algebra/proofs/zmod", "algebra/proofs/poly/Series", "algebra/proofs/poly/Bound", "algebra/proofs/poly/Poly",
     "algebra/proofs/poly", "algebra/proofs/list", "algebra", "rules/proofs/Demand3", "rules/proofs",
 ]  # fmt: skip
-RULES = ["Curve", "Pair", "Sum", "Multiple", "Tests", "Bytes", "Records", "Lists", "Calls"]
+RULES = ["Curve", "Pair", "Sum", "Multiple", "Tests", "Bytes", "Checks", "Records", "Lists", "Calls"]
 SIGNATURE = re.compile(r"((?:unfoldable |abbrev |pub )*)(\S+)(?: \{[^}]*\})? :(?: |$)")
 DECLARED = re.compile(r"(?:pub )?(record|data) (\S+)")
 
@@ -128,23 +128,23 @@ class File:
         return new
 
     def member(self, item, word, indent):
-        """A constructor stands for its data; a record's field that is a proof is a law wherever a value of it is made."""
+        """A constructor stands for its data; a record's field that is a proof, and in no other record a value, is a law wherever a value of it is made."""
         sign = SIGNATURE.match(word)
         if sign and indent == item.indent + 2:
             if item.kind == "data":
                 item.members.append(sign.group(2))
-            if item.kind == "record" and re.search(r"[≡≢⊥]|IsSet", word):
-                LAWS.add(sign.group(2))
+            if item.kind == "record":
+                (LAWS if re.search(r"[≡≢⊥]|IsSet", word) else DATA).add(sign.group(2))
 
     def defined(self):
         return {n: i for i in self.items if i.kind in ("definition", "record", "data") for n in [i.name] + i.members}
 
 
-LAWS, FILES = set(), {}
+LAWS, DATA, FILES = set(), set(), {}
 
 
 def law(line):
-    return re.match(r"(\S+) = ", line) and line.split()[0] in LAWS and line.endswith(";")
+    return re.match(r"(\S+) = ", line) and line.split()[0] in LAWS - DATA and line.endswith(";")
 
 
 def load(module):

@@ -10,7 +10,7 @@ import random
 import sys
 
 PRIMES = [3, 5, 7, 2147483647]
-ROOM = 16
+ROOM = 11
 
 
 def trim(a):

@@ -5,9 +5,9 @@ use mathlib.Core.Path.{_≡_, refl, sym, ap, ap₂, _∙_, subst}
 use mathlib.Core.Bool.{true}
 use mathlib.Core.List.{List}
 use native.Mathlib.Omega.{arith}
-use Rattle.rules.specs.Records.{Checked, refused, taken, CurveRecord, PairOf, read-curve, read-divisor}
-use Rattle.rules.specs.Calls.{check}
-use Rattle.rules.proofs.calls.Refusals.{check-taken, check-refused, divisor-numbered}
+use Rattle.rules.specs.Checks.{Checked, refused, taken, go-on}
+use Rattle.rules.specs.Records.{CurveRecord, PairOf, read-curve, read-divisor}
+use Rattle.rules.proofs.calls.Refusals.{on-taken, on-refused, divisor-numbered}
 use Rattle.divisor.specs.declared.Divisor.{Divisor}
 use Rattle.curve_read.specs.declared.CurveRead.{CurveRead}
 use Rattle.divisor_read.specs.declared.DivisorRead.the-variants.{Taken, Refused}
@@ -18,25 +18,24 @@ use Rattle.answers.specs.declared.One.{One}
 use Rattle.answers.specs.Answers.{FirstRead, one-rule, OneIs}
 
 -- a divisor checked on a curve that was taken, then `go`
-after : {R : Type 0} (stop : ℕ → ℕ → R) (go : FirstRead → R) (c : CurveRecord) (d : Checked (PairOf c))
-    → check d stop (λ x. go (c, x)) ≡ check (check d refused (λ x. taken (c, x))) stop go
-after stop go c (refused n k) = refl
-after stop go c (taken x) = refl
+after : {B : Type 0} (go : FirstRead → Checked B) (c : CurveRecord) (d : Checked (PairOf c)) → go-on d (λ x. go (c, x)) ≡ go-on (go-on d (λ x. taken (c, x))) go
+after go c (refused n k) = refl
+after go c (taken x) = refl
 
-both : {R : Type 0} (stop : ℕ → ℕ → R) (go : FirstRead → R) (a : List ℕ) (s : Checked CurveRecord)
-    → check s stop (λ c. check (read-divisor c 1 a) stop (λ x. go (c, x))) ≡ check (check s refused (λ c. check (read-divisor c 1 a) refused (λ x. taken (c, x)))) stop go
-both stop go a (refused n k) = refl
-both stop go a (taken c) = after stop go c (read-divisor c 1 a)
+both : {B : Type 0} (go : FirstRead → Checked B) (a : List ℕ) (s : Checked CurveRecord)
+    → go-on s (λ c. go-on (read-divisor c 1 a) (λ x. go (c, x))) ≡ go-on (go-on s (λ c. go-on (read-divisor c 1 a) (λ x. taken (c, x)))) go
+both go a (refused n k) = refl
+both go a (taken c) = after go c (read-divisor c 1 a)
 
-module _ {R : Type 0} (stop : ℕ → ℕ → R) (go : FirstRead → R) (s a : List ℕ) where
-  abbrev whole : R
-  whole = check (read-curve s) stop (λ c. check (read-divisor c 1 a) stop (λ x. go (c, x)))
+module _ {B : Type 0} (go : FirstRead → Checked B) (s a : List ℕ) where
+  abbrev whole : Checked B
+  whole = go-on (read-curve s) (λ c. go-on (read-divisor c 1 a) (λ x. go (c, x)))
 
-  pub one-stops : (n k : ℕ) → one-rule s a ≡ refused n k → whole ≡ stop n k
-  one-stops n k e = both stop go a (read-curve s) ∙ check-refused _ stop go e
+  pub one-stops : (n k : ℕ) → one-rule s a ≡ refused n k → whole ≡ refused n k
+  one-stops n k e = both go a (read-curve s) ∙ on-refused _ go e
 
   pub one-goes : (x : FirstRead) → one-rule s a ≡ taken x → whole ≡ go x
-  one-goes x e = both stop go a (read-curve s) ∙ check-taken _ stop go e
+  one-goes x e = both go a (read-curve s) ∙ on-taken _ go e
 
 -- ---- what `read_one` answers
 module _ (s a : List ℕ) (x : One) where
@@ -45,18 +44,18 @@ module _ (s a : List ℕ) (x : One) where
     sound = λ z. absurd (n (sym e ∙ z));
     holds = λ z. absurd (n (sym e ∙ z));
     takes = λ z. absurd (n (sym e ∙ z));
-    refuses = λ z. ap (λ t. check t refused (λ c. check (read-divisor c 1 a) refused (λ y. taken (c, y)))) (h .refuses n) ∙ ap₂ refused (sym e) (sym p);
+    refuses = λ z. ap (λ t. go-on t (λ c. go-on (read-divisor c 1 a) (λ y. taken (c, y)))) (h .refuses n) ∙ ap₂ refused (sym e) (sym p);
   }
 
   module _ (r : CurveRead) (h : CurveIs s r) (z : r .number ≡ 0) where
-    first : one-rule s a ≡ check (read-divisor (recordOf (r .curve)) 1 a) refused (λ y. taken (recordOf (r .curve), y))
-    first = ap (λ t. check t refused (λ c. check (read-divisor c 1 a) refused (λ y. taken (c, y)))) (h .takes z)
+    first : one-rule s a ≡ go-on (read-divisor (recordOf (r .curve)) 1 a) (λ y. taken (recordOf (r .curve), y))
+    first = ap (λ t. go-on t (λ c. go-on (read-divisor c 1 a) (λ y. taken (c, y)))) (h .takes z)
 
     pub one-taken : (d : Divisor) → DivisorIs (r .curve) true a 0 (Taken d) → x ≡ record { number = 0; place = 0; curve = r .curve; divisor = d } → OneIs s a x
     one-taken d k e = subst (OneIs s a) (sym e) (record {
       sound = λ q. h .sound z;
       holds = λ q. k .0;
-      takes = λ q. first ∙ ap (λ t. check t refused (λ y. taken (recordOf (r .curve), y))) (k .1 1);
+      takes = λ q. first ∙ ap (λ t. go-on t (λ y. taken (recordOf (r .curve), y))) (k .1 1);
       refuses = λ q. absurd (q refl);
     })
 
@@ -65,7 +64,7 @@ module _ (s a : List ℕ) (x : One) where
       sound = λ q. absurd (some q);
       holds = λ q. absurd (some q);
       takes = λ q. absurd (some q);
-      refuses = λ q. first ∙ ap (λ t. check t refused (λ y. taken (recordOf (r .curve), y))) (k 1);
+      refuses = λ q. first ∙ ap (λ t. go-on t (λ y. taken (recordOf (r .curve), y))) (k 1);
     })
       where
         some : n ≡ 0 → ⊥

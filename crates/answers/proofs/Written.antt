@@ -1,7 +1,7 @@
 -- Records at the front of an output: 13 where it is shorter, and what stands there where it is not.
 use Prim.Native.Nat.{ℕ, suc, _+_, _*_, _≤_, _<_}
 use mathlib.Core.Path.{_≡_, refl, sym, ap, _∙_, subst}
-use mathlib.Core.List.{List}
+use mathlib.Core.List.{List, []}
 use native.Mathlib.Omega.{arith}
 use borrow.Author.Tests.{lt-ltb, le-ltb}
 use lib.ListN.{length, length-append}
@@ -11,7 +11,9 @@ use Rattle.algebra.proofs.poly.Poly.{coef}
 use Rattle.algebra.proofs.list.Coefs.{length-coefs}
 use Rattle.rules.specs.Bytes.{bytes64, all-bytes}
 use Rattle.rules.specs.Records.{numbers, curve-bytes, divisor-bytes}
-use Rattle.rules.specs.Calls.{Written, left-as-is, write, done}
+use Rattle.rules.specs.Checks.{Checked}
+use Rattle.rules.specs.Calls.{Answer as RuleAnswer, Result, put, deliver, stop, write, done}
+use Rattle.rules.proofs.calls.Written.{Written}
 use Rattle.rules.proofs.calls.Bytes.{length-bytes}
 use Rattle.rules.proofs.calls.Elements.{length-numbers}
 use Rattle.divisor.specs.declared.Divisor.{Divisor}
@@ -43,21 +45,27 @@ module _ (out bytes : List ℕ) where
   put-all e p l h = record { short = λ z. absurd (omega arith); kept = λ z. absurd (omega arith); fits = λ z. omega arith; all = λ z. sym e; put = λ z. h }
 
   module _ {o : List ℕ} {n : ℕ} (h : PutIs out bytes o n) where
-    pub write-none : n ≡ 0 → write out bytes ≡ left-as-is out 13 0
-    write-none e = rw (lt-ltb (length out) (length bytes) (h .short e)) refl
+    -- with numbers of the call's own
+    module _ {N : Type 0} (none own : N) where
+      pub deliver-none : n ≡ 0 → put none out (record { bytes = bytes; own = own }) ≡ stop none out 13 0
+      deliver-none e = rw (lt-ltb (length out) (length bytes) (h .short e)) refl
 
-    pub write-all : (n ≡ 0 → ⊥) → write out bytes ≡ record { answer = done n; out = o }
-    write-all e = rw (le-ltb (length out) (length bytes) (h .fits e)) (λ i. record { answer = record { number = 0; place = 0; length = (sym (h .all e)) i }; out = (sym (h .put e)) i })
+      pub deliver-all : (n ≡ 0 → ⊥) → put none out (record { bytes = bytes; own = own }) ≡ record { answer = done n; out = o; own = own }
+      deliver-all e = rw (le-ltb (length out) (length bytes) (h .fits e)) (λ i. record { answer = record { number = 0; place = 0; length = (sym (h .all e)) i }; out = (sym (h .put e)) i; own = own })
 
     pub wrote-none : n ≡ 0 → Wrote (Refused 13 0) o (write out bytes)
-    wrote-none e = record { answer = sym (ap (λ (w : Written). w .answer) (write-none e)); bytes = h .kept e ∙ sym (ap (λ (w : Written). w .out) (write-none e)) }
+    wrote-none e = record { answer = sym (ap (λ (w : Written). w .answer) (deliver-none tt tt e)); bytes = h .kept e ∙ sym (ap (λ (w : Written). w .out) (deliver-none tt tt e)) }
 
     pub wrote-all : (n ≡ 0 → ⊥) → Wrote (Done n) o (write out bytes)
-    wrote-all e = record { answer = sym (ap (λ (w : Written). w .answer) (write-all e)); bytes = sym (ap (λ (w : Written). w .out) (write-all e)) }
+    wrote-all e = record { answer = sym (ap (λ (w : Written). w .answer) (deliver-all tt tt e)); bytes = sym (ap (λ (w : Written). w .out) (deliver-all tt tt e)) }
 
 -- ---- a refusal before anything was written, and a call that goes on as another rule says
-pub refused-as : {n k : ℕ} {out : List ℕ} {rule : Written} → rule ≡ left-as-is out n k → Wrote (Refused n k) out rule
+pub refused-as : {n k : ℕ} {out : List ℕ} {rule : Written} → rule ≡ stop tt out n k → Wrote (Refused n k) out rule
 refused-as {n} {k} {out} {rule} e = record { answer = sym (ap (λ (w : Written). w .answer) e); bytes = sym (ap (λ (w : Written). w .out) e) }
 
 pub goes-on : {r : Answer} {o : List ℕ} {rule rest : Written} → rule ≡ rest → Wrote r o rest → Wrote r o rule
 goes-on {r} {o} e h = subst (λ (w : Written). Wrote r o w) (sym e) h
+
+-- what a check answers: nothing is written
+abbrev pub answer : Checked (Result (Unit {0})) → RuleAnswer
+answer x = (deliver tt [] x) .answer

@@ -5,8 +5,10 @@ use mathlib.Core.Path.{_≡_}
 use mathlib.Core.List.{List}
 use lib.ListN.{length}
 use lib.Seq.{sets}
-use Rattle.rules.specs.Records.{Checked, refused, taken, CurveRecord, PairOf, read-curve, read-divisor}
-use Rattle.rules.specs.Calls.{Answer as RuleAnswer, Written, refusal, done, check}
+use Rattle.rules.specs.Checks.{Checked, refused, taken, go-on}
+use Rattle.rules.specs.Records.{CurveRecord, PairOf, read-curve, read-divisor}
+use Rattle.rules.specs.Calls.{Answer as RuleAnswer, refusal, done}
+use Rattle.rules.proofs.calls.Written.{Written}
 use Rattle.divisor.specs.Divisors.{pair}
 use Rattle.curve.specs.Curves.{Sound, Holds}
 use Rattle.curve.specs.Record.{recordOf}
@@ -37,7 +39,7 @@ abbrev pub FirstRead : Type 0
 FirstRead = (c : CurveRecord) × PairOf c
 
 abbrev pub one-rule : List ℕ → List ℕ → Checked FirstRead
-one-rule s a = check (read-curve s) refused (λ c. check (read-divisor c 1 a) refused (λ x. taken (c, x)))
+one-rule s a = go-on (read-curve s) (λ c. go-on (read-divisor c 1 a) (λ x. taken (c, x)))
 
 pub record OneIs (s a : List ℕ) (r : One) : Type 0 where
   pub sound : r .number ≡ 0 → Sound (r .curve)

@@ -74,7 +74,7 @@ pub fn write_answer(d: Divisor, m: Modulus, out: &mut [u8]) -> Answer
 {
     let n = write_out(d, m, out);
     if n == 0 {
-        return Answer::Refused(13, 0);
+        return Answer::Refused(refusals::OUTPUT_LENGTH, 0);
     }
     Answer::Done(n)
 }
@@ -111,7 +111,7 @@ pub fn rewrite_curve(curve: &[u8], out: &mut [u8]) -> Answer
     }
     let n = 22 + 16 * c.g;
     if out.len() < n {
-        return Answer::Refused(13, 0);
+        return Answer::Refused(refusals::OUTPUT_LENGTH, 0);
     }
     writes::write_curve(c, out);
     Answer::Done(n as u64)

@@ -73,7 +73,7 @@ module _ (m : Modulus) where
         n-3 = omega (arith, hh .short-t, he .gcd .short, to .n-1, to .n-2);
       }
 
-      pub common-fits : (h : Line) → Xgcd m (e .r) w h → h .s .n + e .t .n < 17
+      pub common-fits : (h : Line) → Xgcd m (e .r) w h → h .s .n + e .t .n < 12
       common-fits h hh = omega (arith, hh .short-s, he .short-t, to .n-1, to .n-w)
 
   -- both pairs are one

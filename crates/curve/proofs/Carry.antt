@@ -32,7 +32,7 @@ use Rattle.curve.specs.Curves.{curveOf, Sound, Holds, Divided}
 pub neutral-holds : (c : Curve) → Good (c .m) → Holds c Neutral
 neutral-holds c g = record { held = neutral-held (c .m) g; valid = subst (Valid (curveOf c)) (sym (neutral-is (c .m))) (neutral-valid (curveOf c)) }
 
-pub square-fits : (m : Modulus) (d : Divisor) (x : Mumford) → AsPair m d x → x .v .n + x .v .n ≤ 17
+pub square-fits : (m : Modulus) (d : Divisor) (x : Mumford) → AsPair m d x → x .v .n + x .v .n ≤ 12
 square-fits m d x h = omega (arith, h .n-v, weight-le d)
 
 module _ (c : Curve) (d : Divisor) (x : Mumford) (hx : AsPair (c .m) d x) where

@@ -12,7 +12,8 @@ use Rattle.field.specs.declared.ModulusRead.the-variants.{Modulo, NoPrime}
 use Rattle.field.specs.Primes.{OddPrime}
 use Rattle.field.specs.Read.{ModulusIs}
 use Rattle.heads.specs.Heads.{HeadIs}
-use Rattle.heads.proofs.Head.{genus-is, low-rule, behind}
+use Rattle.heads.proofs.Head.{low-rule, behind}
+use Rattle.rules.proofs.calls.CurveRecords.{genus-is}
 use Rattle.curve_read.specs.declared.CurveRead.{CurveRead}
 use Rattle.curve_read.specs.Read.{CurveIs, ToLow, LowIs}
 use Rattle.curve_read.proofs.Primes.{odd-prime-no}

@@ -59,14 +59,14 @@ fn read_low(s: &[u8], g: usize, m: Modulus) -> CurveRead
             }
         } else {
             CurveRead {
-                number: 7,
+                number: refusals::REPEATED_FACTOR,
                 curve: c,
             }
         }
     } else {
         let c = Curve { m: m, g: g, f: l };
         CurveRead {
-            number: 6,
+            number: refusals::CURVE_COEFFICIENT,
             curve: c,
         }
     }
@@ -94,6 +94,6 @@ pub fn read_curve(s: &[u8]) -> CurveRead
     }
     match Modulus::read(words::read64(s, 6)) {
         ModulusRead::Modulo(m) => read_low(s, words::wide(s[5]) as usize, m),
-        ModulusRead::NoPrime => no_curve(5),
+        ModulusRead::NoPrime => no_curve(refusals::PRIME),
     }
 }

@@ -60,12 +60,12 @@ pub fn divisor_at(c: Curve, whole: bool, s: &[u8], a: usize) -> DivisorRead
     ensures { λ r. ⌜ DivisorIs c whole (now (s .entry)) a r ⌝ }
 {
     if s.len() <= a {
-        return DivisorRead::Refused(8);
+        return DivisorRead::Refused(refusals::DIVISOR_LENGTH);
     }
     let w = words::wide(s[a]) as usize;
     let g = c.g;
     if g < w {
-        return DivisorRead::Refused(9);
+        return DivisorRead::Refused(refusals::WEIGHT);
     }
     if record_fits(whole, a + 1 + 16 * w, s.len()) {
         let x = residues_at(s, a + 1, 2 * w, c.m);
@@ -75,12 +75,12 @@ pub fn divisor_at(c: Curve, whole: bool, s: &[u8], a: usize) -> DivisorRead
             if c.carries(d) {
                 DivisorRead::Taken(d)
             } else {
-                DivisorRead::Refused(11)
+                DivisorRead::Refused(refusals::NOT_ON_CURVE)
             }
         } else {
-            DivisorRead::Refused(10)
+            DivisorRead::Refused(refusals::DIVISOR_COEFFICIENT)
         }
     } else {
-        DivisorRead::Refused(8)
+        DivisorRead::Refused(refusals::DIVISOR_LENGTH)
     }
 }

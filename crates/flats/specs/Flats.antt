@@ -6,7 +6,7 @@ use mathlib.Core.Path.{_≡_}
 use mathlib.Core.List.{List, [], _∷_, map}
 use lib.ListN.{getD, length, take}
 use Rattle.rules.specs.Records.{CurveRecord, taken, refused, read-curve}
-use Rattle.rules.specs.Calls.{Running as RuleRunning, Scanned, scan-on}
+use Rattle.rules.specs.Calls.{Running as RuleRunning, Reply, scan-on}
 use Rattle.field.specs.Residues.{raw}
 use Rattle.divisor.specs.declared.Divisor.{Divisor}
 use Rattle.divisor.specs.Divisors.{us, vs}
@@ -40,8 +40,8 @@ pub record Cut (t : YubiRunning) (d : Divisor) : Type 0 where
 abbrev pub scanned-as : ℕ → ℕ → ℕ → YubiRunning → YubiScanned
 scanned-as n k l t = record { number = n; place = k; length = l; total = t }
 
-abbrev pub flat-scanned : Scanned → YubiScanned
-flat-scanned x = scanned-as (x .answer .number) (x .answer .place) (x .answer .length) (flat-running (x .total))
+abbrev pub flat-scanned : Reply RuleRunning → YubiScanned
+flat-scanned x = scanned-as (x .answer .number) (x .answer .place) (x .answer .length) (flat-running (x .own))
 
 -- the curve first, then the total's form, then the scan
 pub record FlatScanIs (t : YubiRunning) (s a : List ℕ) (r : YubiScanned) : Type 0 where

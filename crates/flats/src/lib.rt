@@ -182,7 +182,7 @@ pub fn scan(t: YubiRunning, curve: &[u8], record: &[u8]) -> YubiScanned
         }
     } else {
         YubiScanned {
-            number: 15,
+            number: refusals::RUNNING_TOTAL,
             place: 0,
             length: 0,
             total: t,

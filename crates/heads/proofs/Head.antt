@@ -2,22 +2,14 @@
 use Prim.Native.Nat.{ℕ, suc, _+_, _*_, _≤_, _<_}
 use mathlib.Core.Path.{_≡_, refl}
 use mathlib.Core.List.{List}
-use mathlib.Core.Bool.{Bool, true, false}
+use mathlib.Core.Bool.{true, false}
 use native.Mathlib.Omega.{arith}
-use borrow.Author.Tests.{lt-leb, le-leb, eq-eqb, ne-eqb, eqb-true}
-use lib.Dec.{eqb}
+use borrow.Author.Tests.{lt-leb, le-leb, eq-eqb, ne-eqb}
 use lib.ListN.{getD, length}
 use Rattle.rules.specs.Bytes.{word64, words}
 use Rattle.rules.specs.Tests.{square-free?}
-use Rattle.rules.specs.Records.{Checked, refused, taken, choose, either, CurveRecord, curve, odd-prime?, below?, elements, read-curve}
-use Rattle.heads.specs.Heads.{Marked, IsGenus, Headed, HeadIs}
-
-pub genus-is : (g : ℕ) → IsGenus g ≡ true → (2 ≤ g) × (g ≤ 3)
-genus-is g e = two (eqb g 2) (eqb-true g 2) (eqb g 3) (eqb-true g 3) e
-  where
-    two : (a : Bool) → (a ≡ true → g ≡ 2) → (b : Bool) → (b ≡ true → g ≡ 3) → either a b ≡ true → (2 ≤ g) × (g ≤ 3)
-    two true h b k e = omega (arith, h refl)
-    two false h b k e = omega (arith, k e)
+use Rattle.rules.specs.Records.{Checked, refused, taken, choose, marked?, genus?, CurveRecord, curve, odd-prime?, below?, elements, read-curve}
+use Rattle.heads.specs.Heads.{Headed, HeadIs}
 
 module _ (s : List ℕ) where
   -- the last two checks
@@ -39,21 +31,21 @@ module _ (s : List ℕ) where
   too-short l = stopped 1 (omega arith) (rw (lt-leb 6 (length s) l))
 
   module _ (long : 6 ≤ length s) where
-    pub unmarked : Marked s ≡ false → HeadIs s 2
+    pub unmarked : marked? s ≡ false → HeadIs s 2
     unfolding read-curve
     unmarked e = stopped 2 (omega arith) (rw (le-leb 6 (length s) long, e))
 
-    module _ (mark : Marked s ≡ true) where
+    module _ (mark : marked? s ≡ true) where
       pub other-version : (getD s 3 0 * 256 + getD s 4 0 ≡ 1 → ⊥) → HeadIs s 3
       unfolding read-curve
       other-version e = stopped 3 (omega arith) (rw (le-leb 6 (length s) long, mark, ne-eqb _ _ e))
 
       module _ (version : getD s 3 0 * 256 + getD s 4 0 ≡ 1) where
-        pub other-genus : IsGenus (getD s 5 0) ≡ false → HeadIs s 4
+        pub other-genus : genus? (getD s 5 0) ≡ false → HeadIs s 4
         unfolding read-curve
         other-genus e = stopped 4 (omega arith) (rw (le-leb 6 (length s) long, mark, eq-eqb _ _ version, e))
 
-        module _ (genus : IsGenus (getD s 5 0) ≡ true) where
+        module _ (genus : genus? (getD s 5 0) ≡ true) where
           pub other-length : (length s ≡ 22 + 16 * getD s 5 0 → ⊥) → HeadIs s 1
           unfolding read-curve
           other-length e = stopped 1 (omega arith) (rw (le-leb 6 (length s) long, mark, eq-eqb _ _ version, genus, ne-eqb _ _ e))

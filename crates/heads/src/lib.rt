@@ -2,12 +2,13 @@
 ghost use mathlib.Core.Path.{_≡_};
 ghost use Prim.Native.Nat.{_≤_};
 ghost use lib.ListN.{length};
-ghost use Rattle.heads.specs.Heads.{Marked, IsGenus, HeadIs};
+ghost use Rattle.rules.specs.Records.{marked?, genus?};
+ghost use Rattle.heads.specs.Heads.{HeadIs};
 use curve::Curve;
 
 fn marked(s: &[u8]) -> bool
     requires { ⌜ 6 ≤ length (now s) ⌝ }
-    ensures { λ r. ⌜ r ≡ Marked (now (s .entry)) ⌝ }
+    ensures { λ r. ⌜ r ≡ marked? (now (s .entry)) ⌝ }
 {
     if s[0] == Curve::MARK[0] {
         if s[1] == Curve::MARK[1] {
@@ -18,7 +19,7 @@ fn marked(s: &[u8]) -> bool
 }
 
 fn is_genus(g: u64) -> bool
-    ensures { λ r. ⌜ r ≡ IsGenus g ⌝ }
+    ensures { λ r. ⌜ r ≡ genus? g ⌝ }
 {
     if g == 2 {
         return true;
@@ -31,20 +32,20 @@ pub fn head_number(s: &[u8]) -> u64
     ensures { λ r. ⌜ HeadIs (now (s .entry)) r ⌝ }
 {
     if s.len() < 6 {
-        return 1;
+        return refusals::CURVE_LENGTH;
     }
     if marked(s) {
         if words::wide(s[3]) * 256 + words::wide(s[4]) != Curve::VERSION {
-            return 3;
+            return refusals::VERSION;
         }
         let g = words::wide(s[5]);
         if is_genus(g) {
             if s.len() != 22 + 16 * (g as usize) {
-                return 1;
+                return refusals::CURVE_LENGTH;
             }
             return 0;
         }
-        return 4;
+        return refusals::GENUS;
     }
-    2
+    refusals::MARK
 }

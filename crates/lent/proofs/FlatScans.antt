@@ -7,15 +7,13 @@ use native.Mathlib.Decide.{ℕ-discrete}
 use native.Mathlib.Omega.{arith}
 use lib.ListN.{length, getD, take}
 use Rattle.rules.specs.Records.{Checked, CurveRecord, taken, refused, curve, read-curve}
-use Rattle.rules.specs.Calls.{Running, Scanned, scan-call}
+use Rattle.rules.specs.Calls.{Running, Reply, scan-call}
 use Rattle.rules.specs.Sum.{sum}
 use Rattle.rules.proofs.calls.Elements.{length-numbers}
-use Rattle.rules.proofs.calls.Refusals.{check-taken}
 use Rattle.rules.proofs.calls.CurveRecords.{accepts}
 use Rattle.rules.proofs.calls.DivisorRecords.{divisor-valid}
 use Rattle.rules.proofs.calls.Accepted.{accepts-laws}
-use Rattle.rules.proofs.calls.Kept.{scan-kept}
-use Rattle.rules.proofs.calls.Scans.{resume-valid, scan-done}
+use Rattle.rules.proofs.calls.Scans.{resume-valid, scan-on-is, scan-done, scan-kept}
 use Rattle.flats.specs.declared.YubiRunning.{YubiRunning}
 use Rattle.flats.specs.declared.YubiScanned.{YubiScanned}
 use Rattle.flats.specs.Flats.{flat-running, unflat, Flattened, flat-scanned, FlatScanIs}
@@ -55,26 +53,25 @@ small-unflat t = let h = small-take (t .weight) (t .u0) (t .u1) (t .u2) (t .v0) 
 
 -- ---- a scan leaves a small total small
 module _ (s : List ℕ) {c : CurveRecord} (ec : read-curve s ≡ taken c) where
-  small-after : (t : Running) (a : List ℕ) → Small t → Small ((scan-call t s a) .total)
+  small-after : (t : Running) (a : List ℕ) → Small t → Small ((scan-call t s a) .own)
   small-after t a h = go (ℕ-discrete ((scan-call t s a) .answer .number) 0)
     where
-      go : Dec ((scan-call t s a) .answer .number ≡ 0) → Small ((scan-call t s a) .total)
-      go (no n) = subst Small (sym (scan-kept s t a .1 n)) h
+      go : Dec ((scan-call t s a) .answer .number ≡ 0) → Small ((scan-call t s a) .own)
+      go (no n) = subst Small (sym (scan-kept s t a n)) h
       go (yes e) =
           let d = scan-done s ec t a e in
           let v = accepts-laws c (accepts s ec) .sum-closed (d .x) (d .y) (resume-valid c t (d .t-is)) (divisor-valid c 1 true a 0 (d .a-is)) in
-          subst (λ (w : Scanned). Small (w .total)) (sym (d .is)) (record {
+          subst (λ (w : Reply Running). Small (w .own)) (sym (d .is)) (record {
             same = length-numbers (c .p) (sum (curve c) (d .x) (d .y) .v) ∙ v .fits ∙ sym (length-numbers (c .p) (sum (curve c) (d .x) (d .y) .u));
             few = omega (arith, length-numbers (c .p) (sum (curve c) (d .x) (d .y) .u), v .small, accepts s ec .greatest);
           })
 
   module _ (t : YubiRunning) (a : List ℕ) (r : YubiScanned) (f : Flattened t) (h : FlatScanIs t s a r) where
     pub scan-is : r ≡ flat-scanned (scan-call (unflat t) s a)
-    unfolding scan-call
-    scan-is = h .scans c ec f ∙ ap flat-scanned (sym (check-taken (read-curve s) _ _ ec))
+    scan-is = h .scans c ec f ∙ ap flat-scanned (sym (scan-on-is s ec (unflat t) a))
 
-    pub leaves : unflat (r .total) ≡ (scan-call (unflat t) s a) .total
-    leaves = ap (λ (x : YubiScanned). unflat (x .total)) scan-is ∙ unflat-flat ((scan-call (unflat t) s a) .total) (small-after (unflat t) a (small-unflat t))
+    pub leaves : unflat (r .total) ≡ (scan-call (unflat t) s a) .own
+    leaves = ap (λ (x : YubiScanned). unflat (x .total)) scan-is ∙ unflat-flat ((scan-call (unflat t) s a) .own) (small-after (unflat t) a (small-unflat t))
 
     pub fine : Flattened (r .total)
     fine = ap flat-running leaves ∙ sym (ap (λ (x : YubiScanned). x .total) scan-is)
@@ -92,4 +89,4 @@ module _ (t : YubiRunning) (s a : List ℕ) (r : YubiScanned) (h : FlatScanIs t 
       go (taken c) e (no f) = total-of (h .not-flat c e f)
       go (taken c) e (yes f) =
           let is = scan-is s e t a r f h in
-          total-of is ∙ ap flat-running (scan-kept s (unflat t) a .1 (λ z. n (ap (λ (x : YubiScanned). x .number) is ∙ z))) ∙ f
+          total-of is ∙ ap flat-running (scan-kept s (unflat t) a (λ z. n (ap (λ (x : YubiScanned). x .number) is ∙ z))) ∙ f

@@ -6,7 +6,7 @@ use mathlib.Core.List.{List, [], _∷_, map}
 use mathlib.Core.HLevel.{Discrete, ×-discrete}
 use native.Mathlib.Decide.{ℕ-discrete}
 use Rattle.rules.specs.Records.{Checked, CurveRecord, taken, refused, read-curve}
-use Rattle.rules.specs.Calls.{Running as RuleRunning, Scanned}
+use Rattle.rules.specs.Calls.{Running as RuleRunning, Reply}
 use Rattle.field.specs.declared.Residue.{Residue}
 use Rattle.field.specs.Residues.{raw}
 use Rattle.divisor.specs.Divisors.{us, vs}
@@ -42,7 +42,7 @@ same-total x y e = λ i. record { divisor = divisors i; count = e i .count }
 pub one-lent-scan : (t : Running) (s a : List ℕ) (r q : Report) (x y : Running) → ScanIs t s a r x → ScanIs t s a q y → (r ≡ q) × (x ≡ y)
 one-lent-scan t s a r q x y h k =
     let both = h .is ∙ sym (k .is) in
-    ((λ i. record { number = both i .answer .number; place = both i .answer .place }), same-total x y (ap (λ (w : Scanned). w .total) both))
+    ((λ i. record { number = both i .answer .number; place = both i .answer .place }), same-total x y (ap (λ (w : Reply RuleRunning). w .own) both))
 
 -- ---- a flat total
 abbrev Eight : Type 0

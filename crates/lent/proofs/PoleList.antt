@@ -5,8 +5,8 @@ use Prim.Native.Nat.{ℕ}
 use mathlib.Core.Path.{_≡_, refl, ap}
 use mathlib.Core.List.{List, _++_, map, flatten}
 use Rattle.rules.specs.Records.{CurveRecord, taken, read-curve}
-use Rattle.rules.specs.Calls.{Answer, Scanned, fresh, write, totalled, total-call}
-use Rattle.rules.proofs.calls.Scans.{running-bytes}
+use Rattle.rules.specs.Calls.{Answer, Running as RuleRunning, Reply, fresh, put, total-call}
+use Rattle.rules.proofs.calls.Scans.{running-result}
 use Rattle.field.specs.Residues.{raw}
 use Rattle.divisor.specs.Divisors.{us, vs}
 use Rattle.running.specs.declared.Running.{Running}
@@ -28,17 +28,17 @@ module _ (s : List ℕ) {c : CurveRecord} (ec : read-curve s ≡ taken c) where
   LentScan t a r after = ScanIs t s a r after
 
   pub lent-is-batch-total : (t : Running) → Fresh t → (xs later : List (Scan Running Report)) → AllScans LentScan t (xs ++ later)
-      → (out : List ℕ) → total-call s (flatten (took (λ (r : Report). r .number) xs)) out ≡ totalled (write out (running-bytes (runningOf (last-total t xs)))) (last-total t xs .count)
+      → (out : List ℕ) → total-call s (flatten (took (λ (r : Report). r .number) xs)) out ≡ put 0 out (running-result (runningOf (last-total t xs)))
   lent-is-batch-total t f =
       sequence-total (λ (r : Report). r .number) LentScan s runningOf (λ t. Unit {0})
-      (λ t a r after f h. record { fine = tt; answers = ap (λ (w : Scanned). w .answer .number) (h .is); leaves = ap (λ (w : Scanned). w .total) (h .is) })
+      (λ t a r after f h. record { fine = tt; answers = ap (λ (w : Reply RuleRunning). w .answer .number) (h .is); leaves = ap (λ (w : Reply RuleRunning). w .own) (h .is) })
       ec t tt (fresh-is t f)
 
   abbrev pub FlatScan : YubiRunning → List ℕ → Answer → YubiRunning → Type 0
   FlatScan t a r after = FlatScanIs t s a (scanned-as (r .number) (r .place) (r .length) after)
 
   pub flat-is-batch-total : (xs later : List (Scan YubiRunning Answer)) → AllScans FlatScan (flat-running fresh) (xs ++ later)
-      → (out : List ℕ) → total-call s (flatten (took (λ (r : Answer). r .number) xs)) out ≡ totalled (write out (running-bytes (unflat (last-total (flat-running fresh) xs)))) (last-total (flat-running fresh) xs .count)
+      → (out : List ℕ) → total-call s (flatten (took (λ (r : Answer). r .number) xs)) out ≡ put 0 out (running-result (unflat (last-total (flat-running fresh) xs)))
   flat-is-batch-total =
       sequence-total (λ (r : Answer). r .number) FlatScan s unflat Flattened
       (λ t a r after f h. record { fine = flat.fine s ec t a (scanned-as (r .number) (r .place) (r .length) after) f h; answers = ap (λ (x : YubiScanned). x .number) (flat.scan-is s ec t a (scanned-as (r .number) (r .place) (r .length) after) f h); leaves = flat.leaves s ec t a (scanned-as (r .number) (r .place) (r .length) after) f h })

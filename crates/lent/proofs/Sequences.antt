@@ -7,9 +7,8 @@ use mathlib.Core.List.{List, [], _∷_, _++_, flatten}
 use borrow.Author.Tests.{eqb-true, eqb-false}
 use lib.Dec.{eqb}
 use Rattle.rules.specs.Records.{CurveRecord, taken, choose, read-curve}
-use Rattle.rules.specs.Calls.{Running, fresh, write, totalled, total-call, scan-call}
-use Rattle.rules.proofs.calls.Kept.{scan-kept}
-use Rattle.rules.proofs.calls.Scans.{running-bytes, scans, AllDone, scans-batch}
+use Rattle.rules.specs.Calls.{Running, fresh, put, total-call, scan-call}
+use Rattle.rules.proofs.calls.Scans.{running-result, scans, AllDone, scans-batch, scan-kept}
 
 -- one scan: its record, what it reported, and the total that it left
 pub record Scan (A Report : Type 0) : Type 0 where
@@ -40,7 +39,7 @@ module _ {A Report : Type 0} where
     pub record AsRule (t : A) (a : List ℕ) (r : Report) (after : A) : Type 0 where
       pub fine : Fine after
       pub answers : number r ≡ (scan-call (rule t) s a) .answer .number
-      pub leaves : rule after ≡ (scan-call (rule t) s a) .total
+      pub leaves : rule after ≡ (scan-call (rule t) s a) .own
 
     -- the rule, given the records rs alone, goes from t to end
     abbrev Reaches : A → List (List ℕ) → A → Type 0
@@ -53,7 +52,7 @@ module _ {A Report : Type 0} where
     )
 
     one-refused : (t : A) (x : Scan A Report) (rs : List (List ℕ)) (end : A) → AsRule t (x .bytes) (x .report) (x .after) → (number (x .report) ≡ 0 → ⊥) → Reaches (x .after) rs end → Reaches t rs end
-    one-refused t x rs end h n k = subst (λ (u : Running). (scans u s rs ≡ rule end) × AllDone u s rs) (h .leaves ∙ scan-kept s (rule t) (x .bytes) .1 (λ z. n (h .answers ∙ z))) k
+    one-refused t x rs end h n k = subst (λ (u : Running). (scans u s rs ≡ rule end) × AllDone u s rs) (h .leaves ∙ scan-kept s (rule t) (x .bytes) (λ z. n (h .answers ∙ z))) k
 
     module _ (step : (t : A) (a : List ℕ) (r : Report) (after : A) → Fine t → Keeps t a r after → AsRule t a r after) where
       reaches : (t : A) (xs : List (Scan A Report)) → Fine t → AllScans Keeps t xs → Reaches t (took number xs) (last-total t xs)
@@ -66,8 +65,8 @@ module _ {A Report : Type 0} where
           go k false e rest = one-refused t x (took number xs) (last-total (x .after) xs) k (eqb-false _ _ e) rest
 
       pub sequence-total : {c : CurveRecord} → read-curve s ≡ taken c → (t : A) → Fine t → rule t ≡ fresh → (xs later : List (Scan A Report)) → AllScans Keeps t (xs ++ later)
-          → (out : List ℕ) → total-call s (flatten (took number xs)) out ≡ totalled (write out (running-bytes (rule (last-total t xs)))) (rule (last-total t xs) .count)
+          → (out : List ℕ) → total-call s (flatten (took number xs)) out ≡ put 0 out (running-result (rule (last-total t xs)))
       sequence-total ec t f e xs later h out =
           let k = reaches t xs f (so-far Keeps t xs later h) in
           scans-batch s ec (took number xs) (subst (λ (u : Running). AllDone u s (took number xs)) e (k .1)) out
-          ∙ ap (λ (u : Running). totalled (write out (running-bytes u)) (u .count)) (ap (λ (u : Running). scans u s (took number xs)) (sym e) ∙ k .0)
+          ∙ ap (λ (u : Running). put 0 out (running-result u)) (ap (λ (u : Running). scans u s (took number xs)) (sym e) ∙ k .0)

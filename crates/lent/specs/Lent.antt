@@ -2,8 +2,8 @@
 -- whatever total was lent; refused, it keeps every bit.
 use Prim.Native.Nat.{ℕ}
 use mathlib.Core.Path.{_≡_}
-use mathlib.Core.List.{List}
-use Rattle.rules.specs.Calls.{Answer, Scanned, scan-call}
+use mathlib.Core.List.{List, []}
+use Rattle.rules.specs.Calls.{Answer, Running as RuleRunning, Reply, scan-call}
 use Rattle.running.specs.declared.Running.{Running}
 use Rattle.scans.specs.Scans.{runningOf}
 use Rattle.lent.specs.declared.Report.{Report}
@@ -12,8 +12,8 @@ use Rattle.lent.specs.declared.Report.{Report}
 abbrev pub answerOf : Report → Answer
 answerOf r = record { number = r .number; place = r .place; length = 0 }
 
-abbrev pub lentOf : Report → Running → Scanned
-lentOf r after = record { answer = answerOf r; total = runningOf after }
+abbrev pub lentOf : Report → Running → Reply RuleRunning
+lentOf r after = record { answer = answerOf r; out = []; own = runningOf after }
 
 -- a scan of the record a into the total t, under the curve record s, reported r and left the total after
 pub record ScanIs (t : Running) (s a : List ℕ) (r : Report) (after : Running) : Type 0 where

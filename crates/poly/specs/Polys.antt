@@ -17,7 +17,7 @@ use Rattle.poly.specs.declared.Poly.{Poly}
 
 -- how many coefficients there is room for
 abbrev pub room : ℕ
-room = 16
+room = 11
 
 -- the residues, and the polynomials over them
 abbrev pub K : Modulus → CRing

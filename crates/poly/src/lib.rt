@@ -13,8 +13,9 @@ use field::Modulus;
 use field::Residue;
 
 // Room for every intermediate of the sum in genus 3. Its largest are s2 * (v1 - v2) + s3 * w2 in the composition (degree 10 at most) and
-// f - v * v before it is divided by u (degree 10 at most); Euclid's cofactors are no longer than what it starts from.
-pub const ROOM: usize = 16;
+// f - v * v before it is divided by u (degree 10 at most); Euclid's cofactors are no longer than what it starts from. No room
+// more: a polynomial is copied by each call.
+pub const ROOM: usize = 11;
 
 // n is one more than the degree, and 0 for the zero polynomial.
 pub struct Poly {

@@ -99,7 +99,7 @@ fn product(a: Poly, b: Poly, m: Modulus)
 {
     let i = a.n;
     let j = b.n;
-    if i + j <= 17 {
+    if i + j <= 12 {
         show(b"product", a.mul(b, m), m);
     } else {
         io::write_all(OUT, b"product none\n");

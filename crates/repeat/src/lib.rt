@@ -9,7 +9,7 @@ pub enum Repeat {
 }
 
 // Of the first n divisors. Both loops stop at the first equal pair.
-pub fn first_repeat(d: [Divisor; 4096], n: usize, m: Modulus) -> Repeat
+pub fn first_repeat(d: [Divisor; refusals::MOST], n: usize, m: Modulus) -> Repeat
     requires { ⌜ AllHeld m d n ⌝ }
     ensures { λ r. ⌜ FirstIs d n r ⌝ }
 {

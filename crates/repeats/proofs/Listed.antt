@@ -11,7 +11,7 @@ use Rattle.algebra.proofs.zmod.PrimeField.{modulo}
 use Rattle.rules.specs.Pair.{Pair}
 use Rattle.rules.specs.Records.{Checked, PairOf}
 use Rattle.rules.specs.Lists.{Batch, Repeat, first-repeat}
-use Rattle.rules.specs.Calls.{check, done, no-repeat}
+use Rattle.rules.specs.Calls.{Reply, done, deliver}
 use Rattle.divisor.specs.declared.Divisor.{Divisor}
 use Rattle.divisor.specs.declared.Divisor.the-variants.{Neutral}
 use Rattle.divisor.specs.Divisors.{pair, Held}
@@ -25,7 +25,7 @@ use Rattle.repeat.specs.declared.Repeat.the-variants.{Pair as FoundPair, Nothin
 use Rattle.repeat.specs.First.{at, AllHeld, FirstIs}
 use Rattle.answers.proofs.Turns.{Going, begins, read-taken, ends, full, refuses, turns}
 use Rattle.repeats.specs.declared.RepeatAnswer.the-variants.{Pair as PairAnswer, Nothing as NothingAnswer, Refused as RefusedAnswer}
-use Rattle.repeats.specs.Repeats.{list-rule, repeat-rule, repeatOf}
+use Rattle.repeats.specs.Repeats.{list-rule, no-repeat, repeat-of, repeat-rule, repeatOf}
 use Rattle.repeats.proofs.Found.{first-repeats, none-repeats, found-at}
 
 map-snoc : {A B : Type 0} (f : A → B) (l : List A) (x : A) → map f (l ++ (x ∷ [])) ≡ map f l ++ (f x ∷ [])
@@ -49,8 +49,8 @@ module _ (c : Curve) (s : List ℕ) where
     so-far = map (pair (c .m)) (take k d)
 
     -- what the call goes on with
-    as-rule : {x : Checked (Batch (List (PairOf (recordOf c))))} → list-rule c s ≡ x → repeat-rule c s ≡ check x no-repeat (λ b. record { answer = done 0; repeat = first-repeat (c .m .p) (b .result) })
-    as-rule e = ap (λ x. check x no-repeat (λ b. record { answer = done 0; repeat = first-repeat (c .m .p) (b .result) })) e
+    as-rule : {x : Checked (Batch (List (PairOf (recordOf c))))} → list-rule c s ≡ x → repeat-rule c s ≡ deliver no-repeat [] (repeat-of c x)
+    as-rule e = ap (λ x. deliver no-repeat [] (repeat-of c x)) e
 
     pub list-full : a < length s → k ≡ 4096 → repeatOf (RefusedAnswer 14 0) ≡ repeat-rule c s
     list-full more e = sym (as-rule (full (i .going) more e))
@@ -74,8 +74,8 @@ module _ (c : Curve) (s : List ℕ) where
         added = ap (λ (n : ℕ). map (pair (c .m)) (take n (set d k x))) {x = k + 1} {y = suc k} (omega arith) ∙ ap (map (pair (c .m))) (take-suc-set d k x (omega (arith, i .long))) ∙ map-snoc (pair (c .m)) (take k d) x
 
     module _ (over : length s ≤ a) (f : Found) (is : FirstIs d k f) where
-      answered : {r : Repeat} → first-repeat (c .m .p) so-far ≡ r → record { answer = done 0; repeat = r } ≡ repeat-rule c s
-      answered {r} e = sym (as-rule (ends (i .going) over) ∙ ap (λ (t : Repeat). record { answer = done 0; repeat = t }) e)
+      answered : {r : Repeat} → first-repeat (c .m .p) so-far ≡ r → record { answer = done 0; out = []; own = r } ≡ repeat-rule c s
+      answered {r} e = sym (as-rule (ends (i .going) over) ∙ ap (λ (t : Repeat). record { answer = done 0; out = []; own = t }) e)
 
       pub list-pair : {x y : ℕ} → f ≡ FoundPair x y → repeatOf (PairAnswer (x + 1) (y + 1)) ≡ repeat-rule c s
       list-pair {x} {y} e = answered (first-repeats (c .m) d k (i .all) (i .long) x y (found-at d k f is e))

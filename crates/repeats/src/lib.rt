@@ -21,12 +21,12 @@ fn repeat_of(c: Curve, s: &[u8]) -> RepeatAnswer
     ensures { λ r. ⌜ repeatOf r ≡ repeat-rule c (now (s .entry)) ⌝ }
 {
     let z = Divisor::neutral();
-    let mut d = [z; 4096];
+    let mut d = [z; refusals::MOST];
     let mut n: usize = 0;
     let mut a: usize = 0;
     while a < s.len() {
-        if n == 4096 {
-            return RepeatAnswer::Refused(14, 0);
+        if n == refusals::MOST {
+            return RepeatAnswer::Refused(refusals::FULL, 0);
         }
         match divisor_read::divisor_at(c, false, s, a) {
             DivisorRead::Taken(x) => {

@@ -13,9 +13,9 @@ use Rattle.rules.specs.Bytes.{number}
 use Rattle.rules.specs.Pair.{Pair, Valid, opposite}
 use Rattle.rules.specs.Sum.{double}
 use Rattle.rules.specs.Multiple.{multiple}
-use Rattle.rules.specs.Records.{taken, CurveRecord, curve, PairOf, read-curve, read-divisor, curve-bytes, divisor-bytes}
+use Rattle.rules.specs.Records.{Checked, taken, CurveRecord, curve, PairOf, read-curve, read-divisor, curve-bytes, divisor-bytes}
 use Rattle.rules.specs.Lists.{Batch, batch, first-repeat}
-use Rattle.rules.specs.Calls.{Answer, done, check-curve, check-divisor, Written, write, rewrite-curve, rewrite-divisor, double-call, opposite-call, add-call, Multiplied, multiply-call, Totalled, not-totalled, totalled, total-call, Repeated, repeat-call, Running, fresh, Scanned, scan-call}
+use Rattle.rules.specs.Calls.{done, Result, stop, put, deliver, check-divisor, write, rewrite-curve, rewrite-divisor, double-call, opposite-call, add-call, multiply-call, total-call, repeat-call, Running, fresh, scan-call}
 use Rattle.rules.proofs.Demand3.{Demand3}
 use Rattle.rules.proofs.cantor.Totals.{AllValid}
 use Rattle.rules.proofs.calls.Tests.{taken-inj}
@@ -25,14 +25,15 @@ use Rattle.rules.proofs.calls.DivisorRecords.{divisor-valid, divisor-wr
 use Rattle.rules.proofs.calls.Accepted.{curve-laws}
 use Rattle.rules.proofs.calls.Batches.{pair-of, AllRecords, MadeOf, records-valid, batch-records, batch-made, batch-is}
 use Rattle.rules.proofs.calls.Repeats.{Clear, FirstAt}
-use Rattle.rules.proofs.calls.Written.{front}
-use Rattle.rules.proofs.calls.Done.{answered, OneDone, AddDone, TotalDone, total-of}
+use Rattle.rules.proofs.calls.Written.{front, answered, bare}
+use Rattle.rules.proofs.calls.Done.{OneDone, AddDone, TotalDone, total-of}
 use Rattle.rules.proofs.calls.Totals.{subtotal, adds}
-use Rattle.rules.proofs.calls.Scans.{ScanDone, running-bytes, scans, AllDone}
-use Rattle.rules.proofs.calls.Kept.{Kept, KeptMultiple, KeptTotal, KeptScan}
+use Rattle.rules.proofs.calls.Scans.{ScanDone, running-result, scans, AllDone}
+use Rattle.rules.proofs.calls.Delivered.{Kept}
+use Rattle.rules.proofs.calls.Taken.{total-result}
 use Rattle.rules.proofs.calls.Rewrites
 use Rattle.rules.proofs.calls.Written
-use Rattle.rules.proofs.calls.Kept
+use Rattle.rules.proofs.calls.Delivered
 use Rattle.rules.proofs.calls.Repeats
 use Rattle.rules.proofs.calls.Taken
 use Rattle.rules.proofs.calls.Done
@@ -89,11 +90,11 @@ double-back s a out e = let t = Done.double-took s a out e in (t .0, t .1, Done.
 pub opposite-back : (s a out : List ℕ) → answered (opposite-call s a out) ≡ 0 → TookCurve s (λ c. OneDone (λ c x. opposite x) c a out (opposite-call s a out))
 opposite-back s a out e = let t = Done.opposite-took s a out e in (t .0, t .1, Done.opposite-done s a out (t .1) e)
 
-pub multiply-back : (s a n out : List ℕ) → answered ((multiply-call s a n out) .written) ≡ 0
-    → TookCurve s (λ c. OneDone (λ c x. multiple (curve c) (number n) x) c a out ((multiply-call s a n out) .written))
+pub multiply-back : (s a n out : List ℕ) → answered (multiply-call s a n out) ≡ 0
+    → TookCurve s (λ c. OneDone (λ c x. multiple (curve c) (number n) x) c a out (bare (multiply-call s a n out)))
 multiply-back s a n out e = let t = Done.multiply-took s a n out e in (t .0, t .1, (Done.multiply-done s a out (t .1) n e) .1)
 
-pub total-back : (s records out : List ℕ) → answered ((total-call s records out) .written) ≡ 0 → TookCurve s (λ c. TotalDone c records out (total-call s records out))
+pub total-back : (s records out : List ℕ) → answered (total-call s records out) ≡ 0 → TookCurve s (λ c. TotalDone c records out (total-call s records out))
 total-back s records out e = let t = Done.total-took s records out e in (t .0, t .1, Done.total-done s records out (t .1) e)
 
 -- so the check of what they wrote (`back 1`) answers 0
@@ -120,13 +121,13 @@ module _ (s : List ℕ) where
   cancels = Sums.add-opposite s
 
   -- multiples: n-fold, then m-fold, is mn-fold; m-fold plus n-fold is (m + n)-fold. The scalars have at most 32 bytes
-  pub multiplies : (a m n k o1 out : List ℕ) → answered ((multiply-call s a n o1) .written) ≡ 0 → length m ≤ 32 → length k ≤ 32 → number k ≡ number m * number n
-      → (multiply-call s (front ((multiply-call s a n o1) .written)) m out) .written ≡ (multiply-call s a k out) .written
+  pub multiplies : (a m n k o1 out : List ℕ) → answered (multiply-call s a n o1) ≡ 0 → length m ≤ 32 → length k ≤ 32 → number k ≡ number m * number n
+      → bare (multiply-call s (front (multiply-call s a n o1)) m out) ≡ bare (multiply-call s a k out)
   multiplies = Sums.multiply-mul s
 
-  pub distributes : (a m n k o1 o2 out : List ℕ) → answered ((multiply-call s a m o1) .written) ≡ 0 → answered ((multiply-call s a n o2) .written) ≡ 0
+  pub distributes : (a m n k o1 o2 out : List ℕ) → answered (multiply-call s a m o1) ≡ 0 → answered (multiply-call s a n o2) ≡ 0
       → length k ≤ 32 → number k ≡ number m + number n
-      → add-call s (front ((multiply-call s a m o1) .written)) (front ((multiply-call s a n o2) .written)) out ≡ (multiply-call s a k out) .written
+      → add-call s (front (multiply-call s a m o1)) (front (multiply-call s a n o2)) out ≡ bare (multiply-call s a k out)
   distributes = Sums.multiply-add s
 
 -- ---- demand 3: totals
@@ -136,10 +137,10 @@ module _ (s : List ℕ) {c : CurveRecord} (ec : read-curve s ≡ taken c) (rs : 
       → batch c step (flatten rs) from ≡ taken (record { result = foldl step from (map (pair-of c) rs); count = length rs })
   batch-of-records step from = batch-records c step rs from good
 
-  pub total-of-records : (out : List ℕ) → length rs ≤ 4096 → total-call s (flatten rs) out ≡ totalled (write out (divisor-bytes (c .p) (total-of c rs))) (length rs)
+  pub total-of-records : (out : List ℕ) → length rs ≤ 4096 → total-call s (flatten rs) out ≡ put 0 out (total-result c (total-of c rs) (length rs))
   total-of-records = Totals.total-records s ec rs good
 
-  pub goes-on : (rest out : List ℕ) → length rs ≡ 4096 → 0 < length rest → total-call s (flatten rs ++ rest) out ≡ not-totalled out 14 0
+  pub goes-on : (rest out : List ℕ) → length rs ≡ 4096 → 0 < length rest → total-call s (flatten rs ++ rest) out ≡ stop 0 out 14 0
   goes-on = Totals.total-over s ec rs good
 
   -- in any order (and of any number of them)
@@ -148,7 +149,7 @@ module _ (s : List ℕ) {c : CurveRecord} (ec : read-curve s ≡ taken c) (rs : 
 
   -- by any parts, each totalled by a call that wrote to o: the totals are summed by one more batch, or one after the other by sums
   module _ (o : List ℕ) (room : 49 ≤ length o) (parts : List (List (List ℕ))) (p : Perm rs (flatten parts)) (few : length rs ≤ 4096) where
-    pub any-split : (out : List ℕ) → length parts ≤ 4096 → (total-call s (flatten (map (subtotal s o) parts)) out) .written ≡ (total-call s (flatten rs) out) .written
+    pub any-split : (out : List ℕ) → length parts ≤ 4096 → bare (total-call s (flatten (map (subtotal s o) parts)) out) ≡ bare (total-call s (flatten rs) out)
     any-split = Totals.total-any-split s ec o room rs parts good p few
 
     pub any-split-by-sums : adds s o (0 ∷ []) (map (subtotal s o) parts) ≡ subtotal s o rs
@@ -165,11 +166,11 @@ module _ (s : List ℕ) {c : CurveRecord} (ec : read-curve s ≡ taken c) (rs : 
   scans-answer = Scans.scans-done s ec rs
 
   -- and then the running total equals the batch total of what was taken so far
-  pub scans-are-total : AllDone fresh s rs → (out : List ℕ) → total-call s (flatten rs) out ≡ totalled (write out (running-bytes (scans fresh s rs))) ((scans fresh s rs) .count)
+  pub scans-are-total : AllDone fresh s rs → (out : List ℕ) → total-call s (flatten rs) out ≡ put 0 out (running-result (scans fresh s rs))
   scans-are-total = Scans.scans-batch s ec rs
 
   -- the first repeat among good records
-  pub repeat-of-records : AllRecords c rs → length rs ≤ 4096 → repeat-call s (flatten rs) ≡ record { answer = done 0; repeat = first-repeat (c .p) (map (pair-of c) rs) }
+  pub repeat-of-records : AllRecords c rs → length rs ≤ 4096 → repeat-call s (flatten rs) ≡ record { answer = done 0; out = []; own = first-repeat (c .p) (map (pair-of c) rs) }
   repeat-of-records = Repeats.repeat-records s ec rs
 
 -- none, or least j, then least i < j
@@ -181,60 +182,15 @@ module _ (p : ℕ) (l : List (Pair (modulo p))) where
   repeat-first = Repeats.repeat-at p l
 
 -- ---- what each call leaves: on 0 the rest of the output is unchanged; on any other number length and counts are 0 and output and total are
--- unchanged (calls/Kept has the others, of the same form)
+-- unchanged
 pub rest-unchanged : (out bytes : List ℕ) → answered (write out bytes) ≡ 0 → drop (length bytes) ((write out bytes) .out) ≡ drop (length bytes) out
 rest-unchanged = Written.rest-is
 
-pub add-refused : (s a b out : List ℕ) → Kept out (add-call s a b out)
-add-refused s a b out = Kept.add-kept out s a b
-
-pub multiply-refused : (s a n out : List ℕ) → KeptMultiple out (multiply-call s a n out)
-multiply-refused s a n out = Kept.multiply-kept out s a n
-
-pub total-refused : (s records out : List ℕ) → KeptTotal out (total-call s records out)
-total-refused s records out = Kept.total-kept out s records
-
-pub scan-refused : (s : List ℕ) (t : Running) (a : List ℕ) → KeptScan t (scan-call t s a)
-scan-refused = Kept.scan-kept
+-- of every call at once: its rule is `deliver` of what its checks and its result come to
+pub refusal-changes-nothing : {N : Type 0} (none : N) (out : List ℕ) (x : Checked (Result N)) → Kept none out (deliver none out x)
+refusal-changes-nothing = Delivered.refused-kept
 
 -- ---- one answer: two programs that keep a call's words on the same bytes agree in the answer and in every byte of the output
--- (a Written is an answer and an output, a Scanned an answer and a running total: equal to the rule's, part by part)
+-- (a Reply is an answer, an output and the call's own numbers, a running total among them: equal to the rule's, part by part)
 pub one-answer : {A : Type 0} {rule x y : A} → x ≡ rule → y ≡ rule → x ≡ y
 one-answer e h = e ∙ sym h
-
-module _ (s : List ℕ) where
-  pub one-check-curve : (x y : Answer) → x ≡ check-curve s → y ≡ check-curve s → x ≡ y
-  one-check-curve x y = one-answer
-
-  pub one-check-divisor : (a : List ℕ) (x y : Answer) → x ≡ check-divisor s a → y ≡ check-divisor s a → x ≡ y
-  one-check-divisor a x y = one-answer
-
-  pub one-rewrite-curve : (out : List ℕ) (x y : Written) → x ≡ rewrite-curve s out → y ≡ rewrite-curve s out → x ≡ y
-  one-rewrite-curve out x y = one-answer
-
-  pub one-rewrite-divisor : (a out : List ℕ) (x y : Written) → x ≡ rewrite-divisor s a out → y ≡ rewrite-divisor s a out → x ≡ y
-  one-rewrite-divisor a out x y = one-answer
-
-  pub one-add : (a b out : List ℕ) (x y : Written) → x ≡ add-call s a b out → y ≡ add-call s a b out → x ≡ y
-  one-add a b out x y = one-answer
-
-  pub one-double : (a out : List ℕ) (x y : Written) → x ≡ double-call s a out → y ≡ double-call s a out → x ≡ y
-  one-double a out x y = one-answer
-
-  pub one-opposite : (a out : List ℕ) (x y : Written) → x ≡ opposite-call s a out → y ≡ opposite-call s a out → x ≡ y
-  one-opposite a out x y = one-answer
-
-  pub one-multiply : (a n out : List ℕ) (x y : Multiplied) → x ≡ multiply-call s a n out → y ≡ multiply-call s a n out → x ≡ y
-  one-multiply a n out x y = one-answer
-
-  pub one-total : (records out : List ℕ) (x y : Totalled) → x ≡ total-call s records out → y ≡ total-call s records out → x ≡ y
-  one-total records out x y = one-answer
-
-  pub one-repeat : (records : List ℕ) (x y : Repeated) → x ≡ repeat-call s records → y ≡ repeat-call s records → x ≡ y
-  one-repeat records x y = one-answer
-
-  pub one-scan : (t : Running) (a : List ℕ) (x y : Scanned) → x ≡ scan-call t s a → y ≡ scan-call t s a → x ≡ y
-  one-scan t a x y = one-answer
-
-pub one-fresh : (x y : Running) → x ≡ fresh → y ≡ fresh → x ≡ y
-one-fresh x y = one-answer

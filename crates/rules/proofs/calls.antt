@@ -1,5 +1,6 @@
 -- what a check that passed says
 pub mod Tests
+pub mod Checks
 -- numbers and bytes
 pub mod Bytes
 pub mod Elements
@@ -11,8 +12,10 @@ pub mod Accepted
 -- batches of records
 pub mod Steps
 pub mod Batches
--- what a call that answers 0 did
+-- what is refused, and where; what a call delivers
 pub mod Refusals
+pub mod Places
+pub mod Delivered
 pub mod Written
 -- the first repeat
 pub mod Repeats
@@ -23,9 +26,6 @@ pub mod Sums
 pub mod ListLaws
 pub mod Totals
 pub mod Scans
--- what a refusal leaves
-pub mod Kept
 pub mod Rewrites
 -- the place of a refusal
-pub mod Places
 pub mod CallPlaces

@@ -1,6 +1,7 @@
 -- Document 01, "Numbers the tablet shows": each call as a function from the bytes lent to its whole answer and to every byte of the output as it
--- returns. A refused call has length 0, counts 0, and leaves the output and the running total as they were. Here are the numbers 12 to 15; 16 and
--- 17 are the program's (texts). At the end, of "The pole's list", the running total and the scan.
+-- returns. A call's rule is what it comes to, its checks in their order and then a result; `deliver` makes the answer of it, the same for every call: 13
+-- where the output is too short, and a refusal has length 0, none of the call's own numbers, and leaves the output as it was. Here are the numbers 12 to 15;
+-- 16 and 17 are the program's (texts). At the end, of "The pole's list", the running total and the scan.
 use Prim.Native.Nat.{ℕ, _+_}
 use mathlib.Core.List.{List, [], _∷_, _++_}
 use lib.Dec.{eqb, ltb, leb}
@@ -11,7 +12,8 @@ use Rattle.rules.specs.Pair.{neutral, opposite}
 use Rattle.rules.specs.Sum.{sum, double}
 use Rattle.rules.specs.Multiple.{multiple, doublings, additions}
 use Rattle.rules.specs.Tests.{on-curve?}
-use Rattle.rules.specs.Records.{Checked, refused, taken, choose, need, both, CurveRecord, curve, PairOf, below?, elements, numbers, read-curve, read-divisor, curve-bytes, divisor-bytes}
+use Rattle.rules.specs.Checks.{Checked, refused, taken, choose, Check, first-failed, go-on}
+use Rattle.rules.specs.Records.{both, CurveRecord, curve, PairOf, made-of, below?, elements, numbers, read-curve, read-divisor, curve-bytes, divisor-bytes}
 use Rattle.rules.specs.Lists.{batch, most, Repeat, first-repeat}
 
 pub record Answer : Type 0 where
@@ -25,113 +27,91 @@ refusal n k = record { number = n; place = k; length = 0 }
 abbrev pub done : ℕ → Answer
 done n = record { number = 0; place = 0; length = n }
 
--- go on with what was read, or refuse
-abbrev pub check : {A R : Type 0} → Checked A → (ℕ → ℕ → R) → (A → R) → R
-check x stop go = elim x [ refused n k ↦ stop n k | taken a ↦ go a ]
+-- ---- what a call comes to: the bytes that it writes and numbers of its own; and what it answers, with the output as it returns
+pub record Result (N : Type 0) : Type 0 where
+  pub bytes : List ℕ
+  pub own : N
 
--- ---- the checks
+pub record Reply (N : Type 0) : Type 0 where
+  pub answer : Answer
+  pub out : List ℕ
+  pub own : N
+
+-- `none` is what a refused call has for its own numbers
+abbrev pub stop : {N : Type 0} → N → List ℕ → ℕ → ℕ → Reply N
+stop none out n k = record { answer = refusal n k; out = out; own = none }
+
+abbrev pub put : {N : Type 0} → N → List ℕ → Result N → Reply N
+put none out r = choose (ltb (length out) (length (r .bytes))) (stop none out 13 0) (record { answer = record { number = 0; place = 0; length = length (r .bytes) }; out = sets out 0 (r .bytes); own = r .own })
+
+abbrev pub deliver : {N : Type 0} → N → List ℕ → Checked (Result N) → Reply N
+deliver none out x = elim x [ refused n k ↦ stop none out n k | taken r ↦ put none out r ]
+
+-- a call with no numbers of its own
+abbrev pub write : List ℕ → List ℕ → Reply (Unit {0})
+write out bytes = put tt out (record { bytes = bytes; own = tt })
+
+-- ---- the checks: nothing is written
 unfoldable pub check-curve : List ℕ → Answer
 unfolding read-curve
-check-curve s = check (read-curve s) refusal (λ c. done 0)
+check-curve s = (deliver (tt {0}) [] (go-on (read-curve s) (λ c. taken (record { bytes = []; own = tt })))) .answer
 
 unfoldable pub check-divisor : List ℕ → List ℕ → Answer
 unfolding read-curve
-check-divisor s a = check (read-curve s) refusal (λ c. check (read-divisor c 1 a) refusal (λ x. done 0))
+check-divisor s a = (deliver (tt {0}) [] (go-on (read-curve s) (λ c. go-on (read-divisor c 1 a) (λ x. taken (record { bytes = []; own = tt }))))) .answer
 
--- ---- calls that write a record: 13 where the output is shorter than it
-pub record Written : Type 0 where
-  pub answer : Answer
-  pub out : List ℕ
-
-abbrev pub left-as-is : List ℕ → ℕ → ℕ → Written
-left-as-is out n k = record { answer = refusal n k; out = out }
-
-abbrev pub write : List ℕ → List ℕ → Written
-write out bytes = choose (ltb (length out) (length bytes)) (left-as-is out 13 0) (record { answer = done (length bytes); out = sets out 0 bytes })
-
-unfoldable pub rewrite-curve : List ℕ → List ℕ → Written
+-- ---- calls that write a record
+unfoldable pub rewrite-curve : List ℕ → List ℕ → Reply (Unit {0})
 unfolding read-curve curve-bytes
-rewrite-curve s out = check (read-curve s) (left-as-is out) (λ c. write out (curve-bytes c))
+rewrite-curve s out = deliver tt out (go-on (read-curve s) (λ c. taken (record { bytes = curve-bytes c; own = tt })))
 
 -- one divisor in, one out
-abbrev pub from-one : ((c : CurveRecord) → PairOf c → PairOf c) → List ℕ → List ℕ → List ℕ → Written
-from-one f s a out = check (read-curve s) (left-as-is out) (λ c. check (read-divisor c 1 a) (left-as-is out) (λ x. write out (divisor-bytes (c .p) (f c x))))
+abbrev pub from-one : ((c : CurveRecord) → PairOf c → PairOf c) → List ℕ → List ℕ → Checked (Result (Unit {0}))
+from-one f s a = go-on (read-curve s) (λ c. go-on (read-divisor c 1 a) (λ x. taken (record { bytes = divisor-bytes (c .p) (f c x); own = tt })))
 
-unfoldable pub rewrite-divisor : List ℕ → List ℕ → List ℕ → Written
+unfoldable pub rewrite-divisor : List ℕ → List ℕ → List ℕ → Reply (Unit {0})
 unfolding read-curve divisor-bytes
-rewrite-divisor s a out = from-one (λ c x. x) s a out
+rewrite-divisor s a out = deliver tt out (from-one (λ c x. x) s a)
 
-unfoldable pub double-call : List ℕ → List ℕ → List ℕ → Written
+unfoldable pub double-call : List ℕ → List ℕ → List ℕ → Reply (Unit {0})
 unfolding read-curve divisor-bytes double
-double-call s a out = from-one (λ c x. double (curve c) x) s a out
+double-call s a out = deliver tt out (from-one (λ c x. double (curve c) x) s a)
 
-unfoldable pub opposite-call : List ℕ → List ℕ → List ℕ → Written
+unfoldable pub opposite-call : List ℕ → List ℕ → List ℕ → Reply (Unit {0})
 unfolding read-curve divisor-bytes opposite
-opposite-call s a out = from-one (λ c x. opposite x) s a out
+opposite-call s a out = deliver tt out (from-one (λ c x. opposite x) s a)
 
-unfoldable pub add-call : List ℕ → List ℕ → List ℕ → List ℕ → Written
+unfoldable pub add-call : List ℕ → List ℕ → List ℕ → List ℕ → Reply (Unit {0})
 unfolding read-curve divisor-bytes sum
-add-call s a b out =
-    check (read-curve s) (left-as-is out) (λ c.
-    check (read-divisor c 1 a) (left-as-is out) (λ x.
-    check (read-divisor c 2 b) (left-as-is out) (λ y.
-    write out (divisor-bytes (c .p) (sum (curve c) x y)))))
+add-call s a b out = deliver tt out (
+    go-on (read-curve s) (λ c.
+    go-on (read-divisor c 1 a) (λ x.
+    go-on (read-divisor c 2 b) (λ y.
+    taken (record { bytes = divisor-bytes (c .p) (sum (curve c) x y); own = tt })))))
 
--- ---- a multiple, with its two counts; 12 where the scalar has over 32 bytes
-pub record Multiplied : Type 0 where
-  pub written : Written
-  pub doublings : ℕ
-  pub additions : ℕ
-
-abbrev pub not-multiplied : List ℕ → ℕ → ℕ → Multiplied
-not-multiplied out n k = record { written = left-as-is out n k; doublings = 0; additions = 0 }
-
--- a count is 0 where nothing was written
-abbrev pub counted : Written → ℕ → ℕ
-counted w n = choose (eqb (w .answer .number) 0) n 0
-
-abbrev pub multiplied : Written → ℕ → Multiplied
-multiplied w n = record { written = w; doublings = counted w (doublings n); additions = counted w (additions n) }
-
-unfoldable pub multiply-call : List ℕ → List ℕ → List ℕ → List ℕ → Multiplied
+-- ---- a multiple, with its two counts, doublings and additions; 12 where the scalar has over 32 bytes
+unfoldable pub multiply-call : List ℕ → List ℕ → List ℕ → List ℕ → Reply (ℕ × ℕ)
 unfolding number read-curve divisor-bytes multiple doublings additions
-multiply-call s a scalar out =
-    check (read-curve s) (not-multiplied out) (λ c.
-    check (read-divisor c 1 a) (not-multiplied out) (λ x.
-    choose (ltb 32 (length scalar)) (not-multiplied out 12 0)
-    (multiplied (write out (divisor-bytes (c .p) (multiple (curve c) (number scalar) x))) (number scalar))))
+multiply-call s a scalar out = deliver (0, 0) out (
+    go-on (read-curve s) (λ c.
+    go-on (read-divisor c 1 a) (λ x.
+    first-failed ((leb (length scalar) 32, 12, 0) ∷ [])
+    (record { bytes = divisor-bytes (c .p) (multiple (curve c) (number scalar) x); own = (doublings (number scalar), additions (number scalar)) }))))
 
 -- ---- a batch: its total with the count of records, its first repeat
-pub record Totalled : Type 0 where
-  pub written : Written
-  pub count : ℕ
-
-abbrev pub not-totalled : List ℕ → ℕ → ℕ → Totalled
-not-totalled out n k = record { written = left-as-is out n k; count = 0 }
-
-abbrev pub totalled : Written → ℕ → Totalled
-totalled w n = record { written = w; count = counted w n }
-
-unfoldable pub total-call : List ℕ → List ℕ → List ℕ → Totalled
+unfoldable pub total-call : List ℕ → List ℕ → List ℕ → Reply ℕ
 unfolding read-curve divisor-bytes sum
-total-call s records out =
-    check (read-curve s) (not-totalled out) (λ c.
-    check (batch c (sum (curve c)) records neutral) (not-totalled out) (λ b.
-    totalled (write out (divisor-bytes (c .p) (b .result))) (b .count)))
+total-call s records out = deliver 0 out (
+    go-on (read-curve s) (λ c.
+    go-on (batch c (sum (curve c)) records neutral) (λ b.
+    taken (record { bytes = divisor-bytes (c .p) (b .result); own = b .count }))))
 
-pub record Repeated : Type 0 where
-  pub answer : Answer
-  pub repeat : Repeat
-
-abbrev pub no-repeat : ℕ → ℕ → Repeated
-no-repeat n k = record { answer = refusal n k; repeat = record { first = 0; second = 0 } }
-
-unfoldable pub repeat-call : List ℕ → List ℕ → Repeated
+unfoldable pub repeat-call : List ℕ → List ℕ → Reply Repeat
 unfolding read-curve
-repeat-call s records =
-    check (read-curve s) no-repeat (λ c.
-    check (batch c (λ l d. l ++ (d ∷ [])) records []) no-repeat (λ b.
-    record { answer = done 0; repeat = first-repeat (c .p) (b .result) }))
+repeat-call s records = deliver (record { first = 0; second = 0 }) [] (
+    go-on (read-curve s) (λ c.
+    go-on (batch c (λ l d. l ++ (d ∷ [])) records []) (λ b.
+    taken (record { bytes = []; own = first-repeat (c .p) (b .result) }))))
 
 -- ---- the running total: a divisor by its numbers, and a count
 pub record Running : Type 0 where
@@ -143,34 +123,33 @@ abbrev pub fresh : Running
 fresh = record { u = []; v = []; count = 0 }
 
 -- its divisor on the curve; 15 where it has a number of p or more or isn't valid, or its count is over 4,096, then 14 where it is full
+abbrev pub resume-checks : CurveRecord → Running → List Check
+resume-checks c t =
+    (leb (length (t .u)) (c .g), 15, 0) ∷
+    (eqb (length (t .v)) (length (t .u)), 15, 0) ∷
+    (both (below? (c .p) (t .u)) (below? (c .p) (t .v)), 15, 0) ∷
+    (on-curve? (curve c) (made-of c (t .u) (t .v)), 15, 0) ∷
+    (leb (t .count) most, 15, 0) ∷
+    (ltb (t .count) most, 14, 0) ∷
+    []
+
 unfoldable pub resume : (c : CurveRecord) → Running → Checked (PairOf c)
 unfolding below? elements on-curve?
-resume c t =
-    let d : PairOf c = record { u = elements (c .p) (t .u); v = elements (c .p) (t .v) } in
-    need (leb (length (t .u)) (c .g)) 15 0 (
-    need (eqb (length (t .v)) (length (t .u))) 15 0 (
-    need (both (below? (c .p) (t .u)) (below? (c .p) (t .v))) 15 0 (
-    need (on-curve? (curve c) d) 15 0 (
-    need (leb (t .count) most) 15 0 (
-    need (ltb (t .count) most) 14 0 (
-    taken d))))))
+resume c t = first-failed (resume-checks c t) (made-of c (t .u) (t .v))
 
-pub record Scanned : Type 0 where
-  pub answer : Answer
-  pub total : Running
-
-abbrev pub not-scanned : Running → ℕ → ℕ → Scanned
-not-scanned t n k = record { answer = refusal n k; total = t }
-
--- on a curve that was taken
-unfoldable pub scan-on : CurveRecord → Running → List ℕ → Scanned
-unfolding numbers sum resume
-scan-on c t a =
-    check (resume c t) (not-scanned t) (λ x.
-    check (read-divisor c 1 a) (not-scanned t) (λ y.
+-- one divisor scanned on a curve that was taken
+abbrev pub scanned : CurveRecord → Running → List ℕ → Checked (Result Running)
+scanned c t a =
+    go-on (resume c t) (λ x.
+    go-on (read-divisor c 1 a) (λ y.
     let z : PairOf c = sum (curve c) x y in
-    record { answer = done 0; total = record { u = numbers (c .p) (z .u); v = numbers (c .p) (z .v); count = t .count + 1 } }))
+    taken (record { bytes = []; own = record { u = numbers (c .p) (z .u); v = numbers (c .p) (z .v); count = t .count + 1 } })))
 
-unfoldable pub scan-call : Running → List ℕ → List ℕ → Scanned
-unfolding read-curve scan-on
-scan-call t s a = check (read-curve s) (not-scanned t) (λ c. scan-on c t a)
+-- refused, the total is the one that was lent
+unfoldable pub scan-on : CurveRecord → Running → List ℕ → Reply Running
+unfolding numbers sum resume
+scan-on c t a = deliver t [] (scanned c t a)
+
+unfoldable pub scan-call : Running → List ℕ → List ℕ → Reply Running
+unfolding read-curve numbers sum resume
+scan-call t s a = deliver t [] (go-on (read-curve s) (λ c. scanned c t a))

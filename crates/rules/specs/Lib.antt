@@ -4,6 +4,7 @@ pub mod Sum
 pub mod Multiple
 pub mod Tests
 pub mod Bytes
+pub mod Checks
 pub mod Records
 pub mod Lists
 pub mod Calls

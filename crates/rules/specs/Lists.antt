@@ -8,7 +8,8 @@ use lib.ListN.{getD, length}
 use Rattle.algebra.proofs.zmod.Zmod.{zmod, zmod-dec}
 use Rattle.algebra.proofs.zmod.PrimeField.{modulo}
 use Rattle.rules.specs.Pair.{Pair}
-use Rattle.rules.specs.Records.{Checked, refused, taken, choose, need, both, CurveRecord, PairOf, divisor-at}
+use Rattle.rules.specs.Checks.{Checked, refused, taken, choose, first-failed, go-on}
+use Rattle.rules.specs.Records.{both, CurveRecord, PairOf, divisor-at}
 
 abbrev pub most : ℕ
 most = 4096
@@ -22,10 +23,10 @@ module _ {A : Type 0} (c : CurveRecord) (step : A → PairOf c → A) (s : List 
   -- k records stand before byte a; `left` more may follow
   unfoldable pub batch-from : ℕ → ℕ → ℕ → A → Checked (Batch A)
   unfolding divisor-at
-  batch-from zero a k from = need (leb (length s) a) 14 0 (taken (record { result = from; count = k }))
+  batch-from zero a k from = first-failed ((leb (length s) a, 14, 0) ∷ []) (record { result = from; count = k })
   batch-from (suc left) a k from =
       choose (leb (length s) a) (taken (record { result = from; count = k }))
-      (elim (divisor-at c (k + 1) false s a) [ refused n place ↦ refused n place | taken d ↦ batch-from left (a + 1 + 16 * getD s a 0) (k + 1) (step from d) ])
+      (go-on (divisor-at c (k + 1) false s a) (λ d. batch-from left (a + 1 + 16 * getD s a 0) (k + 1) (step from d)))
 
   abbrev pub batch : A → Checked (Batch A)
   batch from = batch-from most 0 0 from

@@ -49,22 +49,22 @@ fn take_up(c: Curve, t: Running) -> TakenUp
     let m = c.m;
     if g < d.weight() {
         return TakenUp {
-            number: 15,
+            number: refusals::RUNNING_TOTAL,
             divisor: d,
         };
     }
     if in_range(d, m) {
         let x = numbers::resumed(d, m);
         if c.carries(x) {
-            if 4096 < t.count {
+            if refusals::MOST_COUNT < t.count {
                 return TakenUp {
-                    number: 15,
+                    number: refusals::RUNNING_TOTAL,
                     divisor: d,
                 };
             }
-            if t.count == 4096 {
+            if t.count == refusals::MOST_COUNT {
                 return TakenUp {
-                    number: 14,
+                    number: refusals::FULL,
                     divisor: d,
                 };
             }
@@ -75,7 +75,7 @@ fn take_up(c: Curve, t: Running) -> TakenUp
         }
     }
     TakenUp {
-        number: 15,
+        number: refusals::RUNNING_TOTAL,
         divisor: d,
     }
 }

@@ -3,7 +3,8 @@
 use Prim.Native.Nat.{ℕ}
 use mathlib.Core.Path.{_≡_}
 use mathlib.Core.List.{List}
-use Rattle.rules.specs.Calls.{Answer as RuleAnswer, Multiplied, Totalled, Repeated}
+use Rattle.rules.specs.Lists.{Repeat}
+use Rattle.rules.specs.Calls.{Answer as RuleAnswer, Reply}
 use Rattle.sums.specs.declared.MultipleAnswer.{MultipleAnswer}
 use Rattle.sums.specs.Multiples.{multipleOf}
 use Rattle.totals.specs.declared.TotalAnswer.{TotalAnswer}
@@ -16,18 +17,18 @@ use Rattle.structs.specs.declared.YubiMultiple.{YubiMultiple}
 abbrev pub flat : RuleAnswer → YubiAnswer
 flat a = record { number = a .number; place = a .place; length = a .length }
 
-abbrev pub flat-multiple : Multiplied → YubiMultiple
-flat-multiple m = record { number = m .written .answer .number; place = m .written .answer .place; length = m .written .answer .length; doublings = m .doublings; additions = m .additions }
+abbrev pub flat-multiple : Reply (ℕ × ℕ) → YubiMultiple
+flat-multiple m = record { number = m .answer .number; place = m .answer .place; length = m .answer .length; doublings = m .own .0; additions = m .own .1 }
 
 -- whatever the output holds
 abbrev pub FlatMultiple : MultipleAnswer → YubiMultiple → Type 0
 FlatMultiple a r = (out : List ℕ) → r ≡ flat-multiple (multipleOf a out)
 
-abbrev pub flat-total : Totalled → YubiTotal
-flat-total t = record { number = t .written .answer .number; place = t .written .answer .place; length = t .written .answer .length; count = t .count }
+abbrev pub flat-total : Reply ℕ → YubiTotal
+flat-total t = record { number = t .answer .number; place = t .answer .place; length = t .answer .length; count = t .own }
 
 abbrev pub FlatTotal : TotalAnswer → YubiTotal → Type 0
 FlatTotal a r = (out : List ℕ) → r ≡ flat-total (totalOf a out)
 
-abbrev pub flat-repeat : Repeated → YubiRepeat
-flat-repeat r = record { number = r .answer .number; place = r .answer .place; length = r .answer .length; first = r .repeat .first; second = r .repeat .second }
+abbrev pub flat-repeat : Reply Repeat → YubiRepeat
+flat-repeat r = record { number = r .answer .number; place = r .answer .place; length = r .answer .length; first = r .own .first; second = r .own .second }

@@ -70,7 +70,7 @@ fn read_factors(curve: &[u8], a: &[u8], scalar: &[u8]) -> One
     if 32 < scalar.len() {
         let c = x.curve;
         return One {
-            number: 12,
+            number: refusals::SCALAR_LENGTH,
             place: 0,
             curve: c,
             divisor: Divisor::Neutral,
@@ -87,7 +87,7 @@ fn write_multiple(y: Multiple, m: Modulus, out: &mut [u8]) -> MultipleAnswer
     let e = y.divisor;
     let n = answers::write_out(e, m, out);
     if n == 0 {
-        return MultipleAnswer::Refused(13, 0);
+        return MultipleAnswer::Refused(refusals::OUTPUT_LENGTH, 0);
     }
     MultipleAnswer::Done(n, y.doublings, y.additions)
 }

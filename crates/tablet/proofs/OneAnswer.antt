@@ -10,7 +10,7 @@ use Rattle.structs.specs.Flat.{flat-multiple}
 -- what `yubi_multiply` and `yubi_multiply_inversion_free` both promise of an answer r and an output o
 pub record Multiplies (s a scalar out : List ℕ) (r : YubiMultiple) (o : List ℕ) : Type 0 where
   pub answer : r ≡ flat-multiple (multiply-call s a scalar out)
-  pub output : o ≡ multiply-call s a scalar out .written .out
+  pub output : o ≡ multiply-call s a scalar out .out
 
 pub one-flat-multiple : (s a scalar out : List ℕ) (x y : YubiMultiple) (o w : List ℕ) → Multiplies s a scalar out x o → Multiplies s a scalar out y w → (x ≡ y) × (o ≡ w)
 one-flat-multiple s a scalar out x y o w h k = (one-answer (h .answer) (k .answer), one-answer (h .output) (k .output))

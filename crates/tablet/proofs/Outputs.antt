@@ -8,7 +8,7 @@ use Rattle.sums.specs.Multiples.{multipleOf, MultipleIs}
 use Rattle.totals.specs.declared.TotalAnswer.{TotalAnswer}
 use Rattle.totals.specs.declared.TotalAnswer.the-variants.{Done as DoneTotal, Refused as RefusedTotal}
 use Rattle.totals.specs.Totals.{totalOf}
-use Rattle.rules.specs.Calls.{Multiplied, fresh}
+use Rattle.rules.specs.Calls.{Reply, fresh}
 use Rattle.divisor.specs.declared.Divisor.{Divisor}
 use Rattle.running.specs.declared.Running.{Running}
 use Rattle.running.specs.Totals.{Fresh}
@@ -17,15 +17,15 @@ use Rattle.flats.specs.Flats.{flat-running}
 use Rattle.structs.specs.declared.YubiMultiple.{YubiMultiple}
 use Rattle.structs.specs.Flat.{flat-multiple, FlatMultiple}
 
-multiple-out : (a : MultipleAnswer) (out : List ℕ) → multipleOf a out .written .out ≡ out
+multiple-out : (a : MultipleAnswer) (out : List ℕ) → multipleOf a out .out ≡ out
 multiple-out (Done n d s) out = refl
 multiple-out (Refused n k) out = refl
 
 -- a multiple's answer flattened, whichever engine made it
-pub multiple-done : (a : MultipleAnswer) (out : List ℕ) (r : YubiMultiple) (rule : Multiplied) → FlatMultiple a r → MultipleIs a out rule → (r ≡ flat-multiple rule) × (out ≡ rule .written .out)
-multiple-done a out r rule f e = (f out ∙ ap flat-multiple e, sym (multiple-out a out) ∙ ap (λ (x : Multiplied). x .written .out) e)
+pub multiple-done : (a : MultipleAnswer) (out : List ℕ) (r : YubiMultiple) (rule : Reply (ℕ × ℕ)) → FlatMultiple a r → MultipleIs a out rule → (r ≡ flat-multiple rule) × (out ≡ rule .out)
+multiple-done a out r rule f e = (f out ∙ ap flat-multiple e, sym (multiple-out a out) ∙ ap (λ (x : Reply (ℕ × ℕ)). x .out) e)
 
-pub total-out : (a : TotalAnswer) (out : List ℕ) → totalOf a out .written .out ≡ out
+pub total-out : (a : TotalAnswer) (out : List ℕ) → totalOf a out .out ≡ out
 total-out (DoneTotal n k) out = refl
 total-out (RefusedTotal n k) out = refl
 

@@ -75,7 +75,7 @@ pub extern "C" fn yubi_multiply(
     out: &mut [u8],
 ) -> YubiMultiple
     ensures answer { λ r. ⌜ r ≡ flat-multiple (multiply-call (now (curve .entry)) (now (a .entry)) (now (scalar .entry)) (now (out .entry))) ⌝ }
-    ensures output { λ r. ⌜ now (out .exit) ≡ multiply-call (now (curve .entry)) (now (a .entry)) (now (scalar .entry)) (now (out .entry)) .written .out ⌝ }
+    ensures output { λ r. ⌜ now (out .exit) ≡ multiply-call (now (curve .entry)) (now (a .entry)) (now (scalar .entry)) (now (out .entry)) .out ⌝ }
 {
     structs::flatten_multiple(sums::multiply(curve, a, scalar, out))
 }
@@ -89,7 +89,7 @@ pub extern "C" fn yubi_multiply_inversion_free(
     out: &mut [u8],
 ) -> YubiMultiple
     ensures answer { λ r. ⌜ r ≡ flat-multiple (multiply-call (now (curve .entry)) (now (a .entry)) (now (scalar .entry)) (now (out .entry))) ⌝ }
-    ensures output { λ r. ⌜ now (out .exit) ≡ multiply-call (now (curve .entry)) (now (a .entry)) (now (scalar .entry)) (now (out .entry)) .written .out ⌝ }
+    ensures output { λ r. ⌜ now (out .exit) ≡ multiply-call (now (curve .entry)) (now (a .entry)) (now (scalar .entry)) (now (out .entry)) .out ⌝ }
 {
     structs::flatten_multiple(sums::multiply_inversion_free(curve, a, scalar, out))
 }
@@ -97,7 +97,7 @@ pub extern "C" fn yubi_multiply_inversion_free(
 #[no_mangle]
 pub extern "C" fn yubi_total_batch(curve: &[u8], batch: &[u8], out: &mut [u8]) -> YubiTotal
     ensures answer { λ r. ⌜ r ≡ flat-total (total-call (now (curve .entry)) (now (batch .entry)) (now (out .entry))) ⌝ }
-    ensures output { λ r. ⌜ now (out .exit) ≡ total-call (now (curve .entry)) (now (batch .entry)) (now (out .entry)) .written .out ⌝ }
+    ensures output { λ r. ⌜ now (out .exit) ≡ total-call (now (curve .entry)) (now (batch .entry)) (now (out .entry)) .out ⌝ }
 {
     structs::flatten_total(totals::total_batch(curve, batch, out))
 }

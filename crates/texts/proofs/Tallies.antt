@@ -11,7 +11,8 @@ use Rattle.rules.specs.Pair.{neutral}
 use Rattle.rules.specs.Sum.{sum}
 use Rattle.rules.specs.Records.{Checked, CurveRecord, PairOf, choose, curve}
 use Rattle.rules.specs.Lists.{Batch, Repeat, batch}
-use Rattle.rules.specs.Calls.{Repeated, check, repeat-call}
+use Rattle.rules.proofs.calls.Refusals.{check}
+use Rattle.rules.specs.Calls.{Reply, repeat-call}
 use Rattle.field.specs.declared.Modulus.{Modulus}
 use Rattle.divisor.specs.declared.Divisor.{Divisor}
 use Rattle.divisor.specs.Divisors.{pair}
@@ -73,7 +74,7 @@ module _ (n : ℕ) (q : Places) (m : Modulus) (d : Divisor) where
 -- ---- of the bytes of a curve and of a batch
 module _ (s b : List ℕ) (r : CurveRead) (h : CurveIs s r) where
   abbrev after : (c : CurveRecord) → Checked (Batch (PairOf c)) → List ℕ
-  after c x = check x refused-line (λ y. count-line (y .count) ++ (repeat-line (repeat-call s b .repeat) ++ total-line (c .p) (y .result)))
+  after c x = check x refused-line (λ y. count-line (y .count) ++ (repeat-line (repeat-call s b .own) ++ total-line (c .p) (y .result)))
 
   abbrev next : CurveRecord → List ℕ
   next c = after c (batch c (sum (curve c)) b neutral)
@@ -94,9 +95,9 @@ module _ (s b : List ℕ) (r : CurveRead) (h : CurveIs s r) where
       pub total-holds : OnCurve (r .curve) d
       total-holds = subst (TotalIs (r .curve) b) e is .0
 
-      pub three-lines : (a : RepeatAnswer) (q : Places) → repeatOf a ≡ repeat-call s b → placesOf q ≡ repeatOf a .repeat → three n q (r .curve .m) d ≡ text-of s b
+      pub three-lines : (a : RepeatAnswer) (q : Places) → repeatOf a ≡ repeat-call s b → placesOf q ≡ repeatOf a .own → three n q (r .curve .m) d ≡ text-of s b
       three-lines a q f g = sym (on-curve ∙ ap (after (recordOf (r .curve))) (subst (TotalIs (r .curve) b) e is .1)
-          ∙ ap (λ (x : Repeat). count-line n ++ (repeat-line x ++ total-line (r .curve .m .p) (pair (r .curve .m) d))) (sym (g ∙ ap (λ (x : Repeated). x .repeat) f)))
+          ∙ ap (λ (x : Repeat). count-line n ++ (repeat-line x ++ total-line (r .curve .m .p) (pair (r .curve .m) d))) (sym (g ∙ ap (λ (x : Reply Repeat). x .own) f)))
 
 -- ---- of a file, and what goes on from its bytes
 module _ (f : FileRead) (s : List ℕ) (go : List ℕ → List ℕ) where

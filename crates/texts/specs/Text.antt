@@ -5,18 +5,22 @@ use lib.Dec.{ltb}
 use lib.ListN.{length}
 use Rattle.rules.specs.Pair.{neutral}
 use Rattle.rules.specs.Sum.{sum}
-use Rattle.rules.specs.Records.{choose, curve, read-curve}
+use Rattle.rules.specs.Records.{Checked, refused, taken, choose, curve, read-curve}
 use Rattle.rules.specs.Lists.{batch}
-use Rattle.rules.specs.Calls.{check, repeat-call}
+use Rattle.rules.specs.Calls.{repeat-call}
 use Rattle.lines.specs.Lines.{count-line, repeat-line, total-line, refused-line}
+
+-- the line of what refuses, or what goes on with what was read
+abbrev pub or-refused : {A : Type 0} → Checked A → (A → List ℕ) → List ℕ
+or-refused x go = elim x [ refused n k ↦ refused-line n k | taken a ↦ go a ]
 
 -- of the bytes of a curve and of a batch: three lines, or only the line of what refuses them
 unfoldable pub text-of : List ℕ → List ℕ → List ℕ
 unfolding count-line repeat-line total-line refused-line read-curve sum repeat-call
 text-of s records =
-    check (read-curve s) refused-line (λ c.
-    check (batch c (sum (curve c)) records neutral) refused-line (λ b.
-    count-line (b .count) ++ (repeat-line (repeat-call s records .repeat) ++ total-line (c .p) (b .result))))
+    or-refused (read-curve s) (λ c.
+    or-refused (batch c (sum (curve c)) records neutral) (λ b.
+    count-line (b .count) ++ (repeat-line (repeat-call s records .own) ++ total-line (c .p) (b .result))))
 
 -- what a file can be: one that can't be opened or read, or its bytes
 pub data File : Type 0 where

@@ -17,7 +17,7 @@ pub enum FileRead {
 
 // The places that a search answers: both 0 for none, and on a refusal.
 fn places_of(r: RepeatAnswer) -> Places
-    ensures { λ p. ⌜ placesOf p ≡ repeatOf r .repeat ⌝ }
+    ensures { λ p. ⌜ placesOf p ≡ repeatOf r .own ⌝ }
 {
     match r {
         RepeatAnswer::Pair(i, j) => Places {
@@ -71,11 +71,11 @@ fn tally_batch(curve: &[u8], b: FileRead, batch: &[u8], out: &mut [u8; 256]) -> 
     ensures { λ r. ⌜ Printed (now (out .entry)) (with-file (fileOf b (now (batch .entry))) (λ t. text-of (now (curve .entry)) t)) (now (out .exit)) r ⌝ }
 {
     match b {
-        FileRead::Unreadable => lines::refusal(17, 0, out),
+        FileRead::Unreadable => lines::refusal(refusals::UNREADABLE, 0, out),
         FileRead::Holds(n) => {
             let s = front(batch, n);
-            if 65536 < s.len() {
-                return lines::refusal(16, 0, out);
+            if refusals::MOST_BYTES < s.len() {
+                return lines::refusal(refusals::FILE_LENGTH, 0, out);
             }
             tally(curve, s, out)
         }
@@ -93,11 +93,11 @@ pub fn tally_files(
     ensures { λ r. ⌜ Printed (now (out .entry)) (text (fileOf c (now (curve .entry))) (fileOf b (now (batch .entry)))) (now (out .exit)) r ⌝ }
 {
     match c {
-        FileRead::Unreadable => lines::refusal(17, 0, out),
+        FileRead::Unreadable => lines::refusal(refusals::UNREADABLE, 0, out),
         FileRead::Holds(n) => {
             let s = front(curve, n);
-            if 65536 < s.len() {
-                return lines::refusal(16, 0, out);
+            if refusals::MOST_BYTES < s.len() {
+                return lines::refusal(refusals::FILE_LENGTH, 0, out);
             }
             tally_batch(s, b, batch, out)
         }

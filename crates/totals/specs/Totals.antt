@@ -6,7 +6,7 @@ use Rattle.rules.specs.Pair.{neutral}
 use Rattle.rules.specs.Sum.{sum}
 use Rattle.rules.specs.Records.{Checked, refused, taken, PairOf}
 use Rattle.rules.specs.Lists.{Batch, batch}
-use Rattle.rules.specs.Calls.{Totalled, refusal, done}
+use Rattle.rules.specs.Calls.{Reply, refusal, done}
 use Rattle.divisor.specs.Divisors.{pair}
 use Rattle.curve.specs.declared.Curve.{Curve}
 use Rattle.curve.specs.Curves.{curveOf, Holds}
@@ -24,9 +24,9 @@ abbrev pub TotalIs : Curve → List ℕ → TotalRead → Type 0
 TotalIs c s (Done d k) = Holds c d × (total-rule c s ≡ taken (record { result = pair (c .m) d; count = k }))
 TotalIs c s (Refused n k) = total-rule c s ≡ refused n k
 
-abbrev pub totalOf : TotalAnswer → List ℕ → Totalled
-totalOf (DoneTotal n k) out = record { written = record { answer = done n; out = out }; count = k }
-totalOf (RefusedTotal n k) out = record { written = record { answer = refusal n k; out = out }; count = 0 }
+abbrev pub totalOf : TotalAnswer → List ℕ → Reply ℕ
+totalOf (DoneTotal n k) out = record { answer = done n; out = out; own = k }
+totalOf (RefusedTotal n k) out = record { answer = refusal n k; out = out; own = 0 }
 
-abbrev pub TotalAnswerIs : TotalAnswer → List ℕ → Totalled → Type 0
+abbrev pub TotalAnswerIs : TotalAnswer → List ℕ → Reply ℕ → Type 0
 TotalAnswerIs r out rule = totalOf r out ≡ rule

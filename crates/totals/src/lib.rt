@@ -27,8 +27,8 @@ pub fn total_of(c: Curve, s: &[u8]) -> TotalRead
     let mut k: u64 = 0;
     let mut a: usize = 0;
     while a < s.len() {
-        if k == 4096 {
-            return TotalRead::Refused(14, 0);
+        if k == refusals::MOST_COUNT {
+            return TotalRead::Refused(refusals::FULL, 0);
         }
         match divisor_read::divisor_at(c, false, s, a) {
             DivisorRead::Taken(d) => {
@@ -57,7 +57,7 @@ pub fn total_batch(curve: &[u8], batch: &[u8], out: &mut [u8]) -> TotalAnswer
         TotalRead::Done(t, k) => {
             let n = answers::write_out(t, c.m, out);
             if n == 0 {
-                return TotalAnswer::Refused(13, 0);
+                return TotalAnswer::Refused(refusals::OUTPUT_LENGTH, 0);
             }
             TotalAnswer::Done(n, k)
         }

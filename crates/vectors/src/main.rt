@@ -8,8 +8,6 @@ ghost use Rattle.frames.specs.Frames.{InOrder};
 use frames::Frame;
 use libc::STDOUT_FILENO;
 
-mod calls;
-
 // What each byte of an output holds before a call, and the longest output.
 const GUARD: u8 = 165;
 
@@ -32,7 +30,7 @@ fn line_by(operation: u8, s: &[u8], f: Frame, text: &mut [u8]) -> usize
     let e = f.end;
     let n = f.output;
     let mut out = [GUARD; MOST_OUTPUT];
-    calls::line(
+    replay::line(
         operation,
         &s[21..a],
         &s[a..b],

@@ -1,6 +1,10 @@
-use mathlib.Core.Path.{sym}
-use Rattle.rules.specs.Calls.{check-curve, refusal, done}
-use Rattle.rules.proofs.calls.Refusals.{check-taken, check-refused}
+use mathlib.Core.Path.{sym, ap}
+use mathlib.Core.List.{[]}
+use Rattle.rules.specs.Checks.{taken}
+use Rattle.rules.specs.Calls.{check-curve}
+use Rattle.rules.proofs.calls.Written.{only}
+use Rattle.rules.proofs.calls.Refusals.{on-taken, on-refused}
+use Rattle.answers.proofs.Written.{answer}
 use borrow.Author.Needs.{needs}
 use Rattle.answers.proofs.check_curve.Statement.{statement}
 use Rattle.answers.proofs.check_curve.Tie as tie
@@ -10,11 +14,11 @@ read-curve-requires c κs = search needs
 
 returns : tie.Need-returns
 unfolding check-curve
-returns c = sym (check-refused _ refusal (λ d. done 0) (c .before .read-curve .ensures .refuses (c .if1 .taken)))
+returns c = sym (ap answer (on-refused _ (λ d. taken (only [])) (c .before .read-curve .ensures .refuses (c .if1 .taken))))
 
 returns-2 : tie.Need-returns-2
 unfolding check-curve
-returns-2 c = sym (check-taken _ refusal (λ d. done 0) (c .before .read-curve .ensures .takes (c .if1 .left)))
+returns-2 c = sym (ap answer (on-taken _ (λ d. taken (only [])) (c .before .read-curve .ensures .takes (c .if1 .left))))
 
 pub check-curve-spec : {M : Type 1} → statement M
 check-curve-spec = tie.close (tie.spec read-curve-requires returns returns-2)

@@ -1,5 +1,9 @@
-use mathlib.Core.Path.{sym}
-use Rattle.rules.specs.Calls.{check-divisor, refusal, done}
+use mathlib.Core.Path.{sym, ap}
+use mathlib.Core.List.{[]}
+use Rattle.rules.specs.Checks.{taken}
+use Rattle.rules.specs.Calls.{check-divisor}
+use Rattle.rules.proofs.calls.Written.{only}
+use Rattle.answers.proofs.Written.{answer}
 use Rattle.answers.proofs.Firsts.{one-stops, one-goes}
 use borrow.Author.Needs.{needs}
 use Rattle.answers.proofs.check_divisor.Statement.{statement}
@@ -10,11 +14,11 @@ read-one-requires c κs = search needs
 
 returns : tie.Need-returns
 unfolding check-divisor
-returns c = let s = c .before .before .before .before .before in sym (one-stops refusal (λ x. done 0) (s .args .curve .now) (s .args .a .now) _ _ (c .before .before .read-one .ensures .refuses (c .if1 .taken)))
+returns c = let s = c .before .before .before .before .before in sym (ap answer (one-stops (λ x. taken (only [])) (s .args .curve .now) (s .args .a .now) _ _ (c .before .before .read-one .ensures .refuses (c .if1 .taken))))
 
 returns-2 : tie.Need-returns-2
 unfolding check-divisor
-returns-2 c = let s = c .before .before .before .before .before in sym (one-goes refusal (λ x. done 0) (s .args .curve .now) (s .args .a .now) _ (c .before .before .read-one .ensures .takes (c .if1 .left)))
+returns-2 c = let s = c .before .before .before .before .before in sym (ap answer (one-goes (λ x. taken (only [])) (s .args .curve .now) (s .args .a .now) _ (c .before .before .read-one .ensures .takes (c .if1 .left))))
 
 pub check-divisor-spec : {M : Type 1} → statement M
 check-divisor-spec = tie.close (tie.spec read-one-requires returns returns-2)

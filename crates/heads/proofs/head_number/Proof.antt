@@ -1,6 +1,6 @@
 use mathlib.Core.Path.{sym, ap, _∙_}
 use native.Mathlib.Omega.{arith}
-use Rattle.heads.specs.Heads.{IsGenus}
+use Rattle.rules.specs.Records.{genus?}
 use Rattle.heads.proofs.Head.{too-short, unmarked, other-version, other-genus, other-length, passed}
 use borrow.Author.Needs.{needs}
 use Rattle.heads.proofs.head_number.Statement.{statement}
@@ -49,13 +49,13 @@ add-if5 : tie.Need-add-if5
 add-if5 c = search needs
 
 returns-3 : tie.Need-returns-3
-returns-3 c = other-length _ (c .before .before .before .before .before .before .before .before .before .before .before .before .if1 .left) (sym (c .before .before .before .before .before .before .before .before .before .before .before .marked .ensures) ∙ c .before .before .before .before .before .before .before .before .before .before .if2 .taken) (omega arith) (ap IsGenus (sym (c .before .before .before .wide3 .ensures .0)) ∙ sym (c .before .before .is-genus .ensures) ∙ c .before .if4 .taken) (λ e. c .if5 .taken (omega arith))
+returns-3 c = other-length _ (c .before .before .before .before .before .before .before .before .before .before .before .before .if1 .left) (sym (c .before .before .before .before .before .before .before .before .before .before .before .marked .ensures) ∙ c .before .before .before .before .before .before .before .before .before .before .if2 .taken) (omega arith) (ap genus? (sym (c .before .before .before .wide3 .ensures .0)) ∙ sym (c .before .before .is-genus .ensures) ∙ c .before .if4 .taken) (λ e. c .if5 .taken (omega arith))
 
 returns-4 : tie.Need-returns-4
-returns-4 c = passed _ (c .before .before .before .before .before .before .before .before .before .before .before .before .if1 .left) (sym (c .before .before .before .before .before .before .before .before .before .before .before .marked .ensures) ∙ c .before .before .before .before .before .before .before .before .before .before .if2 .taken) (omega arith) (ap IsGenus (sym (c .before .before .before .wide3 .ensures .0)) ∙ sym (c .before .before .is-genus .ensures) ∙ c .before .if4 .taken) (omega arith)
+returns-4 c = passed _ (c .before .before .before .before .before .before .before .before .before .before .before .before .if1 .left) (sym (c .before .before .before .before .before .before .before .before .before .before .before .marked .ensures) ∙ c .before .before .before .before .before .before .before .before .before .before .if2 .taken) (omega arith) (ap genus? (sym (c .before .before .before .wide3 .ensures .0)) ∙ sym (c .before .before .is-genus .ensures) ∙ c .before .if4 .taken) (omega arith)
 
 returns-5 : tie.Need-returns-5
-returns-5 c = other-genus _ (c .before .before .before .before .before .before .before .before .before .before .before .if1 .left) (sym (c .before .before .before .before .before .before .before .before .before .before .marked .ensures) ∙ c .before .before .before .before .before .before .before .before .before .if2 .taken) (omega arith) (ap IsGenus (sym (c .before .before .wide3 .ensures .0)) ∙ sym (c .before .is-genus .ensures) ∙ c .if4 .left)
+returns-5 c = other-genus _ (c .before .before .before .before .before .before .before .before .before .before .before .if1 .left) (sym (c .before .before .before .before .before .before .before .before .before .before .marked .ensures) ∙ c .before .before .before .before .before .before .before .before .before .if2 .taken) (omega arith) (ap genus? (sym (c .before .before .wide3 .ensures .0)) ∙ sym (c .before .is-genus .ensures) ∙ c .if4 .left)
 
 returns-6 : tie.Need-returns-6
 returns-6 c = unmarked _ (c .before .before .if1 .left) (sym (c .before .marked .ensures) ∙ c .if2 .left)

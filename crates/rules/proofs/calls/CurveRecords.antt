@@ -14,20 +14,17 @@ use Rattle.algebra.proofs.zmod.Zmod.{zmod}
 use Rattle.algebra.proofs.zmod.Prime.{Prime, prime-by-test}
 use Rattle.rules.specs.Bytes.{word64, words, bytes64, all-bytes}
 use Rattle.rules.specs.Tests.{square-free?}
-use Rattle.rules.specs.Records.{taken, both, either, odd-prime?, below?, elements, numbers, CurveRecord, curve, read-curve, curve-bytes}
-use Rattle.rules.proofs.calls.Tests.{passed, taken-inj, both-true, either-true}
+use Rattle.rules.specs.Records.{taken, either, odd-prime?, below?, elements, numbers, CurveRecord, curve, version, marked?, genus?, curve-of, curve-checks, read-curve, curve-bytes}
+use Rattle.rules.proofs.calls.Tests.{both-true, either-true}
+use Rattle.rules.proofs.calls.Checks.{all-passed, passed-all}
 use Rattle.rules.proofs.calls.Bytes.{AreBytes, one-off, bytes-word, bytes-words, length-bytes, length-words, word-behind, words-behind}
 use Rattle.rules.proofs.calls.Elements.{elements-numbers, numbers-elements, length-elements, length-numbers, numbers-below}
 
--- the curve that bytes say
-abbrev pub curve-of : List ℕ → CurveRecord
-curve-of s = record { p = word64 s 6; g = getD s 5 0; low = elements (word64 s 6) (words s 14 (suc (getD s 5 0 + getD s 5 0))) }
-
 pub record CurveBytes (s : List ℕ) : Type 0 where
   pub six : 6 ≤ length s
-  pub mark : both (eqb (getD s 0 0) 72) (both (eqb (getD s 1 0) 74) (eqb (getD s 2 0) 67)) ≡ true
-  pub version : eqb (getD s 3 0 * 256 + getD s 4 0) 1 ≡ true
-  pub genus : either (eqb (getD s 5 0) 2) (eqb (getD s 5 0) 3) ≡ true
+  pub mark : marked? s ≡ true
+  pub version : eqb (getD s 3 0 * 256 + getD s 4 0) version ≡ true
+  pub genus : genus? (getD s 5 0) ≡ true
   pub long : length s ≡ 22 + 16 * getD s 5 0
   pub prime : odd-prime? (word64 s 6) ≡ true
   pub below : below? (word64 s 6) (words s 14 (suc (getD s 5 0 + getD s 5 0))) ≡ true
@@ -35,31 +32,25 @@ pub record CurveBytes (s : List ℕ) : Type 0 where
 
 pub curve-read : (s : List ℕ) {c : CurveRecord} → read-curve s ≡ taken c → CurveBytes s × (curve-of s ≡ c)
 unfolding read-curve
-curve-read s e =
-    let t1 = passed _ _ _ _ e in
-    let t2 = passed _ _ _ _ (t1 .1) in
-    let t3 = passed _ _ _ _ (t2 .1) in
-    let t4 = passed _ _ _ _ (t3 .1) in
-    let t5 = passed _ _ _ _ (t4 .1) in
-    let t6 = passed _ _ _ _ (t5 .1) in
-    let t7 = passed _ _ _ _ (t6 .1) in
-    let t8 = passed _ _ _ _ (t7 .1) in (
+curve-read s e = let t = all-passed (curve-of s) (curve-checks s) e in
+    let h = t .0 in (
       record {
-        six = leb-true _ _ (t1 .0);
-        mark = t2 .0;
-        version = t3 .0;
-        genus = t4 .0;
-        long = eqb-true _ _ (t5 .0);
-        prime = t6 .0;
-        below = t7 .0;
-        free = t8 .0;
+        six = leb-true _ _ (h .0);
+        mark = h .1 .0;
+        version = h .1 .1 .0;
+        genus = h .1 .1 .1 .0;
+        long = eqb-true _ _ (h .1 .1 .1 .1 .0);
+        prime = h .1 .1 .1 .1 .1 .0;
+        below = h .1 .1 .1 .1 .1 .1 .0;
+        free = h .1 .1 .1 .1 .1 .1 .1 .0;
       },
-      taken-inj (t8 .1),
+      t .1,
     )
 
 pub curve-taken : (s : List ℕ) → CurveBytes s → read-curve s ≡ taken (curve-of s)
 unfolding read-curve
-curve-taken s h = rw (le-leb 6 (length s) (h .six), h .mark, h .version, h .genus, eq-eqb (length s) (22 + 16 * getD s 5 0) (h .long), h .prime, h .below, h .free)
+curve-taken s h = passed-all (curve-of s) (curve-checks s)
+    (le-leb 6 (length s) (h .six), (h .mark, (h .version, (h .genus, (eq-eqb (length s) (22 + 16 * getD s 5 0) (h .long), (h .prime, (h .below, (h .free, tt))))))))
 
 -- ---- what is so of a curve that was taken
 pub record Accepts (c : CurveRecord) : Type 0 where
@@ -81,17 +72,17 @@ odd-prime {p} e =
     let r = both-true _ _ (t .1) in
     record { is = prime-by-test p (r .1); least = leb-true 3 p (t .0); greatest = leb-true p 2147483647 (r .0) }
 
-genus-is : (g : ℕ) → either (eqb g 2) (eqb g 3) ≡ true → (2 ≤ g) × (g ≤ 3)
+pub genus-is : (g : ℕ) → genus? g ≡ true → (2 ≤ g) × (g ≤ 3)
 genus-is g e = go (either-true _ _ e)
   where
     go : (eqb g 2 ≡ true) ⊎ (eqb g 3 ≡ true) → (2 ≤ g) × (g ≤ 3)
     go (inl h) = omega (arith, eqb-true g 2 h)
     go (inr h) = omega (arith, eqb-true g 3 h)
 
-is-genus : (g : ℕ) → 2 ≤ g → g ≤ 3 → either (eqb g 2) (eqb g 3) ≡ true
+is-genus : (g : ℕ) → 2 ≤ g → g ≤ 3 → genus? g ≡ true
 is-genus g l m = go (ℕ-discrete g 2)
   where
-    go : Dec (g ≡ 2) → either (eqb g 2) (eqb g 3) ≡ true
+    go : Dec (g ≡ 2) → genus? g ≡ true
     go (yes e) = rw (eq-eqb g 2 e)
     go (no n) = rw (ne-eqb g 2 n, eq-eqb g 3 (omega arith))
 

@@ -13,32 +13,23 @@ use Rattle.algebra.proofs.zmod.Zmod.{zmod}
 use Rattle.rules.specs.Bytes.{words, all-bytes}
 use Rattle.rules.specs.Pair.{Valid}
 use Rattle.rules.specs.Tests.{on-curve?}
-use Rattle.rules.specs.Records.{taken, both, fits, below?, elements, numbers, CurveRecord, curve, PairOf, divisor-at, read-divisor, divisor-bytes}
+use Rattle.rules.specs.Records.{taken, both, fits, below?, elements, numbers, CurveRecord, curve, PairOf, us-at, vs-at, made-of, divisor-checks, divisor-at, read-divisor, divisor-bytes}
 use Rattle.rules.proofs.cantor.OnCurve.{on-curve-decides}
-use Rattle.rules.proofs.calls.Tests.{passed, taken-inj, both-true, true-both}
+use Rattle.rules.proofs.calls.Tests.{both-true, true-both}
+use Rattle.rules.proofs.calls.Checks.{all-passed, passed-all}
 use Rattle.rules.proofs.calls.Bytes.{AreBytes, Alike, alike-at, one-off, bytes-words, length-bytes, length-words, words-same, words-behind}
 use Rattle.rules.proofs.calls.Elements.{elements-numbers, numbers-elements, length-elements, length-numbers, numbers-below}
 use Rattle.rules.proofs.calls.CurveRecords.{Accepts, odd-prime}
 
--- the numbers that the record from byte a on holds
-abbrev pub us-at : List ℕ → ℕ → List ℕ
-us-at s a = words s (a + 1) (getD s a 0)
-
-abbrev pub vs-at : List ℕ → ℕ → List ℕ
-vs-at s a = words s (a + 1 + 8 * getD s a 0) (getD s a 0)
-
 module _ (c : CurveRecord) where
-  abbrev pub made-of : List ℕ → List ℕ → PairOf c
-  made-of us vs = record { u = elements (c .p) us; v = elements (c .p) vs }
+  abbrev pub pair-at : List ℕ → ℕ → PairOf c
+  pair-at s a = made-of c (us-at s a) (vs-at s a)
 
-  pub made-numbers : (d : PairOf c) → made-of (numbers (c .p) (d .u)) (numbers (c .p) (d .v)) ≡ d
+  pub made-numbers : (d : PairOf c) → made-of c (numbers (c .p) (d .u)) (numbers (c .p) (d .v)) ≡ d
   made-numbers d = ap₂ paired (elements-numbers (c .p) (d .u)) (elements-numbers (c .p) (d .v))
     where
       paired : List (zmod (c .p) .El) → List (zmod (c .p) .El) → PairOf c
       paired x y = record { u = x; v = y }
-
-  abbrev pub pair-at : List ℕ → ℕ → PairOf c
-  pair-at s a = made-of (us-at s a) (vs-at s a)
 
   pub record DivisorBytes (whole : Bool) (s : List ℕ) (a : ℕ) : Type 0 where
     pub inside : a < length s
@@ -50,17 +41,13 @@ module _ (c : CurveRecord) where
   module _ (k : ℕ) (whole : Bool) (s : List ℕ) (a : ℕ) where
     pub divisor-read : {d : PairOf c} → divisor-at c k whole s a ≡ taken d → DivisorBytes whole s a × (pair-at s a ≡ d)
     unfolding divisor-at
-    divisor-read e =
-        let t1 = passed _ _ _ _ e in
-        let t2 = passed _ _ _ _ (t1 .1) in
-        let t3 = passed _ _ _ _ (t2 .1) in
-        let t4 = passed _ _ _ _ (t3 .1) in
-        let t5 = passed _ _ _ _ (t4 .1) in
-        (record { inside = ltb-true _ _ (t1 .0); small = leb-true _ _ (t2 .0); long = t3 .0; below = t4 .0; on = t5 .0 }, taken-inj (t5 .1))
+    divisor-read e = let t = all-passed (pair-at s a) (divisor-checks c k whole s a) e in
+        let h = t .0 in
+        (record { inside = ltb-true _ _ (h .0); small = leb-true _ _ (h .1 .0); long = h .1 .1 .0; below = h .1 .1 .1 .0; on = h .1 .1 .1 .1 .0 }, t .1)
 
     pub divisor-taken : DivisorBytes whole s a → divisor-at c k whole s a ≡ taken (pair-at s a)
     unfolding divisor-at
-    divisor-taken h = rw (lt-ltb a (length s) (h .inside), le-leb (getD s a 0) (c .g) (h .small), h .long, h .below, h .on)
+    divisor-taken h = passed-all (pair-at s a) (divisor-checks c k whole s a) (lt-ltb a (length s) (h .inside), (le-leb (getD s a 0) (c .g) (h .small), (h .long, (h .below, (h .on, tt)))))
 
     pair-valid : DivisorBytes whole s a → Valid (curve c) (pair-at s a)
     pair-valid h = record {

@@ -2,19 +2,20 @@
 -- (`divisor-place`), a running total (`resume-place`), a batch (`batch-place`), which refuses with its first faulty record or with 14 (`batch-refused`).
 -- Open: `At`, `None`, `Placed`, `Faulty`.
 use Prim.Native.Nat.{ℕ, suc, _+_, _*_, _≤_, _<_}
-use mathlib.Core.Path.{_≡_, refl, sym, ap, ap₂, _∙_}
+use mathlib.Core.Path.{_≡_, refl, sym, ap, ap₂, _∙_, subst₂}
 use mathlib.Core.List.{List, [], _∷_, _++_, flatten, append-assoc}
 use mathlib.Core.Bool.{Bool, true, false}
 use mathlib.Core.Logic.{_⊎_, inl, inr}
 use native.Mathlib.Omega.{arith}
 use lib.ListN.{getD, length, drop, length-append}
-use Rattle.rules.specs.Records.{Checked, refused, taken, CurveRecord, PairOf, read-curve, divisor-at}
+use Rattle.rules.specs.Records.{CurveRecord, PairOf, read-curve, divisor-at}
+use Rattle.rules.specs.Checks.{Checked, refused, taken, go-on}
 use Rattle.rules.specs.Lists.{Batch, batch, most}
 use Rattle.rules.specs.Calls.{Running, resume}
 use Rattle.rules.proofs.calls.Tests.{refused-taken}
 use Rattle.rules.proofs.calls.DivisorRecords.{divisor-read, divisor-taken, record-out, alone-out, split-out, length-out}
 use Rattle.rules.proofs.calls.Batches.{AllRecords, is-record, no-records, more-records, Reading, ends, full, stops, goes, reading}
-use Rattle.rules.proofs.calls.Refusals.{curve-refused, divisor-refused, resume-refused, divisor-numbered}
+use Rattle.rules.proofs.calls.Refusals.{Numbered, curve-refused, divisor-refused, resume-refused, divisor-numbered}
 
 -- the number n has the place j: one that K allows for 8 to 11, otherwise 0
 abbrev pub At : (ℕ → ℕ → Type 0) → ℕ → ℕ → Type 0
@@ -27,6 +28,19 @@ None n j = ⊥
 module _ {A : Type 0} where
   abbrev pub Placed : (ℕ → ℕ → Type 0) → Checked A → Type 0
   Placed K x = (n j : ℕ) → x ≡ refused n j → At K n j
+
+-- one reading after another: what the first allows and what the next allows is allowed by K
+pub placed-on : {A B : Type 0} (K L : ℕ → ℕ → Type 0) (x : Checked A) (go : A → Checked B) → Placed L x → ((n j : ℕ) → x ≡ refused n j → L n j → K n j)
+    → ((a : A) → x ≡ taken a → Placed K (go a)) → Placed K (go-on x go)
+placed-on K L (refused m i) go p w rest n j e =
+    let a : m ≡ n = cc in
+    let b : i ≡ j = cc in
+    let q = p m i refl in
+    (λ l u. subst₂ K a b (w m i refl (q .0 (omega (arith, a, l)) (omega (arith, a, u)))), λ l. sym b ∙ q .1 (omega (arith, a, l)), λ l. sym b ∙ q .2 (omega (arith, a, l)))
+placed-on K L (taken a) go p w rest n j e = rest a refl n j e
+
+pub placed-taken : {A : Type 0} (K : ℕ → ℕ → Type 0) (a : A) → Placed K (taken a)
+placed-taken K a n j e = absurd (refused-taken (sym e))
 
 -- numbers other than 8 to 11, with place 0
 pub elsewhere : (K : ℕ → ℕ → Type 0) {n j : ℕ} → (8 ≤ n → n ≤ 11 → ⊥) → j ≡ 0 → At K n j
@@ -132,7 +146,7 @@ module _ (c : CurveRecord) where
             (λ l u. b, λ l. absurd (omega (arith, r .0)), λ l. absurd (omega (arith, r .1)))
         go (inr q) = elsewhere (Faulty s) (λ l u. omega (arith, q .0)) (q .1)
 
-    pub batch-numbered : (from : A) (n j : ℕ) → batch c step s from ≡ refused n j → 0 < n
+    pub batch-numbered : (from : A) → Numbered (batch c step s from)
     batch-numbered from n j e = go (batch-refused from e)
       where
         go : Faulty s n j ⊎ Over n j → 0 < n

@@ -16,10 +16,10 @@ use Rattle.algebra.proofs.zmod.PrimeField.{modulo}
 use Rattle.rules.specs.Pair.{Pair, neutral}
 use Rattle.rules.specs.Records.{taken, choose, CurveRecord, PairOf, read-curve}
 use Rattle.rules.specs.Lists.{Repeat, same-list?, same?, place-of, repeat-from, first-repeat}
-use Rattle.rules.specs.Calls.{done, Repeated, repeat-call}
+use Rattle.rules.specs.Calls.{done, Reply, deliver, repeat-call}
 use Rattle.rules.proofs.calls.Tests.{both-true, true-both}
 use Rattle.rules.proofs.calls.Batches.{pair-of, AllRecords, batch-records}
-use Rattle.rules.proofs.calls.Refusals.{check-taken}
+use Rattle.rules.proofs.calls.Refusals.{on-taken}
 
 module _ {K : Arith} where
   abbrev pub at : List (Pair K) → ℕ → Pair K
@@ -188,9 +188,10 @@ snoc-all front [] = sym (append-nil front)
 snoc-all front (x ∷ l) = snoc-all (front ++ (x ∷ [])) l ∙ append-snoc front x l
 
 module _ (s : List ℕ) {c : CurveRecord} (ec : read-curve s ≡ taken c) (rs : List (List ℕ)) (good : AllRecords c rs) where
-  pub repeat-records : length rs ≤ 4096 → repeat-call s (flatten rs) ≡ record { answer = done 0; repeat = first-repeat (c .p) (map (pair-of c) rs) }
+  pub repeat-records : length rs ≤ 4096 → repeat-call s (flatten rs) ≡ record { answer = done 0; out = []; own = first-repeat (c .p) (map (pair-of c) rs) }
   unfolding repeat-call
-  repeat-records l = check-taken _ _ _ ec ∙ check-taken _ _ _ (batch-records c (λ l d. l ++ (d ∷ [])) rs [] good l) ∙ ap found (snoc-all [] (map (pair-of c) rs))
+  repeat-records l = ap (deliver (record { first = 0; second = 0 }) []) (on-taken _ _ ec ∙ on-taken _ _ (batch-records c (λ l d. l ++ (d ∷ [])) rs [] good l))
+      ∙ ap found (snoc-all [] (map (pair-of c) rs))
     where
-      found : List (PairOf c) → Repeated
-      found l = record { answer = done 0; repeat = first-repeat (c .p) l }
+      found : List (PairOf c) → Reply Repeat
+      found l = record { answer = done 0; out = []; own = first-repeat (c .p) l }

@@ -1,12 +1,11 @@
 -- The running total: from a fresh one, records scanned one by one come to the batch total of what was taken so far.
--- Open: `running-of`, `running-bytes`, `scans`, `AllDone`.
+-- Open: `running-of`, `running-bytes`, `running-result`, `scans`, `AllDone`.
 use Prim.Native.Nat.{ℕ, _+_, _≤_, _<_}
 use mathlib.Core.Path.{_≡_, refl, sym, ap, _∙_, subst}
 use mathlib.Core.List.{List, [], _∷_, _++_, map, foldl, flatten, mem-cons-self, mem-cons-of-mem}
 use mathlib.Core.Bool.{true}
 use mathlib.Core.Logic.{_↔_}
 use native.Mathlib.Omega.{arith}
-use lib.Dec.{leb}
 use lib.ListN.{length}
 use borrow.Author.Tests.{ltb-true, leb-true, eqb-true, lt-ltb, le-leb, eq-eqb}
 use Rattle.rules.specs.Bytes.{all-bytes}
@@ -14,18 +13,21 @@ use Rattle.rules.specs.Pair.{Valid, neutral}
 use Rattle.rules.specs.Sum.{sum}
 use Rattle.rules.specs.Multiple.{total}
 use Rattle.rules.specs.Tests.{on-curve?}
-use Rattle.rules.specs.Records.{taken, both, below?, numbers, CurveRecord, curve, PairOf, read-curve, read-divisor, divisor-bytes}
+use Rattle.rules.specs.Records.{taken, go-on, both, below?, numbers, CurveRecord, curve, PairOf, made-of, read-curve, read-divisor, divisor-bytes}
 use Rattle.rules.specs.Lists.{most}
-use Rattle.rules.specs.Calls.{done, write, totalled, total-call, Running, fresh, resume, Scanned, scan-call}
+use Rattle.rules.specs.Calls.{done, Result, Reply, put, deliver, total-call, Running, fresh, resume-checks, resume, scanned, scan-on, scan-call}
 use Rattle.rules.proofs.cantor.OnCurve.{on-curve-decides}
 use Rattle.rules.proofs.cantor.Pairs.{neutral-valid}
-use Rattle.rules.proofs.calls.Tests.{passed, taken-inj, true-both}
+use Rattle.rules.proofs.calls.Tests.{true-both}
+use Rattle.rules.proofs.calls.Checks.{all-passed, passed-all}
 use Rattle.rules.proofs.calls.Elements.{length-elements, length-numbers, numbers-below}
 use Rattle.rules.proofs.calls.CurveRecords.{Accepts, accepts, odd-prime}
 use Rattle.rules.proofs.calls.Accepted.{accepts-laws}
-use Rattle.rules.proofs.calls.DivisorRecords.{made-of, made-numbers}
+use Rattle.rules.proofs.calls.DivisorRecords.{made-numbers}
 use Rattle.rules.proofs.calls.Batches.{pair-of, IsRecord, AllRecords, is-record, record-at, record-valid, no-records, more-records}
-use Rattle.rules.proofs.calls.Refusals.{check-taken, went-on, divisor-numbered, resume-numbered}
+use Rattle.rules.proofs.calls.Refusals.{on-taken, divisor-numbered, resume-numbered}
+use Rattle.rules.proofs.calls.Delivered.{refused-kept, came-on}
+use Rattle.rules.proofs.calls.Written.{answered}
 use Rattle.rules.proofs.calls.Done.{total-of}
 use Rattle.rules.proofs.calls.Totals.{total-records}
 
@@ -36,17 +38,20 @@ running-of c d n = record { u = numbers (c .p) (d .u); v = numbers (c .p) (d .v)
 abbrev pub running-bytes : Running → List ℕ
 running-bytes t = length (t .u) ∷ (all-bytes (t .u) ++ all-bytes (t .v))
 
+abbrev pub running-result : Running → Result ℕ
+running-result t = record { bytes = running-bytes t; own = t .count }
+
 running-written : (c : CurveRecord) (d : PairOf c) (n : ℕ) → running-bytes (running-of c d n) ≡ divisor-bytes (c .p) d
 unfolding divisor-bytes
 running-written c d n = ap (λ (k : ℕ). k ∷ (all-bytes (numbers (c .p) (d .u)) ++ all-bytes (numbers (c .p) (d .v)))) (length-numbers (c .p) (d .u))
 
 -- records scanned one by one; every scan answers 0
 abbrev pub scans : Running → List ℕ → List (List ℕ) → Running
-scans t s rs = foldl (λ t r. (scan-call t s r) .total) t rs
+scans t s rs = foldl (λ t r. (scan-call t s r) .own) t rs
 
 abbrev pub AllDone : Running → List ℕ → List (List ℕ) → Type 0
 AllDone t s [] = Unit {0}
-AllDone t s (r ∷ rs) = ((scan-call t s r) .answer .number ≡ 0) × AllDone ((scan-call t s r) .total) s rs
+AllDone t s (r ∷ rs) = ((scan-call t s r) .answer .number ≡ 0) × AllDone ((scan-call t s r) .own) s rs
 
 -- ---- a running total that is taken up again
 module _ (c : CurveRecord) where
@@ -59,14 +64,9 @@ module _ (c : CurveRecord) where
 
   pub resume-read : (t : Running) {x : PairOf c} → resume c t ≡ taken x → Resumes t × (made-of c (t .u) (t .v) ≡ x)
   unfolding resume
-  resume-read t e =
-      let t1 = passed _ _ _ _ e in
-      let t2 = passed _ _ _ _ (t1 .1) in
-      let t3 = passed _ _ _ _ (t2 .1) in
-      let t4 = passed _ _ _ _ (t3 .1) in
-      let t5 = passed (leb (t .count) most) _ _ _ (t4 .1) in
-      let t6 = passed _ _ _ _ (t5 .1) in
-      (record { small = leb-true _ _ (t1 .0); same = eqb-true _ _ (t2 .0); below = t3 .0; on = t4 .0; room = ltb-true _ _ (t6 .0) }, taken-inj (t6 .1))
+  resume-read t e = let r = all-passed (made-of c (t .u) (t .v)) (resume-checks c t) e in
+      let h = r .0 in
+      (record { small = leb-true _ _ (h .0); same = eqb-true _ _ (h .1 .0); below = h .1 .1 .0; on = h .1 .1 .1 .0; room = ltb-true _ _ (h .1 .1 .1 .1 .1 .0) }, r .1)
 
   -- what is taken is valid
   pub resume-valid : (t : Running) {x : PairOf c} → resume c t ≡ taken x → Valid (curve c) x
@@ -78,15 +78,8 @@ module _ (c : CurveRecord) where
 
   pub resume-taken : (t : Running) → Resumes t → resume c t ≡ taken (made-of c (t .u) (t .v))
   unfolding resume
-  resume-taken t h = rw (
-    le-leb (length (t .u)) (c .g) (h .small),
-    eq-eqb (length (t .v)) (length (t .u)) (h .same),
-    h .below,
-    h .on,
-    le-leb (t .count) most
-        (omega (arith, h .room)),
-    lt-ltb (t .count) most (h .room),
-  )
+  resume-taken t h = passed-all (made-of c (t .u) (t .v)) (resume-checks c t)
+      (le-leb (length (t .u)) (c .g) (h .small), (eq-eqb (length (t .v)) (length (t .u)) (h .same), (h .below, (h .on, (le-leb (t .count) most (omega (arith, h .room)), (lt-ltb (t .count) most (h .room), tt))))))
 
   pub resume-is : Accepts c → (d : PairOf c) → Valid (curve c) d → (n : ℕ) → n < 4096 → resume c (running-of c d n) ≡ taken d
   resume-is ok d v n l = resume-taken (running-of c d n) (record {
@@ -101,29 +94,36 @@ module _ (c : CurveRecord) where
       pos = omega (arith, (odd-prime (ok .prime)) .least)
 
 -- ---- one scan
-pub record ScanDone (c : CurveRecord) (t : Running) (a : List ℕ) (w : Scanned) : Type 0 where
+pub record ScanDone (c : CurveRecord) (t : Running) (a : List ℕ) (w : Reply Running) : Type 0 where
   pub x : PairOf c
   pub y : PairOf c
   pub t-is : resume c t ≡ taken x
   pub a-is : read-divisor c 1 a ≡ taken y
-  pub is : w ≡ record { answer = done 0; total = running-of c (sum (curve c) x y) (t .count + 1) }
+  pub is : w ≡ record { answer = done 0; out = []; own = running-of c (sum (curve c) x y) (t .count + 1) }
+
+-- on a curve that was taken
+pub scan-on-is : (s : List ℕ) {c : CurveRecord} → read-curve s ≡ taken c → (t : Running) (a : List ℕ) → scan-call t s a ≡ scan-on c t a
+unfolding scan-call scan-on
+scan-on-is s {c} ec t a = ap (deliver t []) (on-taken (read-curve s) (λ d. scanned d t a) ec)
+
+-- refused, the total is the one that was lent
+pub scan-kept : (s : List ℕ) (t : Running) (a : List ℕ) → (answered (scan-call t s a) ≡ 0 → ⊥) → (scan-call t s a) .own ≡ t
+unfolding scan-call
+scan-kept s t a n = (refused-kept t [] (go-on (read-curve s) (λ c. scanned c t a)) n) .2
 
 module _ (s : List ℕ) {c : CurveRecord} (ec : read-curve s ≡ taken c) where
   -- the record's divisor added to the total's, and 1 to its count, whatever total it was lent
   pub scan-is : (t : Running) (a : List ℕ) {x y : PairOf c} → resume c t ≡ taken x → read-divisor c 1 a ≡ taken y
-      → scan-call t s a ≡ record { answer = done 0; total = running-of c (sum (curve c) x y) (t .count + 1) }
+      → scan-call t s a ≡ record { answer = done 0; out = []; own = running-of c (sum (curve c) x y) (t .count + 1) }
   unfolding scan-call
-  scan-is t a et ea = check-taken _ _ _ ec ∙ check-taken _ _ _ et ∙ check-taken _ _ _ ea
+  scan-is t a et ea = ap (deliver t []) (on-taken _ _ ec ∙ on-taken _ _ et ∙ on-taken _ _ ea)
 
   pub scan-done : (t : Running) (a : List ℕ) → (scan-call t s a) .answer .number ≡ 0 → ScanDone c t a (scan-call t s a)
   unfolding scan-call
   scan-done t a e =
-      let r = went-on num (resume c t) _ _ (λ n k. refl) (resume-numbered c t) (ap num (sym (check-taken _ _ _ ec)) ∙ e) in
-      let q = went-on num (read-divisor c 1 a) _ _ (λ n k. refl) (divisor-numbered c 1 true a 0) (r .2) in
+      let r = came-on t [] (resume c t) _ (resume-numbered c t) (ap (λ x. answered (deliver t [] x)) (sym (on-taken _ _ ec)) ∙ e) in
+      let q = came-on t [] (read-divisor c 1 a) _ (divisor-numbered c 1 true a 0) (r .2) in
       record { x = r .0; y = q .0; t-is = r .1; a-is = q .1; is = scan-is t a {x = r .0} {y = q .0} (r .1) (q .1) }
-    where
-      num : Scanned → ℕ
-      num w = w .answer .number
 
   -- ---- many
   ok : Accepts c
@@ -133,7 +133,7 @@ module _ (s : List ℕ) {c : CurveRecord} (ec : read-curve s ≡ taken c) where
   next-valid d v r h = (accepts-laws c ok) .sum-closed d (pair-of c r) v (record-valid c r h)
 
   scan-next : (d : PairOf c) → Valid (curve c) d → (n : ℕ) → n < 4096 → (r : List ℕ) → IsRecord c r
-      → scan-call (running-of c d n) s r ≡ record { answer = done 0; total = running-of c (sum (curve c) d (pair-of c r)) (n + 1) }
+      → scan-call (running-of c d n) s r ≡ record { answer = done 0; out = []; own = running-of c (sum (curve c) d (pair-of c r)) (n + 1) }
   scan-next d v n l r h = scan-is (running-of c d n) r (resume-is c ok d v n l) (record-at c 1 r h)
 
   abbrev From : List (List ℕ) → PairOf c → ℕ → Type 0
@@ -145,7 +145,7 @@ module _ (s : List ℕ) {c : CurveRecord} (ec : read-curve s ≡ taken c) where
       let k = scan-done (running-of c d n) r (h .0) in
       let room : n < 4096 = (resume-read c (running-of c d n) (k .t-is)) .0 .room in
       let good : IsRecord c r = is-record c 1 r (k .a-is) in
-      let e : (scan-call (running-of c d n) s r) .total ≡ running-of c (sum (curve c) d (pair-of c r)) (n + 1) = ap (λ (w : Scanned). w .total) (scan-next d v n room r good) in
+      let e : (scan-call (running-of c d n) s r) .own ≡ running-of c (sum (curve c) d (pair-of c r)) (n + 1) = ap (λ (w : Reply Running). w .own) (scan-next d v n room r good) in
       let q = scans-from rs (sum (curve c) d (pair-of c r)) (next-valid d v r good) (n + 1) (omega arith) (subst (λ (t : Running). AllDone t s rs) e (h .1)) in (
         more-records c good (q .0),
         omega (arith, q .1),
@@ -158,8 +158,8 @@ module _ (s : List ℕ) {c : CurveRecord} (ec : read-curve s ≡ taken c) where
   done-from (r ∷ rs) d v n h l =
       let good : IsRecord c r = h r mem-cons-self in
       let e = scan-next d v n (omega arith) r good in (
-        ap (λ (w : Scanned). w .answer .number) e,
-        subst (λ (w : Scanned). AllDone (w .total) s rs) (sym e)
+        ap (λ (w : Reply Running). w .answer .number) e,
+        subst (λ (w : Reply Running). AllDone (w .own) s rs) (sym e)
             (done-from rs (sum (curve c) d (pair-of c r)) (next-valid d v r good) (n + 1) (λ x m. h x (mem-cons-of-mem r m)) (omega arith)),
       )
 
@@ -184,8 +184,8 @@ module _ (s : List ℕ) {c : CurveRecord} (ec : read-curve s ≡ taken c) where
 
   -- and so it is what the batch call says of the same records
   pub scans-batch : (rs : List (List ℕ)) → AllDone fresh s rs → (out : List ℕ)
-      → total-call s (flatten rs) out ≡ totalled (write out (running-bytes (scans fresh s rs))) ((scans fresh s rs) .count)
+      → total-call s (flatten rs) out ≡ put 0 out (running-result (scans fresh s rs))
   scans-batch rs h out = let q = scans-done rs .0 h in
       total-records s ec rs (q .0) out (q .1)
-      ∙ sym (ap (λ (t : Running). totalled (write out (running-bytes t)) (t .count)) (scans-total rs h)
-      ∙ ap (λ (b : List ℕ). totalled (write out b) (length rs)) (running-written c (total-of c rs) (length rs)))
+      ∙ sym (ap (λ (t : Running). put 0 out (running-result t)) (scans-total rs h)
+      ∙ ap (λ (b : List ℕ). put 0 out (record { bytes = b; own = length rs })) (running-written c (total-of c rs) (length rs)))

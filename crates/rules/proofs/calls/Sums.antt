@@ -9,22 +9,23 @@ use Rattle.rules.specs.Bytes.{number}
 use Rattle.rules.specs.Pair.{neutral}
 use Rattle.rules.specs.Sum.{sum, double}
 use Rattle.rules.specs.Multiple.{multiple}
-use Rattle.rules.specs.Records.{Checked, refused, taken, CurveRecord, curve, PairOf, read-curve, read-divisor, divisor-bytes}
-use Rattle.rules.specs.Calls.{check, write, from-one, rewrite-divisor, double-call, opposite-call, add-call, multiply-call}
+use Rattle.rules.specs.Checks.{Checked, refused, taken, go-on}
+use Rattle.rules.specs.Records.{CurveRecord, curve, PairOf, read-curve, read-divisor, divisor-bytes}
+use Rattle.rules.specs.Calls.{deliver, write, from-one, rewrite-divisor, double-call, opposite-call, add-call, multiply-call}
 use Rattle.rules.proofs.cantor.Pairs.{neutral-valid}
 use Rattle.rules.proofs.calls.Tests.{taken-inj}
 use Rattle.rules.proofs.calls.CurveRecords.{Accepts, accepts}
 use Rattle.rules.proofs.calls.Accepted.{curve-laws}
 use Rattle.rules.proofs.calls.DivisorRecords.{divisor-read, divisor-taken, divisor-valid, divisor-reread}
-use Rattle.rules.proofs.calls.Refusals.{check-taken}
-use Rattle.rules.proofs.calls.Written.{front}
+use Rattle.rules.proofs.calls.Refusals.{on-taken}
+use Rattle.rules.proofs.calls.Written.{only, front, answered, bare}
 use Rattle.rules.proofs.calls.Taken.{add-is, multiply-written}
-use Rattle.rules.proofs.calls.Done.{answered, add-done, opposite-done, multiply-done, add-took, opposite-took, multiply-took}
+use Rattle.rules.proofs.calls.Done.{add-done, opposite-done, multiply-done, add-took, opposite-took, multiply-took}
 
 -- two that go on alike are alike
-check-same : {A R : Type 0} (x : Checked A) (stop : ℕ → ℕ → R) (f g : A → R) → ((a : A) → x ≡ taken a → f a ≡ g a) → check x stop f ≡ check x stop g
-check-same (refused n k) stop f g h = refl
-check-same (taken a) stop f g h = h a refl
+on-same : {A B : Type 0} (x : Checked A) (f g : A → Checked B) → ((a : A) → x ≡ taken a → f a ≡ g a) → go-on x f ≡ go-on x g
+on-same (refused n k) f g h = refl
+on-same (taken a) f g h = h a refl
 
 -- the single byte 00 is the neutral divisor's record
 pub neutral-bytes : (p : ℕ) → divisor-bytes p neutral ≡ 0 ∷ []
@@ -43,10 +44,10 @@ module _ (s : List ℕ) where
   -- where the second one is taken whenever the first is, a sum is a call on the first
   add-one-way : (f : (c : CurveRecord) → PairOf c → PairOf c) (a b out : List ℕ)
       → ((c : CurveRecord) → read-curve s ≡ taken c → (x : PairOf c) → read-divisor c 1 a ≡ taken x → (y : PairOf c) × (read-divisor c 2 b ≡ taken y) × (sum (curve c) x y ≡ f c x))
-      → add-call s a b out ≡ from-one f s a out
+      → add-call s a b out ≡ deliver tt out (from-one f s a)
   unfolding add-call
-  add-one-way f a b out h = check-same (read-curve s) _ _ _ (λ c ec. check-same (read-divisor c 1 a) _ _ _ (λ x ea. let r = h c ec x ea in
-      check-taken (read-divisor c 2 b) _ _ {a = r .0} (r .1) ∙ ap (λ (d : PairOf c). write out (divisor-bytes (c .p) d)) (r .2)))
+  add-one-way f a b out h = ap (deliver tt out) (on-same (read-curve s) _ _ (λ c ec. on-same (read-divisor c 1 a) _ _ (λ x ea. let r = h c ec x ea in
+      on-taken (read-divisor c 2 b) _ {a = r .0} (r .1) ∙ ap (λ (d : PairOf c). taken (only (divisor-bytes (c .p) d))) (r .2))))
 
   -- a double is the sum of a divisor with itself
   pub add-self : (a out : List ℕ) → add-call s a a out ≡ double-call s a out
@@ -94,27 +95,27 @@ module _ (s : List ℕ) where
   -- ---- multiples; m, n and k are scalars
   module _ (a : List ℕ) where
     -- n-fold and then m-fold is mn-fold
-    pub multiply-mul : (m n k o1 out : List ℕ) → answered ((multiply-call s a n o1) .written) ≡ 0 → length m ≤ 32 → length k ≤ 32 → number k ≡ number m * number n
-        → (multiply-call s (front ((multiply-call s a n o1) .written)) m out) .written ≡ (multiply-call s a k out) .written
+    pub multiply-mul : (m n k o1 out : List ℕ) → answered (multiply-call s a n o1) ≡ 0 → length m ≤ 32 → length k ≤ 32 → number k ≡ number m * number n
+        → bare (multiply-call s (front (multiply-call s a n o1)) m out) ≡ bare (multiply-call s a k out)
     multiply-mul m n k o1 out e lm lk is = let t = multiply-took s a n o1 e in go (t .0) (t .1)
       where
-        go : (c : CurveRecord) → read-curve s ≡ taken c → (multiply-call s (front ((multiply-call s a n o1) .written)) m out) .written ≡ (multiply-call s a k out) .written
+        go : (c : CurveRecord) → read-curve s ≡ taken c → bare (multiply-call s (front (multiply-call s a n o1)) m out) ≡ bare (multiply-call s a k out)
         go c ec = let r = (multiply-done s a o1 ec n e) .1 in
-            multiply-written s ec (front ((multiply-call s a n o1) .written)) (r .back 1) out m lm
+            multiply-written s ec (front (multiply-call s a n o1)) (r .back 1) out m lm
             ∙ ap (λ (d : PairOf c). write out (divisor-bytes (c .p) d))
             (sym (ap (λ (i : ℕ). multiple (curve c) i (r .x)) is ∙ (curve-laws s ec) .fold-mul (number m) (number n) (r .x) (divisor-valid c 1 true a 0 (r .a-is))))
             ∙ sym (multiply-written s ec a (r .a-is) out k lk)
 
     -- m-fold and n-fold added is (m + n)-fold
-    pub multiply-add : (m n k o1 o2 out : List ℕ) → answered ((multiply-call s a m o1) .written) ≡ 0 → answered ((multiply-call s a n o2) .written) ≡ 0
+    pub multiply-add : (m n k o1 o2 out : List ℕ) → answered (multiply-call s a m o1) ≡ 0 → answered (multiply-call s a n o2) ≡ 0
         → length k ≤ 32 → number k ≡ number m + number n
-        → add-call s (front ((multiply-call s a m o1) .written)) (front ((multiply-call s a n o2) .written)) out ≡ (multiply-call s a k out) .written
+        → add-call s (front (multiply-call s a m o1)) (front (multiply-call s a n o2)) out ≡ bare (multiply-call s a k out)
     multiply-add m n k o1 o2 out e e' lk is = let t = multiply-took s a n o2 e' in go (t .0) (t .1)
       where
-        go : (c : CurveRecord) → read-curve s ≡ taken c → add-call s (front ((multiply-call s a m o1) .written)) (front ((multiply-call s a n o2) .written)) out ≡
-            (multiply-call s a k out) .written
+        go : (c : CurveRecord) → read-curve s ≡ taken c → add-call s (front (multiply-call s a m o1)) (front (multiply-call s a n o2)) out ≡
+            bare (multiply-call s a k out)
         go c ec = let q = (multiply-done s a o1 ec m e) .1 in let r = (multiply-done s a o2 ec n e') .1 in
-            add-is s ec (front ((multiply-call s a m o1) .written)) (q .back 1) out (front ((multiply-call s a n o2) .written)) (r .back 2)
+            add-is s ec (front (multiply-call s a m o1)) (q .back 1) out (front (multiply-call s a n o2)) (r .back 2)
             ∙ ap (λ (d : PairOf c). write out (divisor-bytes (c .p) d))
             (ap (λ (x : PairOf c). sum (curve c) (multiple (curve c) (number m) x) (multiple (curve c) (number n) (r .x))) (taken-inj (sym (q .a-is) ∙ r .a-is))
             ∙ sym (ap (λ (i : ℕ). multiple (curve c) i (r .x)) is ∙ (curve-laws s ec) .fold-add (number m) (number n) (r .x) (divisor-valid c 1 true a 0 (r .a-is))))

@@ -4,7 +4,8 @@ use mathlib.Core.Path.{_≡_, refl}
 use mathlib.Core.Bool.{Bool, true, false, false≢true}
 use mathlib.Core.Logic.{_⊎_, inl, inr}
 use native.Mathlib.Omega.{arith}
-use Rattle.rules.specs.Records.{Checked, refused, taken, choose, both, either}
+use Rattle.rules.specs.Checks.{Checked, refused, taken, choose}
+use Rattle.rules.specs.Records.{both, either}
 
 module _ {A : Type 0} where
   pub refused-taken : {n k : ℕ} {a : A} → refused n k ≡ taken a → ⊥

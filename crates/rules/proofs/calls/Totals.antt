@@ -12,22 +12,22 @@ use Rattle.rules.specs.Pair.{Valid, neutral}
 use Rattle.rules.specs.Sum.{sum}
 use Rattle.rules.specs.Multiple.{total}
 use Rattle.rules.specs.Records.{taken, CurveRecord, curve, PairOf, read-curve, read-divisor, divisor-bytes}
-use Rattle.rules.specs.Calls.{write, add-call, not-totalled, totalled, total-call}
+use Rattle.rules.specs.Calls.{stop, put, deliver, write, add-call, total-call}
 use Rattle.rules.proofs.cantor.Pairs.{neutral-valid}
 use Rattle.rules.proofs.calls.CurveRecords.{Accepts, accepts}
 use Rattle.rules.proofs.calls.Accepted.{accepts-laws}
 use Rattle.rules.proofs.calls.DivisorRecords.{divisor-reread, length-divisor}
 use Rattle.rules.proofs.calls.Batches.{pair-of, IsRecord, AllRecords, is-record, record-pair, record-at, record-bytes, record-valid, records-valid, no-records, more-records, batch-records, batch-over}
 use Rattle.rules.proofs.calls.ListLaws.{flatten-append, map-flatten, perm-length}
-use Rattle.rules.proofs.calls.Refusals.{check-taken, check-refused}
-use Rattle.rules.proofs.calls.Written.{front, front-room}
-use Rattle.rules.proofs.calls.Taken.{add-is, total-is, total-written}
+use Rattle.rules.proofs.calls.Refusals.{on-taken, on-refused}
+use Rattle.rules.proofs.calls.Written.{front, bare, front-room}
+use Rattle.rules.proofs.calls.Taken.{total-result, add-is, total-is, total-written}
 use Rattle.rules.proofs.calls.Done.{total-of}
 use Rattle.rules.proofs.calls.Sums.{neutral-bytes}
 
 -- what the call that totals a part leaves at the front of an output o
 abbrev pub subtotal : List ℕ → List ℕ → List (List ℕ) → List ℕ
-subtotal s o rs = front ((total-call s (flatten rs) o) .written)
+subtotal s o rs = front (total-call s (flatten rs) o)
 
 -- records added one after the other, from the neutral one, each sum read from the output before
 abbrev pub adds : List ℕ → List ℕ → List ℕ → List (List ℕ) → List ℕ
@@ -39,14 +39,14 @@ module _ (s : List ℕ) {c : CurveRecord} (ec : read-curve s ≡ taken c) where
 
   -- ---- good records
   module _ (rs : List (List ℕ)) (good : AllRecords c rs) where
-    pub total-records : (out : List ℕ) → length rs ≤ 4096 → total-call s (flatten rs) out ≡ totalled (write out (divisor-bytes (c .p) (total-of c rs))) (length rs)
+    pub total-records : (out : List ℕ) → length rs ≤ 4096 → total-call s (flatten rs) out ≡ put 0 out (total-result c (total-of c rs) (length rs))
     unfolding total
     total-records out l = total-is s ec (flatten rs) out (batch-records c (sum (curve c)) rs neutral good l)
 
     -- bytes behind 4,096 good records
-    pub total-over : (rest out : List ℕ) → length rs ≡ 4096 → 0 < length rest → total-call s (flatten rs ++ rest) out ≡ not-totalled out 14 0
+    pub total-over : (rest out : List ℕ) → length rs ≡ 4096 → 0 < length rest → total-call s (flatten rs ++ rest) out ≡ stop 0 out 14 0
     unfolding total-call
-    total-over rest out e l = check-taken _ _ _ ec ∙ check-refused _ _ _ (batch-over c (sum (curve c)) rs rest neutral good e l)
+    total-over rest out e l = ap (deliver 0 out) (on-taken _ _ ec ∙ on-refused _ _ (batch-over c (sum (curve c)) rs rest neutral good e l))
 
   -- more than 4,096
   some-bytes : (rs : List (List ℕ)) → AllRecords c rs → 0 < length rs → 0 < length (flatten rs)
@@ -54,7 +54,7 @@ module _ (s : List ℕ) {c : CurveRecord} (ec : read-curve s ≡ taken c) where
   some-bytes [] h l = l
   some-bytes (r ∷ rs) h l = omega (arith, length-append r (flatten rs), (record-bytes c r (h r mem-cons-self)) .inside)
 
-  pub total-too-many : (rs : List (List ℕ)) → AllRecords c rs → (out : List ℕ) → 4096 < length rs → total-call s (flatten rs) out ≡ not-totalled out 14 0
+  pub total-too-many : (rs : List (List ℕ)) → AllRecords c rs → (out : List ℕ) → 4096 < length rs → total-call s (flatten rs) out ≡ stop 0 out 14 0
   total-too-many rs good out l = ap (λ (z : List ℕ). total-call s z out) (ap flatten (sym split) ∙ flatten-append (take 4096 rs) (drop 4096 rs))
       ∙ total-over (take 4096 rs) (λ r m. good r (subst (List·Mem r) split (mem-append-left (drop 4096 rs) m))) (flatten (drop 4096 rs)) out (length-take-le 4096 rs (omega arith))
       (some-bytes (drop 4096 rs) (λ r m. good r (subst (List·Mem r) split (mem-append-right (take 4096 rs) m))) (omega (arith, length-drop 4096 rs)))
@@ -72,7 +72,7 @@ module _ (s : List ℕ) {c : CurveRecord} (ec : read-curve s ≡ taken c) where
       go : Dec (4096 < length rs) → total-call s (flatten rs) out ≡ total-call s (flatten rs') out
       go (yes l) = total-too-many rs good out l ∙ sym (total-too-many rs' good' out (omega (arith, perm-length p)))
       go (no l) = total-records rs good out (omega arith)
-          ∙ ap₂ (λ (d : PairOf c) (n : ℕ). totalled (write out (divisor-bytes (c .p) d)) n)
+          ∙ ap₂ (λ (d : PairOf c) (n : ℕ). put 0 out (total-result c d n))
           ((accepts-laws c ok) .any-order (map (pair-of c) rs) (map (pair-of c) rs') (records-valid c rs good) (Perm·map (pair-of c) p)) (perm-length p)
           ∙ sym (total-records rs' good' out (omega (arith, perm-length p)))
 
@@ -139,7 +139,7 @@ module _ (s : List ℕ) {c : CurveRecord} (ec : read-curve s ≡ taken c) where
           (subst (Perm (map (pair-of c) rs)) (map-flatten (pair-of c) parts) (Perm·map (pair-of c) p)))
 
       -- the parts' totals, summed by one more batch
-      pub total-any-split : (out : List ℕ) → length parts ≤ 4096 → (total-call s (flatten (map (subtotal s o) parts)) out) .written ≡ (total-call s (flatten rs) out) .written
+      pub total-any-split : (out : List ℕ) → length parts ≤ 4096 → bare (total-call s (flatten (map (subtotal s o) parts)) out) ≡ bare (total-call s (flatten rs) out)
       unfolding total
       total-any-split out l = total-written s ec (flatten (map (subtotal s o) parts)) out
           (batch-records c (sum (curve c)) (map (subtotal s o) parts) neutral (subtotals-good parts good-parts few-parts) (omega (arith, length-map parts (subtotal s o))))

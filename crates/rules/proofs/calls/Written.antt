@@ -1,48 +1,60 @@
 -- What is written to the output: on 0 the result stands at its front (`front-is`), and the rest is as it was (`rest-is`).
--- Open: `front`.
+-- Open: `Written`, `only`, `front`, `answered`, `bare`.
 use Prim.Native.Nat.{ℕ, _+_, _≤_}
-use mathlib.Core.Path.{_≡_, refl, ap, _∙_}
+use mathlib.Core.Path.{_≡_, refl, sym, ap, _∙_, subst}
 use mathlib.Core.List.{List, _++_}
 use mathlib.Core.Bool.{Bool, true, false}
 use native.Mathlib.Omega.{arith}
 use lib.Dec.{ltb}
 use lib.ListN.{length, take, drop}
 use lib.Seq.{sets, sets-eq, take-at, drop-at}
-use borrow.Author.Tests.{ltb-false, le-ltb}
-use Rattle.rules.specs.Records.{choose}
-use Rattle.rules.specs.Calls.{Written, left-as-is, done, write}
+use Rattle.rules.specs.Checks.{taken, choose}
+use Rattle.rules.specs.Calls.{Result, Reply, stop, put, write}
+use Rattle.rules.proofs.calls.Tests.{taken-inj}
+use Rattle.rules.proofs.calls.Refusals.{numbered-taken}
+use Rattle.rules.proofs.calls.Delivered.{full, put-room, delivered}
 
--- as many bytes of the output as the answer says
-abbrev pub front : Written → List ℕ
+-- a call with no numbers of its own: its answer and output; what it comes to
+abbrev pub Written : Type 0
+Written = Reply (Unit {0})
+
+abbrev pub only : List ℕ → Result (Unit {0})
+only bytes = record { bytes = bytes; own = tt }
+
+-- as many bytes of the output as the answer says; the answer and the output alone
+abbrev pub front : {N : Type 0} → Reply N → List ℕ
 front w = take (w .answer .length) (w .out)
 
+abbrev pub answered : {N : Type 0} → Reply N → ℕ
+answered w = w .answer .number
+
+abbrev pub bare : {N : Type 0} → Reply N → Written
+bare w = record { answer = w .answer; out = w .out; own = tt }
+
+pub bare-put : {N : Type 0} (none : N) (out : List ℕ) (r : Result N) → bare (put none out r) ≡ write out (r .bytes)
+bare-put none out r = go (ltb (length out) (length (r .bytes)))
+  where
+    go : (t : Bool) → bare (choose t (stop none out 13 0) (full none out r)) ≡ choose t (stop tt out 13 0) (full tt out (only (r .bytes)))
+    go true = refl
+    go false = refl
+
 module _ (out bytes : List ℕ) where
-  pub record Fits : Type 0 where
-    pub room : length bytes ≤ length out
-    pub is : write out bytes ≡ record { answer = done (length bytes); out = sets out 0 bytes }
+  room-of : (write out bytes) .answer .number ≡ 0 → length bytes ≤ length out
+  room-of zero = let k = delivered tt out (taken (only bytes)) (numbered-taken (only bytes)) zero in
+      subst (λ (r : Result (Unit {0})). length (r .bytes) ≤ length out) (sym (taken-inj (k .is))) (k .room)
 
-  abbrev wrote : Bool → Written
-  wrote t = choose t (left-as-is out 13 0) (record { answer = done (length bytes); out = sets out 0 bytes })
-
-  pub write-fits : (write out bytes) .answer .number ≡ 0 → Fits
-  write-fits zero = go (ltb (length out) (length bytes)) refl zero
-    where
-      go : (t : Bool) → ltb (length out) (length bytes) ≡ t → (wrote t) .answer .number ≡ 0 → Fits
-      go true q e = absurd (omega arith)
-      go false q e = record { room = ltb-false (length out) (length bytes) q; is = ap wrote q }
+  pub write-room : length bytes ≤ length out → write out bytes ≡ full tt out (only bytes)
+  write-room l = put-room tt out (only bytes) l
 
   sets-is : length bytes ≤ length out → sets out 0 bytes ≡ bytes ++ drop (0 + length bytes) out
   sets-is l = sets-eq bytes out 0 (omega arith)
 
-  pub front-is : (write out bytes) .answer .number ≡ 0 → front (write out bytes) ≡ bytes
-  front-is zero = let f = write-fits zero in ap front (f .is) ∙ ap (take (length bytes)) (sets-is (f .room)) ∙ take-at bytes (drop (0 + length bytes) out) (length bytes) refl
-
-  pub rest-is : (write out bytes) .answer .number ≡ 0 → drop (length bytes) ((write out bytes) .out) ≡ drop (length bytes) out
-  rest-is zero = let f = write-fits zero in ap (λ (w : Written). drop (length bytes) (w .out)) (f .is) ∙ ap (drop (length bytes)) (sets-is (f .room))
-      ∙ drop-at bytes (drop (0 + length bytes) out) (length bytes) refl ∙ ap (λ (n : ℕ). drop n out) {x = 0 + length bytes} {y = length bytes} (omega arith)
-
-  pub write-room : length bytes ≤ length out → write out bytes ≡ record { answer = done (length bytes); out = sets out 0 bytes }
-  write-room l = rw (le-ltb (length out) (length bytes) l)
-
   pub front-room : length bytes ≤ length out → front (write out bytes) ≡ bytes
-  front-room l = front-is (ap (λ (w : Written). w .answer .number) (write-room l))
+  front-room l = ap front (write-room l) ∙ ap (take (length bytes)) (sets-is l) ∙ take-at bytes (drop (0 + length bytes) out) (length bytes) refl
+
+  pub front-is : answered (write out bytes) ≡ 0 → front (write out bytes) ≡ bytes
+  front-is zero = front-room (room-of zero)
+
+  pub rest-is : answered (write out bytes) ≡ 0 → drop (length bytes) ((write out bytes) .out) ≡ drop (length bytes) out
+  rest-is zero = ap (λ (w : Written). drop (length bytes) (w .out)) (write-room (room-of zero)) ∙ ap (drop (length bytes)) (sets-is (room-of zero))
+      ∙ drop-at bytes (drop (0 + length bytes) out) (length bytes) refl ∙ ap (λ (n : ℕ). drop n out) {x = 0 + length bytes} {y = length bytes} (omega arith)

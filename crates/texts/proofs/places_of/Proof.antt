@@ -15,13 +15,13 @@ enum-told-2 : tie.Need-enum-told-2
 enum-told-2 c = search needs
 
 returns : tie.Need-returns
-returns c = sym (ap (λ (x : RepeatAnswer). repeatOf x .repeat) (c .before .r .given .1))
+returns c = sym (ap (λ (x : RepeatAnswer). repeatOf x .own) (c .before .r .given .1))
 
 returns-2 : tie.Need-returns-2
-returns-2 c = sym (ap (λ (x : RepeatAnswer). repeatOf x .repeat) (c .enum-told .given .1))
+returns-2 c = sym (ap (λ (x : RepeatAnswer). repeatOf x .own) (c .enum-told .given .1))
 
 returns-3 : tie.Need-returns-3
-returns-3 c = sym (ap (λ (x : RepeatAnswer). repeatOf x .repeat) (c .enum-told2 .given .1))
+returns-3 c = sym (ap (λ (x : RepeatAnswer). repeatOf x .own) (c .enum-told2 .given .1))
 
 pub places-of-spec : {M : Type 1} → statement M
 places-of-spec =

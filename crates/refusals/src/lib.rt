@@ -1,0 +1,42 @@
+// The numbers that refuse, by name, in document 01's order, and its limits: the one place where code has them.
+pub const CURVE_LENGTH: u64 = 1;
+
+pub const MARK: u64 = 2;
+
+pub const VERSION: u64 = 3;
+
+pub const GENUS: u64 = 4;
+
+pub const PRIME: u64 = 5;
+
+pub const CURVE_COEFFICIENT: u64 = 6;
+
+pub const REPEATED_FACTOR: u64 = 7;
+
+pub const DIVISOR_LENGTH: u64 = 8;
+
+pub const WEIGHT: u64 = 9;
+
+pub const DIVISOR_COEFFICIENT: u64 = 10;
+
+pub const NOT_ON_CURVE: u64 = 11;
+
+pub const SCALAR_LENGTH: u64 = 12;
+
+pub const OUTPUT_LENGTH: u64 = 13;
+
+pub const FULL: u64 = 14;
+
+pub const RUNNING_TOTAL: u64 = 15;
+
+pub const FILE_LENGTH: u64 = 16;
+
+pub const UNREADABLE: u64 = 17;
+
+// The most records of a batch or of a running total, as a length and as a count.
+pub const MOST: usize = 4096;
+
+pub const MOST_COUNT: u64 = 4096;
+
+// The longest file.
+pub const MOST_BYTES: usize = 65536;
