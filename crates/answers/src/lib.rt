@@ -100,21 +100,20 @@ pub fn check_divisor(curve: &[u8], a: &[u8]) -> Answer
     Answer::Done(0)
 }
 
+// What was read and checked is written as it stood.
 pub fn rewrite_curve(curve: &[u8], out: &mut [u8]) -> Answer
     ensures { λ r. ⌜ Wrote r (now (out .exit)) (rewrite-curve (now (curve .entry)) (now (out .entry))) ⌝ }
 {
     let read = curve_read::read_curve(curve);
-    let c = read.curve;
     let number = read.number;
     if number != 0 {
         return Answer::Refused(number, 0);
     }
-    let n = 22 + 16 * c.g;
-    if out.len() < n {
+    if out.len() < curve.len() {
         return Answer::Refused(refusals::OUTPUT_LENGTH, 0);
     }
-    writes::write_curve(c, out);
-    Answer::Done(n as u64)
+    words::write_bytes(curve, out);
+    Answer::Done(curve.len() as u64)
 }
 
 pub fn rewrite_divisor(curve: &[u8], a: &[u8], out: &mut [u8]) -> Answer

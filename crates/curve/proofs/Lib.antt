@@ -1,6 +1,3 @@
-pub mod Few
-pub mod Convert
-pub mod Carry
-pub mod Chain
-pub mod Sums
-pub mod Quicks
+pub mod Squares
+pub mod Rests
+pub mod Contains

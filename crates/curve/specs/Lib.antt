@@ -1,3 +1,3 @@
-pub mod Pairs
 pub mod Curves
 pub mod Record
+pub mod Rests

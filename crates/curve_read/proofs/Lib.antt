@@ -1,4 +1,3 @@
 pub mod Primes
-pub mod Lows
-pub mod Low
+pub mod Coefficients
 pub mod Whole

@@ -15,7 +15,7 @@ use Rattle.heads.specs.Heads.{HeadIs}
 use Rattle.heads.proofs.Head.{low-rule, behind}
 use Rattle.rules.proofs.calls.CurveRecords.{genus-is}
 use Rattle.curve_read.specs.declared.CurveRead.{CurveRead}
-use Rattle.curve_read.specs.Read.{CurveIs, ToLow, LowIs}
+use Rattle.curve_read.specs.Read.{CurveIs, ToRead, CoefficientsIs}
 use Rattle.curve_read.proofs.Primes.{odd-prime-no}
 
 module _ (s : List ℕ) where
@@ -34,9 +34,9 @@ module _ (s : List ℕ) where
           five q = omega arith
 
       module _ (m : Modulus) (e : a ≡ Modulo m) (g : ℕ) (g-is : g ≡ getD s 5 0) where
-        pub to-low : ToLow s g m
-        to-low = let k = genus-is (getD s 5 0) (h .passes z .genus) in
+        pub to-read : ToRead s g m
+        to-read = let k = genus-is (getD s 5 0) (h .passes z .genus) in
             record { good = subst (ModulusIs p) e ha .0; first = subst OddPrime (sym (subst (ModulusIs p) e ha .1)) (subst (ModulusIs p) e ha .2); least = omega (arith, k); most = omega (arith, k); long = omega (arith, h .passes z .long) }
 
-        pub modulus-read : (r : CurveRead) → LowIs s g m r → CurveIs s r
+        pub modulus-read : (r : CurveRead) → CoefficientsIs s g m r → CurveIs s r
         modulus-read r k = k (h .passes z) g-is (subst (ModulusIs p) e ha .1 ∙ p-is)

@@ -1,74 +1,54 @@
 // Curve records: bytes in, a curve out. What is read and what is refused is what the rules say, in their order.
 ghost use mathlib.Core.Path.{_≡_};
-ghost use Rattle.curve_read.specs.Read.{CurveIs, ToLow, LowIs, LowsIs};
+ghost use Rattle.curve_read.specs.Read.{CurveIs, ToRead, CoefficientsIs};
 use curve::Curve;
 use field::Modulus;
 use field::ModulusRead;
 use field::Residue;
-use field::ResidueRead;
-use poly::Poly;
 
-// The number is 0 where the curve was taken. (A curve holds an array, and an enum can't.)
+// The number is 0 where the curve was taken.
 pub struct CurveRead {
     pub number: u64,
     pub curve: Curve,
 }
 
-// f without its leading 1, where all its coefficients are below p.
-pub struct LowRead {
-    pub below: bool,
-    pub f: Poly,
-}
-
-// The coefficients f_0 up to f_2g.
-fn read_lows(s: &[u8], g: usize, m: Modulus) -> LowRead
-    requires { ⌜ ToLow (now s) g m ⌝ }
-    ensures { λ r. ⌜ LowsIs (now (s .entry)) g m r ⌝ }
-{
-    let n = g + g + 1;
-    let mut f = Poly::zero(m);
-    let mut k: usize = 0;
-    while k < n {
-        match Residue::read(words::read64(s, 14 + 8 * k), m) {
-            ResidueRead::Below(x) => {
-                f = f.put(k, x, m);
-            }
-            ResidueRead::TooLarge => {
-                return LowRead { below: false, f: f };
-            }
-        }
-        k += 1;
-    }
-    LowRead { below: true, f: f }
-}
-
 // What stands behind p: refusals 6 and 7.
-fn read_low(s: &[u8], g: usize, m: Modulus) -> CurveRead
-    requires { ⌜ ToLow (now s) g m ⌝ }
-    ensures { λ r. ⌜ LowIs (now (s .entry)) g m r ⌝ }
+fn read_coefficients(s: &[u8], g: usize, m: Modulus) -> CurveRead
+    requires { ⌜ ToRead (now s) g m ⌝ }
+    ensures { λ r. ⌜ CoefficientsIs (now (s .entry)) g m r ⌝ }
 {
-    let low = read_lows(s, g, m);
-    let l = low.f;
+    let low = record_numbers::residues_at(s, 14, 5, m);
+    let high = record_numbers::residues_at(s, 54, 2 * g - 4, m);
+    let l = low.r;
+    let h = high.r;
+    let c = Curve {
+        m: m,
+        g: g,
+        f0: l[0],
+        f1: l[1],
+        f2: l[2],
+        f3: l[3],
+        f4: l[4],
+        f5: h[0],
+        f6: h[1],
+    };
     if low.below {
-        let f = l.put(g + g + 1, Residue::one(m), m);
-        let c = Curve { m: m, g: g, f: f };
-        if euclid::is_square_free(f, m) {
-            CurveRead {
-                number: 0,
-                curve: c,
+        if high.below {
+            if euclid::is_square_free(few::f_of(c), m) {
+                return CurveRead {
+                    number: 0,
+                    curve: c,
+                };
             }
-        } else {
-            CurveRead {
+            return CurveRead {
                 number: refusals::REPEATED_FACTOR,
                 curve: c,
-            }
+            };
         }
-    } else {
-        let c = Curve { m: m, g: g, f: l };
-        CurveRead {
-            number: refusals::CURVE_COEFFICIENT,
-            curve: c,
-        }
+    }
+    CurveRead {
+        number: refusals::CURVE_COEFFICIENT,
+        curve: c,
     }
 }
 
@@ -76,9 +56,18 @@ fn read_low(s: &[u8], g: usize, m: Modulus) -> CurveRead
 fn no_curve(number: u64) -> CurveRead
     ensures { λ r. ⌜ r .number ≡ number ⌝ }
 {
-    let m = Modulus::least();
-    let f = Poly::zero(m);
-    let c = Curve { m: m, g: 2, f: f };
+    let z = Residue::zero();
+    let c = Curve {
+        m: Modulus::least(),
+        g: 2,
+        f0: z,
+        f1: z,
+        f2: z,
+        f3: z,
+        f4: z,
+        f5: z,
+        f6: z,
+    };
     CurveRead {
         number: number,
         curve: c,
@@ -93,7 +82,7 @@ pub fn read_curve(s: &[u8]) -> CurveRead
         return no_curve(number);
     }
     match Modulus::read(words::read64(s, 6)) {
-        ModulusRead::Modulo(m) => read_low(s, words::wide(s[5]) as usize, m),
+        ModulusRead::Modulo(m) => read_coefficients(s, words::wide(s[5]) as usize, m),
         ModulusRead::NoPrime => no_curve(refusals::PRIME),
     }
 }

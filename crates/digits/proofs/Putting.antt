@@ -1,10 +1,10 @@
 -- Bytes put one after the other: x, then y behind it, is x ++ y; and where x ++ y has room, x has, and y behind it.
-use Prim.Native.Nat.{ℕ, suc, _+_, _<_}
+use Prim.Native.Nat.{ℕ, _+_, _<_}
 use mathlib.Core.Path.{_≡_, refl, sym, ap, subst, _∙_}
 use mathlib.Core.List.{List, [], _∷_, _++_}
 use native.Mathlib.Omega.{arith}
-use lib.ListN.{length, take, getD, set, length-append}
-use lib.Seq.{sets, take-suc, take-length, length-take-le}
+use lib.ListN.{length, take, length-append}
+use lib.Seq.{sets, take-length}
 use Rattle.words.proofs.Writing.{sets-append}
 use Rattle.digits.specs.Put.{PutAt, Room}
 
@@ -42,13 +42,6 @@ module _ {text : List ℕ} (x : List ℕ) (d : ℕ) (e : text ≡ x ++ (d ∷ []
 
     pub put-last : {o' : List ℕ} {l r : ℕ} → l ≡ d → PutAt o b (l ∷ []) o' r → PutAt out a text o' r
     put-last q k = put-as (sym e) (put-then h (put-as (ap (λ (n : ℕ). n ∷ []) q) k))
-
--- one byte more of s
-pub put-more : (out s : List ℕ) (a k : ℕ) → k < length s → set (sets out a (take k s)) (a + k) (getD s k 0) ≡ sets out a (take (k + 1) s)
-put-more out s a k h = sym (ap (sets out a) one ∙ sets-append out (take k s) (getD s k 0 ∷ []) a (a + k) (omega (arith, length-take-le k s (omega arith))))
-  where
-    one : take (k + 1) s ≡ take k s ++ (getD s k 0 ∷ [])
-    one = ap (λ (n : ℕ). take n s) {x = k + 1} {y = suc k} (omega arith) ∙ take-suc s k 0 h
 
 -- all of s
 pub put-all : (out s o : List ℕ) (a k : ℕ) → k ≡ length s → o ≡ sets out a (take k s) → PutAt out a s o (a + k)

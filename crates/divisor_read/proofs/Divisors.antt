@@ -20,9 +20,10 @@ use Rattle.curve.specs.Curves.{curveOf, Sound, Divided}
 use Rattle.curve.specs.Record.{recordOf}
 use Rattle.words.proofs.Rows.{below-append, words-append, length-row}
 use Rattle.divisor_read.specs.declared.DivisorRead.the-variants.{Taken, Refused}
-use Rattle.divisor_read.specs.declared.Residues.{Residues}
-use Rattle.divisor_read.specs.Read.{DivisorIs, ResiduesIs}
-use Rattle.divisor_read.proofs.Rows.{Holding, held-elements, held-settled, held-behind}
+use Rattle.record_numbers.specs.declared.Residues.{Residues}
+use Rattle.record_numbers.specs.Read.{ResiduesIs}
+use Rattle.record_numbers.proofs.Rows.{Holding, held-elements, held-settled, held-behind}
+use Rattle.divisor_read.specs.Read.{DivisorIs}
 
 pub fits-within : (whole : Bool) (end all : ℕ) → fits whole end all ≡ true → end ≤ all
 fits-within true end all e = omega (arith, eqb-true all end e)
@@ -91,7 +92,7 @@ module _ (c : Curve) (h : Sound c) (whole : Bool) (s : List ℕ) (a : ℕ) where
 
           pub held : Held (c .m) d
           held = record {
-            good = h .ok .fill .good;
+            good = h .good;
             u = subst (AllSettled (c .m)) (sym (row-u d (x .r) row w w-of)) (held-settled (c .m) s (x .r) (a + 1) w enough for-u);
             v = subst (AllSettled (c .m)) (sym (row-v d (x .r) row w w-of)) (held-settled (c .m) s (drop w (x .r)) (a + 1 + 8 * w) w enough-v for-v);
           }

@@ -14,7 +14,7 @@ use Rattle.divisor.specs.declared.Divisor.{Divisor}
 use Rattle.divisor.specs.Divisors.{pair}
 use Rattle.curve.specs.declared.Curve.{Curve}
 use Rattle.curve.specs.Curves.{curveOf, Sound, Holds, Gives}
-use Rattle.curve.proofs.Carry.{accepted}
+use Rattle.curve.proofs.Contains.{accepted}
 use Rattle.multiple.proofs.Lengths.{first, halves}
 use Rattle.multiple.proofs.Folds.{itself}
 use Rattle.free_multiple.specs.declared.State.{State}

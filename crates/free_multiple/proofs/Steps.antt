@@ -1,13 +1,11 @@
 -- The engine's steps on the curve in code. Gives: a tuple doubled or added to is again one where its Z isn't 0 (`free-double`, `free-add`); what is taken to plain form and back (`plain-of`, `kept-free`).
-use Prim.Native.Nat.{ℕ, suc, _+_}
+use Prim.Native.Nat.{ℕ, _+_, _-_}
 use mathlib.Core.Path.{_≡_, refl, sym, ap, ap₂, _∙_, subst}
 use mathlib.Core.Logic.{_≢_}
 use mathlib.Core.List.{List, [], _∷_}
+use lib.ListN.{take}
 use Rattle.algebra.proofs.zmod.Zmod.{zmod}
 use Rattle.algebra.proofs.zmod.PrimeField.{modulo}
-use Rattle.algebra.proofs.poly.Series.{Ser}
-use Rattle.algebra.proofs.poly.Poly.{coef}
-use Rattle.algebra.proofs.list.Coefs.{coefs}
 use Rattle.rules.specs.Curve.{Curve as RuleCurve}
 use Rattle.rules.specs.Pair.{Pair, Valid}
 use Rattle.rules.specs.Sum.{sum, double}
@@ -17,14 +15,13 @@ use Rattle.rules.proofs.cantor.Sum.{sum-valid}
 use Rattle.field.specs.declared.Modulus.{Modulus}
 use Rattle.field.specs.declared.Residue.{Residue}
 use Rattle.field.specs.Residues.{el, Stands, Unit}
-use Rattle.poly.specs.Polys.{K, pol}
 use Rattle.divisor.specs.declared.Divisor.{Divisor}
 use Rattle.divisor.specs.declared.Divisor.the-variants.{Two}
 use Rattle.divisor.specs.declared.Quadratic.{Quadratic}
-use Rattle.divisor.specs.Divisors.{pair}
+use Rattle.divisor.specs.Divisors.{elements, pair}
 use Rattle.curve.specs.declared.Curve.{Curve}
-use Rattle.curve.specs.Curves.{curveOf, Sound, Holds, Gives}
-use Rattle.curve.proofs.Carry.{accepted}
+use Rattle.curve.specs.Curves.{curveOf, lows, Sound, Holds, Gives}
+use Rattle.curve.proofs.Contains.{accepted}
 use Rattle.free.specs.declared.Tuple.{Tuple}
 use Rattle.free.specs.Tuples.{Quotients, Mixed, Doubled, Lifted, Divided}
 use Rattle.free_multiple.specs.declared.State.{State}
@@ -42,20 +39,23 @@ module _ (c : Curve) (h : Sound c) where
   P = Pair (modulo (c .m .p))
 
   -- the coefficients of f
-  abbrev s : Ser (K (c .m))
-  s = coef (K (c .m)) (pol (c .m) (c .f))
+  abbrev s : ℕ → A
+  s 0 = el (c .m) (c .f0)
+  s 1 = el (c .m) (c .f1)
+  s 2 = el (c .m) (c .f2)
+  s 3 = el (c .m) (c .f3)
+  s k = el (c .m) (c .f4)
 
   abbrev at : ℕ → List A → RuleCurve
   at n l = record { K = modulo (c .m .p); g = n; low = l }
 
   -- on the curve of genus 2 with the coefficients l, and on this one
-  moved : (Says : ℕ → List A → Type 0) → c .g ≡ 2 → (l : List A) → l ≡ coefs (K (c .m)) 5 s → Says 2 l → Says (c .g) (coefs (K (c .m)) (suc (c .g + c .g)) s)
-  moved Says e l q x = subst (λ (k : ℕ). Says k (coefs (K (c .m)) (suc (k + k)) s)) (sym e) (subst (λ (j : List A). Says 2 j) q x)
+  moved : (Says : ℕ → List A → Type 0) → c .g ≡ 2 → (l : List A) → l ≡ s 0 ∷ s 1 ∷ s 2 ∷ s 3 ∷ s 4 ∷ [] → Says 2 l → Says (c .g) (elements (c .m) (lows c))
+  moved Says e l q x = subst (λ (k : ℕ). Says k (elements (c .m) (c .f0 ∷ c .f1 ∷ c .f2 ∷ c .f3 ∷ c .f4 ∷ take (k + k - 4) (c .f5 ∷ c .f6 ∷ [])))) (sym e) (subst (λ (j : List A). Says 2 j) q x)
 
   -- ---- tuples
   module _ (t : Tuple) (r : Tuple) (nz : el m (r .z) ≢ zmod (c .m .p) .zer) where
     pub free-double : (f2 f3 f4 : Residue) → Stands m f2 (s 2) → Stands m f3 (s 3) → Stands m f4 (s 4) → Doubled m f2 f3 f4 t r → (x : P) → IsFree c t x → IsFree c r (double (curveOf c) x)
-    unfolding coefs
     free-double f2 f3 f4 h2 h3 h4 hr x hx = subst (IsFree c r) (sym (double-is (curveOf c) x)) (record {
       genus = hx .genus;
       kept = hr .kept;
@@ -66,7 +66,6 @@ module _ (c : Curve) (h : Sound c) where
     })
 
     pub free-add : (f4 : Residue) → Stands m f4 (s 4) → (q : Quadratic) → Holds c (Two q) → Mixed m f4 t q r → (x : P) → IsFree c t x → IsFree c r (sum (curveOf c) x (pair m (Two q)))
-    unfolding coefs
     free-add f4 h4 q hq hr x hx = record {
       genus = hx .genus;
       kept = hr .kept;

@@ -5,7 +5,6 @@ use mathlib.Core.Logic.{_≢_}
 use mathlib.Core.List.{List}
 use lib.ListN.{length}
 use Rattle.algebra.proofs.zmod.Zmod.{zmod}
-use Rattle.algebra.proofs.poly.Poly.{coef}
 use Rattle.algebra.proofs.zmod.PrimeField.{modulo}
 use Rattle.rules.specs.Pair.{Pair, Valid}
 use Rattle.rules.specs.Sum.{sum, double}
@@ -13,7 +12,6 @@ use Rattle.rules.specs.Multiple.{multiple}
 use Rattle.rules.specs.Bytes.{number}
 use Rattle.field.specs.declared.Residue.{Residue}
 use Rattle.field.specs.Residues.{el, Stands, Settled}
-use Rattle.poly.specs.Polys.{K, pol}
 use Rattle.divisor.specs.declared.Divisor.{Divisor}
 use Rattle.divisor.specs.declared.Divisor.the-variants.{Two}
 use Rattle.divisor.specs.declared.Quadratic.{Quadratic}
@@ -62,9 +60,9 @@ module _ (c : Curve) where
 
   -- the curve's own coefficients
   pub record Reads (f2 f3 f4 : Residue) : Type 0 where
-    pub second : Stands (c .m) f2 (coef (K (c .m)) (pol (c .m) (c .f)) 2)
-    pub third : Stands (c .m) f3 (coef (K (c .m)) (pol (c .m) (c .f)) 3)
-    pub fourth : Stands (c .m) f4 (coef (K (c .m)) (pol (c .m) (c .f)) 4)
+    pub second : Stands (c .m) f2 (el (c .m) (c .f2))
+    pub third : Stands (c .m) f3 (el (c .m) (c .f3))
+    pub fourth : Stands (c .m) f4 (el (c .m) (c .f4))
 
   pub record ToClimb (f2 f3 f4 : Residue) (q : Quadratic) (t : Tuple) (bit : ℕ) : Type 0 where
     pub sound : Sound c

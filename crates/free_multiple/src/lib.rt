@@ -82,10 +82,9 @@ fn on_tuples(c: Curve, q: Quadratic, s: &[u8], t: Tuple, k: u64) -> Run
     ensures { λ r. ⌜ Ran c (Divisor.Two q) (number (now (s .entry))) k r ⌝ }
 {
     let m = c.m;
-    let f = c.f;
-    let f2 = f.get(2);
-    let f3 = f.get(3);
-    let f4 = f.get(4);
+    let f2 = c.f2;
+    let f3 = c.f3;
+    let f4 = c.f4;
     let mut r = t;
     let mut j = k;
     while 0 < j {

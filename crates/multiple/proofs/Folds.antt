@@ -17,7 +17,7 @@ use Rattle.divisor.specs.Divisors.{pair}
 use Rattle.divisor.proofs.Laws.{neutral-is}
 use Rattle.curve.specs.declared.Curve.{Curve}
 use Rattle.curve.specs.Curves.{curveOf, Sound, Holds, Gives}
-use Rattle.curve.proofs.Carry.{accepted, neutral-holds}
+use Rattle.curve.proofs.Contains.{accepted, neutral-holds}
 
 module _ (c : Curve) (h : Sound c) (a : Divisor) (ha : Holds c a) where
   abbrev E : RuleCurve

@@ -65,9 +65,9 @@ pub fn step(c: Curve, a: Divisor, r: Divisor, bit: u8) -> Divisor
     requires { ⌜ ToStep c a r bit ⌝ }
     ensures { λ t. ⌜ Stepped c a r bit t ⌝ }
 {
-    let t = c.double(r);
+    let t = jacobian::double(c, r);
     if bit == 1 {
-        return c.sum(t, a);
+        return jacobian::sum(c, t, a);
     }
     t
 }

@@ -26,7 +26,7 @@ impl Running {
         let n = self.count;
         let m = c.m;
         Running {
-            divisor: numbers::stored(c.sum(total, d), m),
+            divisor: numbers::stored(jacobian::sum(c, total, d), m),
             count: n + 1,
         }
     }

@@ -55,7 +55,7 @@ fn take_up(c: Curve, t: Running) -> TakenUp
     }
     if in_range(d, m) {
         let x = numbers::resumed(d, m);
-        if c.carries(x) {
+        if c.contains(x) {
             if refusals::MOST_COUNT < t.count {
                 return TakenUp {
                     number: refusals::RUNNING_TOTAL,

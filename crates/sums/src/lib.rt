@@ -29,7 +29,7 @@ pub fn double(curve: &[u8], a: &[u8], out: &mut [u8]) -> Answer
     }
     let c = x.curve;
     let d = x.divisor;
-    answers::write_answer(c.double(d), c.m, out)
+    answers::write_answer(jacobian::double(c, d), c.m, out)
 }
 
 pub fn opposite(curve: &[u8], a: &[u8], out: &mut [u8]) -> Answer
@@ -41,7 +41,7 @@ pub fn opposite(curve: &[u8], a: &[u8], out: &mut [u8]) -> Answer
     }
     let c = x.curve;
     let d = x.divisor;
-    answers::write_answer(c.opposite(d), c.m, out)
+    answers::write_answer(jacobian::opposite(c, d), c.m, out)
 }
 
 pub fn add(curve: &[u8], a: &[u8], b: &[u8], out: &mut [u8]) -> Answer
@@ -54,7 +54,7 @@ pub fn add(curve: &[u8], a: &[u8], b: &[u8], out: &mut [u8]) -> Answer
     let c = x.curve;
     let d = x.divisor;
     match divisor_read::divisor_at(c, true, b, 0) {
-        DivisorRead::Taken(y) => answers::write_answer(c.sum(d, y), c.m, out),
+        DivisorRead::Taken(y) => answers::write_answer(jacobian::sum(c, d, y), c.m, out),
         DivisorRead::Refused(n) => Answer::Refused(n, 2),
     }
 }

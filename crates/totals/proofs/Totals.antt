@@ -13,7 +13,7 @@ use Rattle.divisor.specs.Divisors.{pair}
 use Rattle.divisor.proofs.Laws.{neutral-is}
 use Rattle.curve.specs.declared.Curve.{Curve}
 use Rattle.curve.specs.Curves.{curveOf, Sound, Holds, Gives}
-use Rattle.curve.proofs.Carry.{neutral-holds}
+use Rattle.curve.proofs.Contains.{neutral-holds}
 use Rattle.divisor_read.specs.declared.DivisorRead.{DivisorRead}
 use Rattle.divisor_read.specs.declared.DivisorRead.the-variants.{Taken, Refused}
 use Rattle.divisor_read.specs.Read.{DivisorIs}
@@ -28,7 +28,7 @@ pub record Totalling (c : Curve) (s : List ℕ) (t : Divisor) (k a : ℕ) : Type
 module _ (c : Curve) (s : List ℕ) where
   pub total-begin : {t : Divisor} → Sound c → t ≡ Neutral → Totalling c s t 0 0
   total-begin h e = subst (λ (t : Divisor). Totalling c s t 0 0) (sym e) (record {
-    holds = neutral-holds c (h .ok .fill .good);
+    holds = neutral-holds c (h .good);
     going = subst (Going c (sum (curveOf c)) s neutral 0 0) (sym (neutral-is (c .m))) (begins c (sum (curveOf c)) s neutral);
   })
 

@@ -32,7 +32,7 @@ pub fn total_of(c: Curve, s: &[u8]) -> TotalRead
         }
         match divisor_read::divisor_at(c, false, s, a) {
             DivisorRead::Taken(d) => {
-                t = c.sum(t, d);
+                t = jacobian::sum(c, t, d);
             }
             DivisorRead::Refused(n) => {
                 return TotalRead::Refused(n, k + 1);

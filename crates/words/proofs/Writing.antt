@@ -27,3 +27,13 @@ module _ (out : List ℕ) (a : ℕ) (x : List ℕ) (k : ℕ) (h : k < length x) 
     where
       one : take (k + 1) x ≡ take k x ++ (getD x k 0 ∷ [])
       one = ap (λ (n : ℕ). take n x) {x = k + 1} {y = suc k} (omega arith) ∙ take-suc x k 0 h
+
+-- one byte more of s
+pub put-more : (out s : List ℕ) (a k : ℕ) → k < length s → set (sets out a (take k s)) (a + k) (getD s k 0) ≡ sets out a (take (k + 1) s)
+put-more out s a k h = sym (ap (sets out a) one ∙ sets-append out (take k s) (getD s k 0 ∷ []) a (a + k) (omega (arith, length-take-le k s (omega arith))))
+  where
+    one : take (k + 1) s ≡ take k s ++ (getD s k 0 ∷ [])
+    one = ap (λ (n : ℕ). take n s) {x = k + 1} {y = suc k} (omega arith) ∙ take-suc s k 0 h
+
+pub put-front : (out s : List ℕ) (k : ℕ) → k < length s → set (sets out 0 (take k s)) k (getD s k 0) ≡ sets out 0 (take (k + 1) s)
+put-front out s k h = ap (λ (n : ℕ). set (sets out 0 (take k s)) n (getD s k 0)) {x = k} {y = 0 + k} (omega arith) ∙ put-more out s 0 k h

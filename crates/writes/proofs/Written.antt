@@ -7,15 +7,12 @@ use native.Mathlib.Nat.{mod-eq-of-lt}
 use lib.ListN.{length, set, take}
 use lib.Seq.{sets}
 use Rattle.rules.specs.Bytes.{all-bytes}
-use Rattle.rules.specs.Records.{numbers, curve-bytes, divisor-bytes}
+use Rattle.rules.specs.Records.{numbers, divisor-bytes}
 use Rattle.field.specs.declared.Modulus.{Modulus}
 use Rattle.divisor.specs.declared.Divisor.{Divisor}
 use Rattle.divisor.specs.Divisors.{weightOf, pair}
 use Rattle.divisor.proofs.Laws.{weight-le, weight-is}
-use Rattle.curve.specs.declared.Curve.{Curve}
-use Rattle.curve.specs.Curves.{Sound}
-use Rattle.curve.specs.Record.{recordOf}
-use Rattle.writes.specs.Write.{NumbersOf, CurveNumbersOf}
+use Rattle.writes.specs.Write.{NumbersOf}
 use Rattle.words.proofs.Writing.{all-append}
 
 pub divisor-written : (m : Modulus) (d : Divisor) (out x : List ℕ) (w : ℕ) → w ≡ weightOf d → NumbersOf m d x
@@ -26,8 +23,3 @@ divisor-written m d out x w e h = ap₂ (λ (n : ℕ) (l : List ℕ). sets (set 
   where
     front : w % 256 ≡ length (pair m d .u)
     front = mod-eq-of-lt {n = w} {m = 256} (omega (arith, weight-le d)) ∙ e ∙ sym (weight-is m d)
-
-pub curve-written : (c : Curve) (out x : List ℕ) → Sound c → CurveNumbersOf c x
-    → sets (set (set (set (set (set (set out 0 72) 1 74) 2 67) 3 0) 4 1) 5 (c .g % 256)) 6 (all-bytes (take (c .g + c .g + 2) x)) ≡ sets out 0 (curve-bytes (recordOf c))
-unfolding curve-bytes all-bytes
-curve-written c out x s h = ap₂ (λ (n : ℕ) (l : List ℕ). sets (set (set (set (set (set (set out 0 72) 1 74) 2 67) 3 0) 4 1) 5 n) 6 l) (mod-eq-of-lt {n = c .g} {m = 256} (omega (arith, s .most))) (ap all-bytes (h .is))

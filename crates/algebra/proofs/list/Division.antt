@@ -1,5 +1,6 @@
 -- Division of lists by a monic polynomial is division in K[x]. Gives: `divided`, that `quotient` and `remainder` are those of
--- poly.Divide; the remainder has the divisor's length; `exact`, the quotient of a multiple; `no-rest`, that a multiple leaves nothing.
+-- poly.Divide; the remainder has the divisor's length; `exact`, the quotient of a multiple; `no-rest`, that a multiple leaves nothing; `own-rest`,
+-- that what is too short to be divided is its own remainder.
 use Prim.Native.Nat.{ℕ, suc}
 use mathlib.Core.Path.{_≡_, refl, sym, ap, ap₂, _∙_, subst}
 use mathlib.Core.List.{List, [], _∷_}
@@ -121,3 +122,9 @@ module _ (F : CRing) where
   unfolding whole-division
   no-rest m l e h = pol-inj F (remainder F m l) (replicate (length m) (F .zer)) (length-remainder m l ∙ sym (length-replicate (length m) (F .zer)))
       (remainder-unique F (length m) (mon F m) (pol F l) (mon-monic F m) (division m l) (whole-division m l e h) ∙ sym (pol-zeros F (length m)))
+
+  pub own-rest : (m l : List A) → length l ≡ length m → remainder F m l ≡ l
+  own-rest m l e = pol-inj F (remainder F m l) l (length-remainder m l ∙ sym e) (remainder-unique F (length m) (mon F m) (pol F l) (mon-monic F m) (division m l) whole)
+    where
+      whole : Division F (length m) (mon F m) (pol F l)
+      whole = record { quotient = 0P; remainder = pol F l; is = ring (poly F) (mon F m ∷ pol F l ∷ []) (search quote depth 40) refl; short = subst (λ (n : ℕ). Below F n (coef F (pol F l))) e (pol-below F l) }

@@ -1,12 +1,16 @@
-use mathlib.Core.Path.{refl, ap}
+use mathlib.Core.Path.{_≡_, refl, sym, ap, subst, _∙_}
+use Prim.Native.Nat.{ℕ, _<_}
 use native.Mathlib.Omega.{arith}
+use lib.ListN.{length}
+use lib.Seq.{sets}
 use Rattle.rules.specs.Records.{curve-bytes}
 use Rattle.rules.specs.Checks.{taken}
 use Rattle.rules.specs.Calls.{deliver, rewrite-curve}
 use Rattle.rules.proofs.calls.Written.{only}
+use Rattle.rules.proofs.calls.CurveRecords.{curve-written}
 use Rattle.curve.specs.Record.{recordOf}
 use Rattle.rules.proofs.calls.Refusals.{on-taken, on-refused}
-use Rattle.answers.proofs.Written.{curve-length, put-none, put-all, wrote-none, wrote-all, refused-as, goes-on}
+use Rattle.answers.proofs.Written.{curve-some, put-none, put-all, wrote-none, wrote-all, refused-as, goes-on}
 use borrow.Author.Needs.{needs}
 use Rattle.answers.proofs.rewrite_curve.Statement.{statement}
 use Rattle.answers.proofs.rewrite_curve.Tie as tie
@@ -16,27 +20,33 @@ read-curve-requires c κs = search needs
 
 returns : tie.Need-returns
 unfolding rewrite-curve
-returns c = let s = c .before .before .before .before .before in refused-as (ap (deliver tt (s .args .out .now)) (on-refused _ (λ d. taken (only (curve-bytes d))) (c .before .before .read-curve .ensures .refuses (c .if1 .taken))))
-
-mul-n : tie.Need-mul-n
-mul-n c = omega (arith, c .before .before .before .read-curve .ensures .sound (c .before .if1 .left) .most)
-
-add-n : tie.Need-add-n
-add-n c = omega (arith, c .before .before .before .read-curve .ensures .sound (c .before .if1 .left) .most)
+returns c = let s = c .before .before .before .before in refused-as (ap (deliver tt (s .args .out .now)) (on-refused _ (λ d. taken (only (curve-bytes d))) (c .before .read-curve .ensures .refuses (c .if1 .taken))))
 
 returns-2 : tie.Need-returns-2
 unfolding rewrite-curve
-returns-2 c = let s = c .before .before .before .before .before .before .before in let r = c .before .before .before .before .read-curve in goes-on (ap (deliver tt (s .args .out .now)) (on-taken _ (λ d. taken (only (curve-bytes d))) (r .ensures .takes (c .before .before .if1 .left)))) (wrote-none (s .args .out .now) (curve-bytes (recordOf (r .result .curve))) (put-none (s .args .out .now) (curve-bytes (recordOf (r .result .curve))) (curve-length (r .result .curve)) (c .if2 .taken)) refl)
+returns-2 c =
+    let s = c .before .before .before .before .before in
+    let e = c .before .before .read-curve .ensures .takes (c .before .if1 .left) in
+    let b = curve-bytes (recordOf (c .before .before .read-curve .result .curve)) in
+    let same : b ≡ s .args .curve .now = curve-written (s .args .curve .now) (λ k. c .before .before .before .before .shared-slice-known .given k .fits) e in
+    goes-on (ap (deliver tt (s .args .out .now)) (on-taken _ (λ d. taken (only (curve-bytes d))) e)) (wrote-none (s .args .out .now) b (put-none (s .args .out .now) b (ap length same) (c .if2 .taken)) refl)
 
-write-curve-requires : tie.Need-write-curve-requires
-write-curve-requires c κs = (c .before .before .before .before .before .read-curve .ensures .sound (c .before .before .before .if1 .left), omega (arith, c .before .if2 .left))
+write-bytes-requires : tie.Need-write-bytes-requires
+write-bytes-requires c κs = search needs
 
 same-length : tie.Need-same-length
 same-length c = search needs
 
 returns-3 : tie.Need-returns-3
 unfolding rewrite-curve
-returns-3 c = let s = c .before .before .before .before .before .before .before .before .before .before .before in let r = c .before .before .before .before .before .before .before .before .read-curve in goes-on (ap (deliver tt (s .args .out .now)) (on-taken _ (λ d. taken (only (curve-bytes d))) (r .ensures .takes (c .before .before .before .before .before .before .if1 .left)))) (wrote-all (s .args .out .now) (curve-bytes (recordOf (r .result .curve))) (put-all (s .args .out .now) (curve-bytes (recordOf (r .result .curve))) (curve-length (r .result .curve)) (omega arith) (omega (arith, c .before .before .before .before .if2 .left)) (c .before .before .write-curve .ensures)) (λ z. omega arith))
+returns-3 c =
+    let s = c .before .before .before .before .before .before .before .before .before in
+    let e = c .before .before .before .before .before .before .read-curve .ensures .takes (c .before .before .before .before .before .if1 .left) in
+    let b = curve-bytes (recordOf (c .before .before .before .before .before .before .read-curve .result .curve)) in
+    let same : b ≡ s .args .curve .now = curve-written (s .args .curve .now) (λ k. c .before .before .before .before .before .before .before .before .shared-slice-known .given k .fits) e in
+    let some : 0 < length (s .args .curve .now) = subst (λ (n : ℕ). 0 < n) (ap length same) (curve-some (recordOf (c .before .before .before .before .before .before .read-curve .result .curve))) in
+    goes-on (ap (deliver tt (s .args .out .now)) (on-taken _ (λ d. taken (only (curve-bytes d))) e))
+    (wrote-all (s .args .out .now) b (put-all (s .args .out .now) b (ap length same) some (omega (arith, c .before .before .before .before .if2 .left)) (c .before .before .write-bytes .ensures ∙ ap (sets (s .args .out .now) 0) (sym same))) (λ z. omega (arith, some)))
 
 pub rewrite-curve-spec : {M : Type 1} → statement M
 rewrite-curve-spec =
@@ -44,9 +54,7 @@ rewrite-curve-spec =
     (tie.spec
     read-curve-requires
     returns
-    mul-n
-    add-n
     returns-2
-    write-curve-requires
+    write-bytes-requires
     same-length
     returns-3)

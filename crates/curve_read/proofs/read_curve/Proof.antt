@@ -1,5 +1,5 @@
 use native.Mathlib.Omega.{arith}
-use Rattle.curve_read.proofs.Whole.{head-refused, no-prime, to-low, modulus-read}
+use Rattle.curve_read.proofs.Whole.{head-refused, no-prime, to-read, modulus-read}
 use borrow.Author.Needs.{needs}
 use Rattle.curve_read.proofs.read_curve.Statement.{statement}
 use Rattle.curve_read.proofs.read_curve.Tie as tie
@@ -28,8 +28,8 @@ shared-slice-read-wide c = let e = c .before .before .before .before .before .be
 wide-requires : tie.Need-wide-requires
 wide-requires c κs = search needs
 
-read-low-requires : tie.Need-read-low-requires
-read-low-requires c κs = to-low _ _ (c .before .before .before .before .before .before .before .before .head-number .ensures) (c .before .before .before .before .before .before .before .if1 .left) _ (c .before .before .before .before .before .before .read64 .ensures) _ (c .before .before .before .before .before .read .ensures) _ (c .before .before .before .m .given .1) _ (c .wide .ensures .0)
+read-coefficients-requires : tie.Need-read-coefficients-requires
+read-coefficients-requires c κs = to-read _ _ (c .before .before .before .before .before .before .before .before .head-number .ensures) (c .before .before .before .before .before .before .before .if1 .left) _ (c .before .before .before .before .before .before .read64 .ensures) _ (c .before .before .before .before .before .read .ensures) _ (c .before .before .before .m .given .1) _ (c .wide .ensures .0)
 
 enum-told : tie.Need-enum-told
 enum-told c = search needs
@@ -38,7 +38,7 @@ no-curve-requires-2 : tie.Need-no-curve-requires-2
 no-curve-requires-2 c κs = search needs
 
 returns-2 : tie.Need-returns-2
-returns-2 c = modulus-read _ _ (c .before .before .before .before .before .before .before .before .before .head-number .ensures) (c .before .before .before .before .before .before .before .before .if1 .left) _ (c .before .before .before .before .before .before .before .read64 .ensures) _ (c .before .before .before .before .before .before .read .ensures) _ (c .before .before .before .before .m .given .1) _ (c .before .wide .ensures .0) _ (c .read-low .ensures)
+returns-2 c = modulus-read _ _ (c .before .before .before .before .before .before .before .before .before .head-number .ensures) (c .before .before .before .before .before .before .before .before .if1 .left) _ (c .before .before .before .before .before .before .before .read64 .ensures) _ (c .before .before .before .before .before .before .read .ensures) _ (c .before .before .before .before .m .given .1) _ (c .before .wide .ensures .0) _ (c .read-coefficients .ensures)
 
 returns-3 : tie.Need-returns-3
 returns-3 c = no-prime _ _ (c .before .before .before .before .before .before .head-number .ensures) (c .before .before .before .before .before .if1 .left) _ (c .before .before .before .before .read64 .ensures) _ (c .before .before .before .read .ensures) (c .before .enum-told .given .1) _ (c .no-curve2 .ensures)
@@ -55,7 +55,7 @@ read-curve-spec =
     enum-known-m
     shared-slice-read-wide
     wide-requires
-    read-low-requires
+    read-coefficients-requires
     enum-told
     no-curve-requires-2
     returns-2

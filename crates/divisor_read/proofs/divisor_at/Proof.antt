@@ -37,19 +37,19 @@ mul-residues-at : tie.Need-mul-residues-at
 mul-residues-at c = search needs
 
 residues-at-requires : tie.Need-residues-at-requires
-residues-at-requires c κs = let s = c .before .before .before .before .before .before .before in (s .pre .0 .ok .fill .good, omega (arith, s .pre .0 .most), omega (arith, fits-within (s .args .whole) _ _ (sym (c .before .record-fits .ensures) ∙ c .if3 .taken)))
+residues-at-requires c κs = let s = c .before .before .before .before .before .before .before in (s .pre .0 .good, omega (arith, s .pre .0 .most), omega (arith, fits-within (s .args .whole) _ _ (sym (c .before .record-fits .ensures) ∙ c .if3 .taken)))
 
 of-row-requires : tie.Need-of-row-requires
 of-row-requires c κs = search needs
 
-carries-requires : tie.Need-carries-requires
-carries-requires c κs = let s = c .before .before .before .before .before .before .before .before .before .before .before in (s .pre .0, held (s .args .c) (s .pre .0) (s .args .whole) (s .args .s .now) (s .args .a) _ (c .before .before .before .before .before .before .before .wide .ensures .0) (c .before .before .before .before .before .before .before .before .before .if1 .left) (c .before .before .before .before .before .before .if2 .left) (sym (c .before .before .before .before .before .record-fits .ensures) ∙ c .before .before .before .before .if3 .taken) _ (c .before .before .before .residues-at .ensures) (c .before .if4 .taken) _ (c .of-row .ensures .0) (c .of-row .ensures .1))
+contains-requires : tie.Need-contains-requires
+contains-requires c κs = let s = c .before .before .before .before .before .before .before .before .before .before .before in (s .pre .0, (held (s .args .c) (s .pre .0) (s .args .whole) (s .args .s .now) (s .args .a) _ (c .before .before .before .before .before .before .before .wide .ensures .0) (c .before .before .before .before .before .before .before .before .before .if1 .left) (c .before .before .before .before .before .before .if2 .left) (sym (c .before .before .before .before .before .record-fits .ensures) ∙ c .before .before .before .before .if3 .taken) _ (c .before .before .before .residues-at .ensures) (c .before .if4 .taken) _ (c .of-row .ensures .0) (c .of-row .ensures .1), omega (arith, c .of-row .ensures .0, c .before .before .before .before .before .before .if2 .left)))
 
 returns-3 : tie.Need-returns-3
-returns-3 c = let s = c .before .before .before .before .before .before .before .before .before .before .before .before .before in on-curve (s .args .c) (s .pre .0) (s .args .whole) (s .args .s .now) (s .args .a) _ (c .before .before .before .before .before .before .before .before .before .wide .ensures .0) (c .before .before .before .before .before .before .before .before .before .before .before .if1 .left) (c .before .before .before .before .before .before .before .before .if2 .left) (sym (c .before .before .before .before .before .before .before .record-fits .ensures) ∙ c .before .before .before .before .before .before .if3 .taken) _ (c .before .before .before .before .before .residues-at .ensures) (c .before .before .before .if4 .taken) _ (c .before .before .of-row .ensures .0) (c .before .before .of-row .ensures .1) (decided-yes (c .if5 .taken) (c .before .carries .ensures))
+returns-3 c = let s = c .before .before .before .before .before .before .before .before .before .before .before .before .before in on-curve (s .args .c) (s .pre .0) (s .args .whole) (s .args .s .now) (s .args .a) _ (c .before .before .before .before .before .before .before .before .before .wide .ensures .0) (c .before .before .before .before .before .before .before .before .before .before .before .if1 .left) (c .before .before .before .before .before .before .before .before .if2 .left) (sym (c .before .before .before .before .before .before .before .record-fits .ensures) ∙ c .before .before .before .before .before .before .if3 .taken) _ (c .before .before .before .before .before .residues-at .ensures) (c .before .before .before .if4 .taken) _ (c .before .before .of-row .ensures .0) (c .before .before .of-row .ensures .1) (decided-yes (c .if5 .taken) (c .before .contains .ensures))
 
 returns-4 : tie.Need-returns-4
-returns-4 c = let s = c .before .before .before .before .before .before .before .before .before .before .before .before .before in off-curve (s .args .c) (s .pre .0) (s .args .whole) (s .args .s .now) (s .args .a) _ (c .before .before .before .before .before .before .before .before .before .wide .ensures .0) (c .before .before .before .before .before .before .before .before .before .before .before .if1 .left) (c .before .before .before .before .before .before .before .before .if2 .left) (sym (c .before .before .before .before .before .before .before .record-fits .ensures) ∙ c .before .before .before .before .before .before .if3 .taken) _ (c .before .before .before .before .before .residues-at .ensures) (c .before .before .before .if4 .taken) _ (c .before .before .of-row .ensures .0) (c .before .before .of-row .ensures .1) (decided-no (c .if5 .left) (c .before .carries .ensures))
+returns-4 c = let s = c .before .before .before .before .before .before .before .before .before .before .before .before .before in off-curve (s .args .c) (s .pre .0) (s .args .whole) (s .args .s .now) (s .args .a) _ (c .before .before .before .before .before .before .before .before .before .wide .ensures .0) (c .before .before .before .before .before .before .before .before .before .before .before .if1 .left) (c .before .before .before .before .before .before .before .before .if2 .left) (sym (c .before .before .before .before .before .before .before .record-fits .ensures) ∙ c .before .before .before .before .before .before .if3 .taken) _ (c .before .before .before .before .before .residues-at .ensures) (c .before .before .before .if4 .taken) _ (c .before .before .of-row .ensures .0) (c .before .before .of-row .ensures .1) (decided-no (c .if5 .left) (c .before .contains .ensures))
 
 returns-5 : tie.Need-returns-5
 returns-5 c = let s = c .before .before .before .before .before .before .before .before .before .before in too-large (s .args .c) (s .pre .0) (s .args .whole) (s .args .s .now) (s .args .a) _ (c .before .before .before .before .before .before .wide .ensures .0) (c .before .before .before .before .before .before .before .before .if1 .left) (c .before .before .before .before .before .if2 .left) (sym (c .before .before .before .before .record-fits .ensures) ∙ c .before .before .before .if3 .taken) _ (c .before .before .residues-at .ensures) (c .if4 .left)
@@ -73,7 +73,7 @@ divisor-at-spec =
     mul-residues-at
     residues-at-requires
     of-row-requires
-    carries-requires
+    contains-requires
     returns-3
     returns-4
     returns-5

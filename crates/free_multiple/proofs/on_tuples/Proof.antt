@@ -1,3 +1,5 @@
+use mathlib.Core.Path.{refl}
+use Rattle.field.proofs.Laws.{settled-kept}
 use native.Mathlib.Omega.{arith}
 use borrow.Author.Needs.{needs}
 use Rattle.rules.specs.Bytes.{number}
@@ -12,15 +14,6 @@ Inv-loop c q s k m f2 f3 f4 r₀ j₀ r j = Going c q (number s) k r j
 abbrev μ-loop : tie.MeasureT-loop
 μ-loop c q s k m f2 f3 f4 r₀ j₀ r j = j
 
-get-requires : tie.Need-get-requires Inv-loop μ-loop
-get-requires c κs = search needs
-
-get-requires-2 : tie.Need-get-requires-2 Inv-loop μ-loop
-get-requires-2 c κs = search needs
-
-get-requires-3 : tie.Need-get-requires-3 Inv-loop μ-loop
-get-requires-3 c κs = search needs
-
 loop-holds : tie.Need-loop-holds Inv-loop μ-loop
 loop-holds c = record { at-most = omega arith; reaches = c .before .before .before .before .before .before .pre .reaches }
 
@@ -31,7 +24,7 @@ bit-requires : tie.Need-bit-requires Inv-loop μ-loop
 bit-requires c κs = omega (arith, c .before .loop .inv .at-most, c .before .before .before .before .before .before .before .before .pre .place)
 
 climb-requires : tie.Need-climb-requires Inv-loop μ-loop
-climb-requires c κs = record { sound = c .before .before .before .before .before .before .before .before .before .pre .sound; reads = record { second = c .before .before .before .before .before .get .ensures (c .before .before .before .before .before .before .before .before .before .args .c .m) (c .before .before .before .before .before .before .before .before .before .pre .sound .ok .fill); third = c .before .before .before .before .get2 .ensures (c .before .before .before .before .before .before .before .before .before .args .c .m) (c .before .before .before .before .before .before .before .before .before .pre .sound .ok .fill); fourth = c .before .before .before .get3 .ensures (c .before .before .before .before .before .before .before .before .before .args .c .m) (c .before .before .before .before .before .before .before .before .before .pre .sound .ok .fill) }; left = some-going (c .before .before .before .before .before .before .before .before .before .args .c) (c .before .before .before .before .before .before .before .before .before .args .q) (number (c .before .before .before .before .before .before .before .before .before .args .s .now)) (c .before .before .before .before .before .before .before .before .before .args .k) (c .before .before .loop .r) (c .before .before .loop .j) (c .before .before .loop .inv); right = c .before .before .before .before .before .before .before .before .before .pre .right; small = omega arith }
+climb-requires c κs = record { sound = c .before .before .before .before .before .before .before .before .before .pre .sound; reads = record { second = record { kept = settled-kept (c .before .before .before .before .before .before .before .before .before .args .c .m) (c .before .before .before .before .before .before .before .before .before .pre .sound .settled .1 .1 .0); is = refl }; third = record { kept = settled-kept (c .before .before .before .before .before .before .before .before .before .args .c .m) (c .before .before .before .before .before .before .before .before .before .pre .sound .settled .1 .1 .1 .0); is = refl }; fourth = record { kept = settled-kept (c .before .before .before .before .before .before .before .before .before .args .c .m) (c .before .before .before .before .before .before .before .before .before .pre .sound .settled .1 .1 .1 .1 .0); is = refl } }; left = some-going (c .before .before .before .before .before .before .before .before .before .args .c) (c .before .before .before .before .before .before .before .before .before .args .q) (number (c .before .before .before .before .before .before .before .before .before .args .s .now)) (c .before .before .before .before .before .before .before .before .before .args .k) (c .before .before .loop .r) (c .before .before .loop .j) (c .before .before .loop .inv); right = c .before .before .before .before .before .before .before .before .before .pre .right; small = omega arith }
 
 is-zero-requires : tie.Need-is-zero-requires Inv-loop μ-loop
 is-zero-requires c κs = c .before .climb .ensures .settled
@@ -57,9 +50,6 @@ on-tuples-spec =
     (tie.spec
     Inv-loop
     μ-loop
-    get-requires
-    get-requires-2
-    get-requires-3
     loop-holds
     sub-bit
     bit-requires

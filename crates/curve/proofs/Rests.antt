@@ -1,0 +1,157 @@
+-- What f - v² leaves when it is divided by u. Gives: one coefficient more (`turned`), the first ones (`begun`, `top-one-low` to `top-two-high`), and that all of
+-- them are f - v² (`rests-one`, `rests-two`, `rests-three`).
+use Prim.Native.Nat.{ℕ, _+_, _-_, _≤_}
+use mathlib.Core.Path.{_≡_, refl, sym, ap, ap₂, _∙_, subst}
+use mathlib.Core.List.{List, [], _∷_, _++_}
+use native.Mathlib.Omega.{arith}
+use lib.ListN.{length, take}
+use Rattle.algebra.proofs.ring.CRing.{CRing}
+use Rattle.algebra.proofs.list.Ops.{addL, negL, scaleL, slide, divmod, remainder, whole}
+use Rattle.algebra.proofs.list.Value.{pol}
+use Rattle.algebra.proofs.list.Division.{own-rest}
+use Rattle.rules.specs.Pair.{f-v²}
+use Rattle.field.specs.declared.Modulus.{Modulus}
+use Rattle.field.specs.declared.Residue.{Residue}
+use Rattle.field.specs.Residues.{el, Kept, Stands, Settled, Settles}
+use Rattle.field.proofs.Laws.{settled-kept}
+use Rattle.divisor.specs.declared.Divisor.{Divisor}
+use Rattle.divisor.specs.declared.Divisor.the-variants.{One, Two, Three}
+use Rattle.divisor.specs.declared.Linear.{Linear}
+use Rattle.divisor.specs.declared.Quadratic.{Quadratic}
+use Rattle.divisor.specs.declared.Cubic.{Cubic}
+use Rattle.divisor.specs.Divisors.{us, elements, pair, AllSettled}
+use Rattle.divisor.proofs.Laws.{length-elements}
+use Rattle.curve.specs.declared.Curve.{Curve}
+use Rattle.curve.specs.declared.Duo.{Duo}
+use Rattle.curve.specs.declared.Trio.{Trio}
+use Rattle.curve.specs.Curves.{above, curveOf, Sound}
+use Rattle.curve.specs.Rests.{K, two, three, AllKept, Leaves, Turned, TopOne, TopTwo, Rests}
+use Rattle.curve.proofs.Squares.{square-one, square-two, square-three}
+
+module _ (m : Modulus) where
+  open CRing (K m) using (El as A, add as _⊕_, mul as _⊗_, neg as opp, one as 𝟙)
+
+  infixl 65 _⊕_
+  infixl 70 _⊗_
+
+  -- the division's step
+  abbrev step : List A → A → List A → List A
+  step b c r = addL (K m) ((slide (K m) c r) .0) (negL (K m) (scaleL (K m) ((slide (K m) c r) .1) b))
+
+  turned-by : (d : Divisor) (c : Residue) (a r : List Residue) → AllKept m r → elements m r ≡ step (elements m (us d)) (el m c) (elements m a) → Turned m d c a r
+  unfolding remainder divmod
+  turned-by d c a r k e = record { kept = k; leaves = λ l h. record { kept = k; is = e ∙ ap (step (elements m (us d)) (el m c)) (h .is) } }
+
+  abbrev Less : Residue → A → A → A → Type 0
+  Less r c t u = Stands m r (c ⊕ opp (t ⊗ u))
+
+  pub less-stands : (c t u : Residue) {p r : Residue} → Stands m p (el m t ⊗ el m u) → Stands m r (el m c ⊕ opp (el m p)) → Less r (el m c) (el m t) (el m u)
+  less-stands c t u h k = record { kept = k .kept; is = k .is ∙ ap (λ (s : A). el m c ⊕ opp s) (h .is) }
+
+  abbrev Twice : Residue → Residue → Type 0
+  Twice r a = Stands m r (el m a ⊕ el m a)
+
+  pub turned-one : (d : Linear) (c a r : Residue) → Less r (el m c) (el m a) (el m (d .u0)) → Turned m (One d) c (a ∷ []) (r ∷ [])
+  unfolding slide addL negL scaleL
+  turned-one d c a r h = turned-by (One d) c (a ∷ []) (r ∷ []) (h .kept, tt) (ap (λ (s : A). s ∷ []) (h .is))
+
+  pub turned-two : (d : Quadratic) (c : Residue) (a r : Duo) → Less (r .c0) (el m c) (el m (a .c1)) (el m (d .u0)) → Less (r .c1) (el m (a .c0)) (el m (a .c1)) (el m (d .u1)) → Turned m (Two d) c (two a) (two r)
+  unfolding slide addL negL scaleL
+  turned-two d c a r h k = turned-by (Two d) c (two a) (two r) (h .kept, (k .kept, tt)) (ap₂ (λ (s t : A). s ∷ t ∷ []) (h .is) (k .is))
+
+  pub turned-three : (d : Cubic) (c : Residue) (a r : Trio) → Less (r .c0) (el m c) (el m (a .c2)) (el m (d .u0)) → Less (r .c1) (el m (a .c0)) (el m (a .c2)) (el m (d .u1)) → Less (r .c2) (el m (a .c1)) (el m (a .c2)) (el m (d .u2))
+      → Turned m (Three d) c (three a) (three r)
+  unfolding slide addL negL scaleL
+  turned-three d c a r h k j = turned-by (Three d) c (three a) (three r) (h .kept, (k .kept, (j .kept, tt)))
+      (ap₂ (λ (s t : A). s ∷ t ∷ el m (r .c2) ∷ []) (h .is) (k .is) ∙ ap (λ (t : A). (el m c ⊕ opp (el m (a .c2) ⊗ el m (d .u0))) ∷ (el m (a .c0) ⊕ opp (el m (a .c2) ⊗ el m (d .u1))) ∷ t ∷ []) (j .is))
+
+  -- as many coefficients as u has are their own rest
+  begun : (d : Divisor) (l : List Residue) → AllKept m l → length l ≡ length (us d) → Leaves m d (elements m l) l
+  begun d l k e = record { kept = k; is = sym (own-rest (K m) (elements m (us d)) (elements m l) (length-elements m l ∙ e ∙ sym (length-elements m (us d)))) }
+
+  -- the last of them being 1
+  topped : (d : Divisor) (l : List A) {r : List Residue} (o : Residue) → Leaves m d (l ++ (el m o ∷ [])) r → el m o ≡ 𝟙 → Leaves m d (l ++ (𝟙 ∷ [])) r
+  topped d l {r} o h e = subst (λ (t : A). Leaves m d (l ++ (t ∷ [])) r) e h
+
+module _ (c : Curve) (h : Sound c) where
+  abbrev A : Type 0
+  A = K (c .m) .El
+
+  -- what genus 2 and genus 3 have above f4
+  abbrev Above : (List A → Type 0) → ℕ → Type 0
+  Above T n = T (elements (c .m) (take n (c .f5 ∷ c .f6 ∷ [])))
+
+  in-two : (T : List A → Type 0) → c .g ≡ 2 → Above T 0 → T (elements (c .m) (above c))
+  in-two T e x = subst (Above T) {x = 0} {y = c .g + c .g - 4} (omega arith) x
+
+  in-three : (T : List A → Type 0) → (c .g ≡ 2 → ⊥) → Above T 2 → T (elements (c .m) (above c))
+  in-three T e x = subst (Above T) {x = 2} {y = c .g + c .g - 4} (omega (arith, h .least, h .most)) x
+
+  module _ (o : Residue) (ho : Settles (c .m) o (K (c .m) .one)) where
+    abbrev kept : Kept (c .m) o
+    kept = settled-kept (c .m) (ho .settled)
+
+    module _ (d : Linear) where
+      one-alone : Leaves (c .m) (One d) (K (c .m) .one ∷ []) (o ∷ [])
+      one-alone = topped (c .m) (One d) [] o (begun (c .m) (One d) (o ∷ []) (kept, tt) refl) (ho .is)
+
+      pub top-one-low : c .g ≡ 2 → TopOne c d o
+      top-one-low e = in-two (λ l. Leaves (c .m) (One d) (l ++ (K (c .m) .one ∷ [])) (o ∷ [])) e one-alone
+
+      pub top-one-high : (c .g ≡ 2 → ⊥) → (b r : Residue) → Turned (c .m) (One d) (c .f6) (o ∷ []) (b ∷ []) → Turned (c .m) (One d) (c .f5) (b ∷ []) (r ∷ []) → TopOne c d r
+      top-one-high e b r x y = in-three (λ l. Leaves (c .m) (One d) (l ++ (K (c .m) .one ∷ [])) (r ∷ [])) e (y .leaves _ (x .leaves _ one-alone))
+
+    module _ (d : Quadratic) where
+      -- f, then 1
+      line-alone : (f : Residue) → Kept (c .m) f → Leaves (c .m) (Two d) (el (c .m) f ∷ K (c .m) .one ∷ []) (f ∷ o ∷ [])
+      line-alone f k = topped (c .m) (Two d) (el (c .m) f ∷ []) o (begun (c .m) (Two d) (f ∷ o ∷ []) (k, (kept, tt)) refl) (ho .is)
+
+      pub top-two-low : c .g ≡ 2 → TopTwo c d (record { c0 = c .f4; c1 = o })
+      top-two-low e = in-two (λ l. Leaves (c .m) (Two d) (el (c .m) (c .f4) ∷ (l ++ (K (c .m) .one ∷ []))) (c .f4 ∷ o ∷ [])) e (line-alone (c .f4) (settled-kept (c .m) (h .settled .1 .1 .1 .1 .0)))
+
+      pub top-two-high : (c .g ≡ 2 → ⊥) → (b r : Duo) → Turned (c .m) (Two d) (c .f5) (c .f6 ∷ o ∷ []) (two b) → Turned (c .m) (Two d) (c .f4) (two b) (two r) → TopTwo c d r
+      top-two-high e b r x y = in-three (λ l. Leaves (c .m) (Two d) (el (c .m) (c .f4) ∷ (l ++ (K (c .m) .one ∷ []))) (two r)) e
+          (y .leaves _ (x .leaves _ (line-alone (c .f6) (settled-kept (c .m) (h .settled .1 .1 .1 .1 .1 .1 .0)))))
+
+    module _ (d : Cubic) where
+      top-three : c .g ≡ 3 → Leaves (c .m) (Three d) (elements (c .m) (above c) ++ (K (c .m) .one ∷ [])) (c .f5 ∷ c .f6 ∷ o ∷ [])
+      top-three e = in-three (λ l. Leaves (c .m) (Three d) (l ++ (K (c .m) .one ∷ [])) (c .f5 ∷ c .f6 ∷ o ∷ [])) (λ z. omega arith)
+          (topped (c .m) (Three d) (el (c .m) (c .f5) ∷ el (c .m) (c .f6) ∷ []) o (begun (c .m) (Three d) (c .f5 ∷ c .f6 ∷ o ∷ [])
+          (settled-kept (c .m) (h .settled .1 .1 .1 .1 .1 .0), (settled-kept (c .m) (h .settled .1 .1 .1 .1 .1 .1 .0), (kept, tt))) refl) (ho .is))
+
+      module _ (e : c .g ≡ 3) {h4 h3 k2 h2 h1 h0 : Residue} {w0 w1 : Residue} {a4 a3 a2 a1 r : Trio} where
+        pub rests-three : Twice (c .m) w0 (d .v0) → Twice (c .m) w1 (d .v1)
+            → Less (c .m) h4 (el (c .m) (c .f4)) (el (c .m) (d .v2)) (el (c .m) (d .v2)) → Turned (c .m) (Three d) h4 (c .f5 ∷ c .f6 ∷ o ∷ []) (three a4)
+            → Less (c .m) h3 (el (c .m) (c .f3)) (el (c .m) w1) (el (c .m) (d .v2)) → Turned (c .m) (Three d) h3 (three a4) (three a3)
+            → Less (c .m) k2 (el (c .m) (c .f2)) (el (c .m) (d .v1)) (el (c .m) (d .v1)) → Less (c .m) h2 (el (c .m) k2) (el (c .m) w0) (el (c .m) (d .v2)) → Turned (c .m) (Three d) h2 (three a3) (three a2)
+            → Less (c .m) h1 (el (c .m) (c .f1)) (el (c .m) w0) (el (c .m) (d .v1)) → Turned (c .m) (Three d) h1 (three a2) (three a1)
+            → Less (c .m) h0 (el (c .m) (c .f0)) (el (c .m) (d .v0)) (el (c .m) (d .v0)) → Turned (c .m) (Three d) h0 (three a1) (three r)
+            → Rests c (Three d) (three r)
+        unfolding pair whole
+        rests-three x0 x1 y4 t4 y3 t3 z2 y2 t2 y1 t1 y0 t0 = record {
+          list = el (c .m) h0 ∷ el (c .m) h1 ∷ el (c .m) h2 ∷ el (c .m) h3 ∷ el (c .m) h4 ∷ (elements (c .m) (above c) ++ (K (c .m) .one ∷ []));
+          is = rw (y0 .is, y1 .is, y2 .is, z2 .is, y3 .is, y4 .is, x0 .is, x1 .is) (square-three (K (c .m)) (elements (c .m) (above c)) (el (c .m) (c .f0)) (el (c .m) (d .v0)) (el (c .m) (c .f1)) (el (c .m) (c .f2)) (el (c .m) (d .v1)) (el (c .m) (c .f3)) (el (c .m) (c .f4)) (el (c .m) (d .v2)));
+          leaves = t0 .leaves _ (t1 .leaves _ (t2 .leaves _ (t3 .leaves _ (t4 .leaves _ (top-three e)))));
+        }
+
+  module _ (d : Linear) {a a4 a3 a2 a1 h0 r : Residue} where
+    pub rests-one : TopOne c d a → Turned (c .m) (One d) (c .f4) (a ∷ []) (a4 ∷ []) → Turned (c .m) (One d) (c .f3) (a4 ∷ []) (a3 ∷ []) → Turned (c .m) (One d) (c .f2) (a3 ∷ []) (a2 ∷ []) → Turned (c .m) (One d) (c .f1) (a2 ∷ []) (a1 ∷ [])
+        → Less (c .m) h0 (el (c .m) (c .f0)) (el (c .m) (d .v0)) (el (c .m) (d .v0)) → Turned (c .m) (One d) h0 (a1 ∷ []) (r ∷ []) → Rests c (One d) (r ∷ [])
+    unfolding pair whole
+    rests-one top t4 t3 t2 t1 y0 t0 = record {
+      list = el (c .m) h0 ∷ el (c .m) (c .f1) ∷ el (c .m) (c .f2) ∷ el (c .m) (c .f3) ∷ el (c .m) (c .f4) ∷ (elements (c .m) (above c) ++ (K (c .m) .one ∷ []));
+      is = rw (y0 .is) (square-one (K (c .m)) (el (c .m) (c .f1) ∷ el (c .m) (c .f2) ∷ el (c .m) (c .f3) ∷ el (c .m) (c .f4) ∷ elements (c .m) (above c)) (el (c .m) (c .f0)) (el (c .m) (d .v0)));
+      leaves = t0 .leaves _ (t1 .leaves _ (t2 .leaves _ (t3 .leaves _ (t4 .leaves _ top))));
+    }
+
+  module _ (d : Quadratic) {a a3 a2 a1 r : Duo} {h2 h1 h0 w0 : Residue} where
+    pub rests-two : TopTwo c d a → Twice (c .m) w0 (d .v0) → Turned (c .m) (Two d) (c .f3) (two a) (two a3)
+        → Less (c .m) h2 (el (c .m) (c .f2)) (el (c .m) (d .v1)) (el (c .m) (d .v1)) → Turned (c .m) (Two d) h2 (two a3) (two a2)
+        → Less (c .m) h1 (el (c .m) (c .f1)) (el (c .m) w0) (el (c .m) (d .v1)) → Turned (c .m) (Two d) h1 (two a2) (two a1)
+        → Less (c .m) h0 (el (c .m) (c .f0)) (el (c .m) (d .v0)) (el (c .m) (d .v0)) → Turned (c .m) (Two d) h0 (two a1) (two r) → Rests c (Two d) (two r)
+    unfolding pair whole
+    rests-two top x0 t3 y2 t2 y1 t1 y0 t0 = record {
+      list = el (c .m) h0 ∷ el (c .m) h1 ∷ el (c .m) h2 ∷ el (c .m) (c .f3) ∷ el (c .m) (c .f4) ∷ (elements (c .m) (above c) ++ (K (c .m) .one ∷ []));
+      is = rw (y0 .is, y1 .is, y2 .is, x0 .is) (square-two (K (c .m)) (el (c .m) (c .f3) ∷ el (c .m) (c .f4) ∷ elements (c .m) (above c)) (el (c .m) (c .f0)) (el (c .m) (d .v0)) (el (c .m) (c .f1)) (el (c .m) (c .f2)) (el (c .m) (d .v1)));
+      leaves = t0 .leaves _ (t1 .leaves _ (t2 .leaves _ (t3 .leaves _ top)));
+    }

@@ -1,0 +1,105 @@
+-- Sums by formula. Gives: where a formula of `genus2` or `genus3` finds a divisor, that is the rule's sum on the curve in code (`tried-two`, `tried-three` and
+-- the like of a divisor with itself); where it finds none nothing is to be shown.
+use Prim.Native.Nat.{ℕ, _+_, _-_, _≤_}
+use mathlib.Core.Path.{_≡_, sym, _∙_, subst}
+use mathlib.Core.List.{List, [], _∷_}
+use native.Mathlib.Omega.{arith}
+use lib.ListN.{take}
+use Rattle.algebra.proofs.zmod.Zmod.{zmod}
+use Rattle.algebra.proofs.zmod.PrimeField.{modulo}
+use Rattle.rules.specs.Curve.{Curve as RuleCurve}
+use Rattle.rules.specs.Pair.{Valid, opposite}
+use Rattle.rules.specs.Sum.{sum, double}
+use Rattle.rules.proofs.Quick.{double-is}
+use Rattle.rules.proofs.cantor.Accepted.{Accepted}
+use Rattle.rules.proofs.cantor.Sum.{sum-valid}
+use Rattle.rules.proofs.cantor.Pairs.{opposite-valid}
+use Rattle.field.specs.declared.Modulus.{Modulus}
+use Rattle.field.specs.Residues.{el}
+use Rattle.divisor.specs.declared.Divisor.{Divisor}
+use Rattle.divisor.specs.declared.Divisor.the-variants.{Two, Three}
+use Rattle.formulas.specs.declared.Sought.{Sought}
+use Rattle.formulas.specs.declared.Sought.the-variants.{Found, Special}
+use Rattle.divisor.specs.declared.Quadratic.{Quadratic}
+use Rattle.divisor.specs.declared.Cubic.{Cubic}
+use Rattle.divisor.specs.Divisors.{elements, pair, Held, Opposed}
+use Rattle.genus2.specs.Sums.{Sum2, Double2}
+use Rattle.genus3.specs.Sums.{Sum3, Double3}
+use Rattle.curve.specs.declared.Curve.{Curve}
+use Rattle.curve.specs.Curves.{curveOf, Sound, Holds, Gives}
+use Rattle.curve.proofs.Contains.{accepted}
+use Rattle.jacobian.specs.Tries.{Tried}
+
+module _ (c : Curve) (h : Sound c) where
+  abbrev m : Modulus
+  m = c .m
+
+  abbrev A : Type 0
+  A = zmod (c .m .p) .El
+
+  gives : (a b d : Divisor) → Holds c a → Holds c b → Held m d → sum (curveOf c) (pair m a) (pair m b) ≡ pair m d → Gives c d (sum (curveOf c) (pair m a) (pair m b))
+  gives a b d ha hb hd e = record {
+    holds = record { held = hd; valid = subst (Valid (curveOf c)) e (sum-valid (curveOf c) (accepted c h) (pair m a) (pair m b) (ha .valid) (hb .valid)) };
+    is = sym e;
+  }
+
+  -- on the curve of genus n with the coefficients l, and on this one
+  abbrev at : ℕ → List A → RuleCurve
+  at n l = record { K = modulo (c .m .p); g = n; low = l }
+
+  abbrev up-to : ℕ → List A
+  up-to n = elements (c .m) (c .f0 ∷ c .f1 ∷ c .f2 ∷ c .f3 ∷ c .f4 ∷ take (n + n - 4) (c .f5 ∷ c .f6 ∷ []))
+
+  module _ (a b d : Divisor) where
+    abbrev Says : ℕ → List A → Type 0
+    Says n l = Accepted (at n l) → Valid (at n l) (pair m a) → Valid (at n l) (pair m b) → sum (at n l) (pair m a) (pair m b) ≡ pair m d
+
+    moved : (n : ℕ) → c .g ≡ n → Says n (up-to n) → Says (c .g) (up-to (c .g))
+    moved n e x = subst (λ (k : ℕ). Says k (up-to k)) (sym e) x
+
+  pub tried-two : c .g ≡ 2 → (a b : Quadratic) → Holds c (Two a) → Holds c (Two b) → (r : Sought) → Sum2 m (c .f4) a b r → Tried c (sum (curveOf c) (pair m (Two a)) (pair m (Two b))) r
+  tried-two e a b ha hb (Found d) x = gives (Two a) (Two b) d ha hb (x .held)
+      (moved (Two a) (Two b) d 2 e (x .is (el m (c .f0)) (el m (c .f1)) (el m (c .f2)) (el m (c .f3))) (accepted c h) (ha .valid) (hb .valid))
+  tried-two e a b ha hb Special x = tt
+
+  pub twice-two : c .g ≡ 2 → (a : Quadratic) → Holds c (Two a) → (r : Sought) → Double2 m (c .f2) (c .f3) (c .f4) a r → Tried c (sum (curveOf c) (pair m (Two a)) (pair m (Two a))) r
+  twice-two e a ha (Found d) x = gives (Two a) (Two a) d ha ha (x .held)
+      (moved (Two a) (Two a) d 2 e (λ ok va vb. x .is (el m (c .f0)) (el m (c .f1)) ok va) (accepted c h) (ha .valid) (ha .valid))
+  twice-two e a ha Special x = tt
+
+  -- weight 3 is that of genus 3
+  three : (a : Cubic) → Holds c (Three a) → c .g ≡ 3
+  unfolding pair
+  three a ha = omega (arith, ha .valid .small, h .most)
+
+  -- f6 being 0
+  abbrev with-top : A → List A
+  with-top t = el m (c .f0) ∷ el m (c .f1) ∷ el m (c .f2) ∷ el m (c .f3) ∷ el m (c .f4) ∷ el m (c .f5) ∷ t ∷ []
+
+  cleared : (a b d : Divisor) → el m (c .f6) ≡ zmod (c .m .p) .zer → Says a b d 3 (with-top (zmod (c .m .p) .zer)) → Says a b d 3 (up-to 3)
+  cleared a b d z x = subst (λ (t : A). Says a b d 3 (with-top t)) (sym z) x
+
+  pub tried-three : (a b : Cubic) → Holds c (Three a) → Holds c (Three b) → el m (c .f6) ≡ zmod (c .m .p) .zer → (r : Sought) → Sum3 m (c .f4) (c .f5) a b r
+      → Tried c (sum (curveOf c) (pair m (Three a)) (pair m (Three b))) r
+  tried-three a b ha hb z (Found d) x = gives (Three a) (Three b) d ha hb (x .held)
+      (moved (Three a) (Three b) d 3 (three a ha) (cleared (Three a) (Three b) d z (x .is (el m (c .f0)) (el m (c .f1)) (el m (c .f2)) (el m (c .f3)))) (accepted c h) (ha .valid) (hb .valid))
+  tried-three a b ha hb z Special x = tt
+
+  pub twice-three : (a : Cubic) → Holds c (Three a) → el m (c .f6) ≡ zmod (c .m .p) .zer → (r : Sought) → Double3 m (c .f3) (c .f4) (c .f5) a r → Tried c (sum (curveOf c) (pair m (Three a)) (pair m (Three a))) r
+  twice-three a ha z (Found d) x = gives (Three a) (Three a) d ha ha (x .held)
+      (moved (Three a) (Three a) d 3 (three a ha) (cleared (Three a) (Three a) d z (λ ok va vb. x .is (el m (c .f0)) (el m (c .f1)) (el m (c .f2)) ok va)) (accepted c h) (ha .valid) (ha .valid))
+  twice-three a ha z Special x = tt
+
+-- of divisors known by their cases
+pub known : (c : Curve) (a b : Divisor) {a' b' : Divisor} (r : Sought) → a ≡ a' → b ≡ b' → Tried c (sum (curveOf c) (pair (c .m) a') (pair (c .m) b')) r → Tried c (sum (curveOf c) (pair (c .m) a) (pair (c .m) b)) r
+known c a b {a'} {b'} r p q h = subst (λ (d : Divisor). Tried c (sum (curveOf c) (pair (c .m) d) (pair (c .m) b)) r) (sym p) (subst (λ (d : Divisor). Tried c (sum (curveOf c) (pair (c .m) a') (pair (c .m) d)) r) (sym q) h)
+
+-- ---- of a divisor with itself, and its opposite
+pub double-gives : (c : Curve) (a r : Divisor) → Gives c r (sum (curveOf c) (pair (c .m) a) (pair (c .m) a)) → Gives c r (double (curveOf c) (pair (c .m) a))
+double-gives c a r k = record { holds = k .holds; is = k .is ∙ sym (double-is (curveOf c) (pair (c .m) a)) }
+
+pub opposite-gives : (c : Curve) (a r : Divisor) → Holds c a → Opposed (c .m) a r → Gives c r (opposite (pair (c .m) a))
+opposite-gives c a r ha k = record {
+  holds = record { held = k .held; valid = subst (Valid (curveOf c)) (sym (k .is)) (opposite-valid (curveOf c) (pair (c .m) a) (ha .valid)) };
+  is = k .is;
+}

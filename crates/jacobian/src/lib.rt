@@ -1,0 +1,130 @@
+// The group of a curve's divisors: sum, double, opposite. Each promise is an equation with a rule of the crate `rules`. This is the one place that picks between the
+// formulae and the plain sum.
+ghost use Rattle.rules.specs.Sum.{sum, double};
+ghost use Rattle.rules.specs.Pair.{opposite};
+ghost use Rattle.divisor.specs.Divisors.{pair};
+ghost use Rattle.curve.specs.Curves.{curveOf, Sound, Holds, Gives};
+ghost use Rattle.jacobian.specs.Tries.{Tried};
+use curve::Curve;
+use divisor::Cubic;
+use divisor::Divisor;
+use divisor::Quadratic;
+use formulas::Sought;
+
+// By formula: genus 2 and weight 2.
+fn quick_two(c: Curve, a: Quadratic, b: Quadratic) -> Sought
+    requires { ⌜ Sound c × (Holds c (Divisor.Two a) × Holds c (Divisor.Two b)) ⌝ }
+    ensures { λ r. ⌜ Tried c (sum (curveOf c) (pair (c .m) (Divisor.Two a)) (pair (c .m) (Divisor.Two b))) r ⌝ }
+{
+    let m = c.m;
+    let g = c.g;
+    if g == 2 {
+        return genus2::add(a, b, c.f4, m);
+    }
+    Sought::Special
+}
+
+fn twice_two(c: Curve, a: Quadratic) -> Sought
+    requires { ⌜ Sound c × Holds c (Divisor.Two a) ⌝ }
+    ensures { λ r. ⌜ Tried c (sum (curveOf c) (pair (c .m) (Divisor.Two a)) (pair (c .m) (Divisor.Two a))) r ⌝ }
+{
+    let m = c.m;
+    let g = c.g;
+    if g == 2 {
+        return genus2::double(a, c.f2, c.f3, c.f4, m);
+    }
+    Sought::Special
+}
+
+// By formula: weight 3, so genus 3, and f6 = 0.
+fn quick_three(c: Curve, a: Cubic, b: Cubic) -> Sought
+    requires { ⌜ Sound c × (Holds c (Divisor.Three a) × Holds c (Divisor.Three b)) ⌝ }
+    ensures { λ r. ⌜ Tried c (sum (curveOf c) (pair (c .m) (Divisor.Three a)) (pair (c .m) (Divisor.Three b))) r ⌝ }
+{
+    let m = c.m;
+    let f6 = c.f6;
+    if f6.is_zero(m) {
+        return genus3::add(a, b, c.f4, c.f5, m);
+    }
+    Sought::Special
+}
+
+fn twice_three(c: Curve, a: Cubic) -> Sought
+    requires { ⌜ Sound c × Holds c (Divisor.Three a) ⌝ }
+    ensures { λ r. ⌜ Tried c (sum (curveOf c) (pair (c .m) (Divisor.Three a)) (pair (c .m) (Divisor.Three a))) r ⌝ }
+{
+    let m = c.m;
+    if c.f6.is_zero(m) {
+        return genus3::double(a, c.f3, c.f4, c.f5, m);
+    }
+    Sought::Special
+}
+
+// Both of one weight that a formula takes.
+fn quick_sum(c: Curve, a: Divisor, b: Divisor) -> Sought
+    requires { ⌜ Sound c × (Holds c a × Holds c b) ⌝ }
+    ensures { λ r. ⌜ Tried c (sum (curveOf c) (pair (c .m) a) (pair (c .m) b)) r ⌝ }
+{
+    match a {
+        Divisor::Neutral => Sought::Special,
+        Divisor::One(_) => Sought::Special,
+        Divisor::Two(x) => {
+            match b {
+                Divisor::Neutral => Sought::Special,
+                Divisor::One(_) => Sought::Special,
+                Divisor::Two(y) => quick_two(c, x, y),
+                Divisor::Three(_) => Sought::Special,
+            }
+        }
+        Divisor::Three(x) => {
+            match b {
+                Divisor::Neutral => Sought::Special,
+                Divisor::One(_) => Sought::Special,
+                Divisor::Two(_) => Sought::Special,
+                Divisor::Three(y) => quick_three(c, x, y),
+            }
+        }
+    }
+}
+
+fn quick_double(c: Curve, a: Divisor) -> Sought
+    requires { ⌜ Sound c × Holds c a ⌝ }
+    ensures { λ r. ⌜ Tried c (sum (curveOf c) (pair (c .m) a) (pair (c .m) a)) r ⌝ }
+{
+    match a {
+        Divisor::Neutral => Sought::Special,
+        Divisor::One(_) => Sought::Special,
+        Divisor::Two(x) => twice_two(c, x),
+        Divisor::Three(x) => twice_three(c, x),
+    }
+}
+
+// Every sum of two goes through here, every double through the next one: the formula first, and the plain sum where it has none.
+pub fn sum(c: Curve, a: Divisor, b: Divisor) -> Divisor
+    requires { ⌜ Sound c × (Holds c a × Holds c b) ⌝ }
+    ensures { λ r. ⌜ Gives c r (sum (curveOf c) (pair (c .m) a) (pair (c .m) b)) ⌝ }
+{
+    let q = quick_sum(c, a, b);
+    match q {
+        Sought::Found(d) => d,
+        Sought::Special => plain::sum(c, a, b),
+    }
+}
+
+pub fn double(c: Curve, a: Divisor) -> Divisor
+    requires { ⌜ Sound c × Holds c a ⌝ }
+    ensures { λ r. ⌜ Gives c r (double (curveOf c) (pair (c .m) a)) ⌝ }
+{
+    let q = quick_double(c, a);
+    match q {
+        Sought::Found(d) => d,
+        Sought::Special => plain::double(c, a),
+    }
+}
+
+pub fn opposite(c: Curve, a: Divisor) -> Divisor
+    requires { ⌜ Sound c × Holds c a ⌝ }
+    ensures { λ r. ⌜ Gives c r (opposite (pair (c .m) a)) ⌝ }
+{
+    a.opposite(c.m)
+}
