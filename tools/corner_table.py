@@ -1,7 +1,7 @@
 """corner_table.py: document 01's "Street corners" as tables, line by line, and the records they speak of; corners.py runs them
 through the calls of the product, selfcheck.py holds reference.py to them. All is written out by hand from the document.
 """
-from frames import curve_record, divisor_record
+from records import curve_record, divisor_record
 
 CURVE_A = curve_record(2, 7, [1, 0, 0, 0, 0])
 CURVE_B = curve_record(3, 11, [1, 0, 0, 0, 0, 0, 0])

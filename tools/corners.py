@@ -21,8 +21,9 @@ from corner_table import (
 )  # fmt: skip
 from frames import (
     ADD, CHECK_CURVE, CHECK_DIVISOR, DOUBLE, FIRST_REPEAT, GUARD, MULTIPLY, OPPOSITE, REWRITE_CURVE, REWRITE_DIVISOR, SCAN,
-    TOTAL_BATCH, WITH_OUTPUT, Frame, answer, curve_record, decoded, divisor_record, encoded, label, text_of,
+    TOTAL_BATCH, WITH_OUTPUT, Frame, answer, decoded, encoded, label, text_of,
 )  # fmt: skip
+from records import curve_record, divisor_record
 
 frames = []
 labels = set()

@@ -1,7 +1,6 @@
 #!/usr/bin/env python3
 """reference.py: document 01 in plain Python, a separate implementation to compare the product with.
 
-    python3 tools/reference.py              checks itself against every example of document 01; exit 1 on a failure
     python3 tools/reference.py tally DIR    prints what the program prints for DIR's files `curve` and `batch`
 
 It was written from document 01 and shares no code with the product. Where the document leaves a choice (the flat
@@ -9,6 +8,7 @@ running total, the place in a double, an opposite or a multiple, the order of 16
 readings, as the product does: on those the two agreeing says nothing about the reading. Headings in quotes are the document's own. Each public call is one
 function from the bytes lent to it to a pair: the answer's fields in the order of the call's answer, and the
 output as it returns (None where the call has no output). The output is lent as bytes, handed back as bytes.
+selfcheck.py holds it to the document.
 """
 import sys
 from collections import namedtuple
@@ -536,9 +536,5 @@ if __name__ == "__main__":
     if len(sys.argv) == 3 and sys.argv[1] == "tally":
         folder = sys.argv[2].rstrip("/")
         sys.stdout.write(program_text(file_content(folder + "/curve"), file_content(folder + "/batch")))
-    elif len(sys.argv) == 1:
-        import selfcheck
-
-        sys.exit(selfcheck.main())
     else:
         sys.exit(__doc__)

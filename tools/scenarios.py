@@ -14,7 +14,7 @@ import sys
 import tempfile
 
 import reference
-from frames import curve_record, divisor_record
+from records import curve_record, divisor_record
 from streets import CASE_P, CURVE_A, CURVE_B, CURVE_L, CURVE_M, LARGEST, NEUTRAL, X6_3, X_1, X_2, X_6, meters, points
 
 MISSING, DIRECTORY = None, "directory"

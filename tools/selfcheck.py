@@ -1,10 +1,13 @@
+#!/usr/bin/env python3
 """selfcheck.py: reference.py held against every example of document 01, against the rules of refusal by hand,
 and against methods that share nothing with it: ideals.py for sums, point counts for the number of valid divisors.
 
-`python3 tools/reference.py` runs it. Whatever can't be had from document 01's examples is written out by hand
-here: no expected number below comes from reference.py itself.
+    python3 tools/selfcheck.py    prints how many checks held; exit 1 on a failure
+
+Whatever can't be had from document 01's examples is written out by hand here: no expected number below comes from reference.py itself.
 """
 import itertools
+import sys
 
 import ideals
 import reference as r
@@ -12,7 +15,7 @@ from corner_table import (
     B_X_10, B_XXX_1, CASE_P, CASE_P_COUNT, CASE_P_REPEAT, CASE_P_TOTAL, CURVE_A, CURVE_B, CURVES, DIVISORS, NEUTRAL, SCALARS,
     X1_0, X6_3, X_1, X_6, XX6X, XX_1, each_example,
 )  # fmt: skip
-from frames import curve_record, divisor_record
+from records import curve_record, divisor_record
 
 held = 0
 failures = []
@@ -461,3 +464,7 @@ def main():
         print("FAILED " + failure)
     print("%d checks held, %d failed" % (held, len(failures)))
     return 1 if failures else 0
+
+
+if __name__ == "__main__":
+    sys.exit(main())

@@ -1,7 +1,7 @@
-"""streets.py: curves, meters and lists for the program's scenarios and its demo. Records are made by frames.py and sums by
+"""streets.py: curves, meters and lists for the program's scenarios and its demo. Records are made by records.py and sums by
 reference.py; nothing here is drawn at random."""
 import reference
-from frames import curve_record, divisor_record
+from records import curve_record, divisor_record
 
 LARGEST = 2147483647
 

@@ -24,9 +24,9 @@ import ideals
 import reference as r
 from frames import (
     ADD, CHECK_CURVE, CHECK_DIVISOR, DOUBLE, FIRST_REPEAT, GUARD, MOST_OUTPUT, MULTIPLY, NAMES, OPPOSITE, REWRITE_CURVE,
-    REWRITE_DIVISOR, SCAN, TOTAL_BATCH, WITH_OUTPUT, Frame, answer, curve_record, decoded, divisor_record, encoded, in_parts, part_paths,
-    read_parts, text_of,
+    REWRITE_DIVISOR, SCAN, TOTAL_BATCH, WITH_OUTPUT, Frame, answer, decoded, encoded, in_parts, part_paths, read_parts, text_of,
 )  # fmt: skip
+from records import curve_record, divisor_record
 
 PRIMES = classes.PRIMES
 GENERA = (2, 3)
