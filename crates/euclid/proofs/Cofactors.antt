@@ -41,6 +41,10 @@ added B xr yr c q d w hw hc hd hq = omega arith
 longest : (B xr yr c q d w : ℕ) → w ≤ max c (q + d - 1) → c ≤ B + 1 - yr → d ≤ B + 1 - xr → q ≤ xr + 1 - yr → (q ≡ 0 → ⊥) → (d ≡ 0 → ⊥) → w ≤ B + 1 - yr
 longest B xr yr c q d w hw hc hd hq nq nd = added B xr yr c q d w hw hc (under d (B + 1) xr hd nd) (under q (xr + 1) yr hq nq)
 
+-- the last size n of a remainder: it isn't 0 and at most 1
+pub last-size : {k n : ℕ} → (k ≡ 0 → ⊥) → k ≤ 1 → k ≡ n → n ≡ 1
+last-size z l e = omega arith
+
 module _ (m : Modulus) where
   open CRing (P m) using (El as Po, add as _+P_, mul as _*P_, neg as negP, zer as 0P, one as 1P)
 

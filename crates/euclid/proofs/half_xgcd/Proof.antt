@@ -3,7 +3,7 @@ use mathlib.Core.Path.{_≡_, refl}
 use Rattle.poly.specs.Polys.{P, pol}
 use Rattle.euclid.proofs.Common.{to-divide-by}
 use Rattle.euclid.proofs.Steps.{taken}
-use Rattle.euclid.proofs.Cofactors.{Halving, half-begin, half-fits, half-turn, half-end, half-stop}
+use Rattle.euclid.proofs.Cofactors.{Halving, half-begin, half-fits, half-turn, half-end, half-stop, last-size}
 use Rattle.euclid.proofs.half_xgcd.Statement.{statement}
 use Rattle.euclid.proofs.half_xgcd.Tie as tie
 
@@ -59,7 +59,7 @@ monic-requires-2 : tie.Need-monic-requires-2 Inv-loop μ-loop
 monic-requires-2 c κs = c .before .before .loop .inv .0 .lines .ok-y
 
 returns-2 : tie.Need-returns-2 Inv-loop μ-loop
-returns-2 c = let v = c .before .before .before .loop in half-stop (c .before .before .before .before .before .before .args .m) (v .inv .0 .lines) (omega (arith, c .before .if1 .left, c .before .before .loop-test .left, v .inv .1)) (c .monic2 .ensures)
+returns-2 c = let v = c .before .before .before .loop in half-stop (c .before .before .before .before .before .before .args .m) (v .inv .0 .lines) (last-size (c .before .if1 .left) (c .before .before .loop-test .left) (v .inv .1)) (c .monic2 .ensures)
 
 pub half-xgcd-spec : {M : Type 1} → statement M
 half-xgcd-spec =

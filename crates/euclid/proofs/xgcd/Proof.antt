@@ -2,7 +2,7 @@ use native.Mathlib.Omega.{arith}
 use mathlib.Core.Path.{_≡_, refl, sym, ap}
 use Rattle.poly.specs.declared.Poly.{Poly}
 use Rattle.euclid.proofs.Common.{to-divide-by}
-use Rattle.euclid.proofs.Cofactors.{Extended, first-ok, second-ok, extended-begin, turn-fits, turn-is, extended-end, extended-stop}
+use Rattle.euclid.proofs.Cofactors.{Extended, first-ok, second-ok, extended-begin, turn-fits, turn-is, extended-end, extended-stop, last-size}
 use Rattle.euclid.proofs.xgcd.Statement.{statement}
 use Rattle.euclid.proofs.xgcd.Tie as tie
 
@@ -45,7 +45,7 @@ monic-requires-2 : tie.Need-monic-requires-2 Inv-loop μ-loop
 monic-requires-2 c κs = second-ok (c .before .before .before .before .before .args .m) (c .before .before .loop .inv .0)
 
 returns-2 : tie.Need-returns-2 Inv-loop μ-loop
-returns-2 c = let v = c .before .before .before .loop in extended-stop (c .before .before .before .before .before .before .args .m) (v .inv .0) (omega (arith, c .before .if1 .left, c .before .before .loop-test .left, v .inv .1)) (c .monic2 .ensures)
+returns-2 c = let v = c .before .before .before .loop in extended-stop (c .before .before .before .before .before .before .args .m) (v .inv .0) (last-size (c .before .if1 .left) (c .before .before .loop-test .left) (v .inv .1)) (c .monic2 .ensures)
 
 pub xgcd-spec : {M : Type 1} → statement M
 xgcd-spec =
