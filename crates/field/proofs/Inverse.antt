@@ -9,11 +9,11 @@ use Rattle.wide.specs.Words.{word}
 use Rattle.field.specs.declared.Modulus.{Modulus}
 use Rattle.field.specs.declared.Residue.{Residue}
 use Rattle.field.specs.declared.binary.Shifted.{Shifted}
-use Rattle.field.specs.Residues.{el, back, Unit, Inverts}
+use Rattle.field.specs.Residues.{el, back, HasInverse, Inverts}
 use Rattle.field.specs.Almost.{Invertible, AlmostIs, ToFinish, Finished}
 use Rattle.field.proofs.Back.{back-word}
 
-module _ (m : Modulus) (a : Residue) (u : Unit m a) where
+module _ (m : Modulus) (a : Residue) (u : HasInverse m a) where
   open CRing (zmod (m .p)) using (El as A, add as _⊕_, mul as _⊗_, neg as ng, zer as 𝟘, one as 𝟙, zer-add)
 
   infixl 65 _⊕_

@@ -73,7 +73,7 @@ pub record Halves (m : Modulus) (a r : Residue) : Type 0 where
   pub is : zmod (m .p) .add (el m r) (el m r) ≡ el m a
 
 -- what has an inverse, and an inverse of it
-pub record Unit (m : Modulus) (r : Residue) : Type 0 where
+pub record HasInverse (m : Modulus) (r : Residue) : Type 0 where
   pub good : Good m
   pub kept : Kept m r
   pub nonzero : el m r ≢ zmod (m .p) .zer

@@ -5,7 +5,7 @@
 ghost use mathlib.Core.Path.{_≡_};
 ghost use Rattle.algebra.proofs.ring.Power.{power};
 ghost use Rattle.algebra.proofs.zmod.Zmod.{zmod, num};
-ghost use Rattle.field.specs.Residues.{el, Ring, Good, Kept, Settled, Unit, Stands, Settles, Halves, Inverts, Everywhere, InRange, raw};
+ghost use Rattle.field.specs.Residues.{el, Ring, Good, Kept, Settled, HasInverse, Stands, Settles, Halves, Inverts, Everywhere, InRange, raw};
 ghost use Rattle.field.specs.Constants.{Odd, OfNumber};
 ghost use Rattle.field.specs.Primes.{Decides, OddPrime};
 ghost use Rattle.field.specs.Read.{ModulusIs, ResidueIs};
@@ -306,7 +306,7 @@ impl Residue {
     }
 
     pub fn inverse(self, m: Modulus) -> Residue
-        requires { ⌜ Unit m self ⌝ }
+        requires { ⌜ HasInverse m self ⌝ }
         ensures { λ r. ⌜ Inverts m self r ⌝ }
     {
         let x = binary::almost(self.0, m.p);

@@ -5,7 +5,7 @@
 // 001 prints one sign for several values: its three R's are R = Z·r (`rz`), R~ of steps 5 and 9, here Ra = R·s3 (`ra`, for Z and u), and R~ of step 10,
 // here Rb = S3·s1·R (for v; no number holds it, since S3 is taken out of v). Its four S's are S3 = s3² (`ss`), S = s0·s1, S~ = s3·s1 and s0·s3: the last three
 // stand in sums of products only.
-ghost use Rattle.field.specs.Residues.{Kept, Unit};
+ghost use Rattle.field.specs.Residues.{Kept, HasInverse};
 ghost use Rattle.divisor.specs.Divisors.{Held};
 ghost use Rattle.free.specs.Tuples.{KeptTuple, Added, Mixed, Doubled, Lifted, Divided};
 ghost use Rattle.free.specs.Steps.{KeptGap, KeptDuo, KeptRight, KeptLine, KeptPowers, Widened, WidenedPlain, Differ, Chorded, Righted, Touched, Prepared, MakesU, MakesUTwice, MakesV, Through};
@@ -302,7 +302,7 @@ pub fn lift(q: Quadratic, m: Modulus) -> Tuple
 
 // And back, by the one inverse of a multiple.
 pub fn back(t: Tuple, m: Modulus) -> Quadratic
-    requires { ⌜ KeptTuple m t × Unit m (t .z) ⌝ }
+    requires { ⌜ KeptTuple m t × HasInverse m (t .z) ⌝ }
     ensures { λ r. ⌜ Divided m t r ⌝ }
 {
     let i = t.z.inverse(m);

@@ -14,7 +14,7 @@ use Rattle.rules.proofs.cantor.Accepted.{Accepted}
 use Rattle.rules.proofs.cantor.Sum.{sum-valid}
 use Rattle.field.specs.declared.Modulus.{Modulus}
 use Rattle.field.specs.declared.Residue.{Residue}
-use Rattle.field.specs.Residues.{el, Stands, Unit}
+use Rattle.field.specs.Residues.{el, Stands, HasInverse}
 use Rattle.divisor.specs.declared.Divisor.{Divisor}
 use Rattle.divisor.specs.declared.Divisor.the-variants.{Two}
 use Rattle.divisor.specs.declared.Quadratic.{Quadratic}
@@ -76,7 +76,7 @@ module _ (c : Curve) (h : Sound c) where
     }
 
   -- ---- to plain form
-  pub unit : (t : Tuple) → SomeFree c t → Unit m (t .z)
+  pub unit : (t : Tuple) → SomeFree c t → HasInverse m (t .z)
   unit t y = record { good = y .free .kept .good; kept = y .free .kept .z; nonzero = y .free .quotients .nonzero }
 
   pub plain-of : (t : Tuple) (q : Quadratic) → Divided m t q → (x : P) → IsFree c t x → Gives c (Two q) x

@@ -23,7 +23,7 @@ use Rattle.formulas.proofs.Formula.{one-turn, main-case}
 use Rattle.formulas.proofs.Genus2.{tops-f2, line2-slope}
 use Rattle.field.specs.declared.Modulus.{Modulus}
 use Rattle.field.specs.declared.Residue.{Residue}
-use Rattle.field.specs.Residues.{el, Good, Unit, Stands, Inverts}
+use Rattle.field.specs.Residues.{el, Good, HasInverse, Stands, Inverts}
 use Rattle.field.proofs.Laws.{residue-field, settled-kept}
 use Rattle.field.proofs.Units.{product-unit}
 use Rattle.divisor.specs.declared.Quadratic.{Quadratic}
@@ -111,10 +111,10 @@ module _ (m : Modulus) where
 
   -- ---- what is inverted between the halves
   module _ (good : Good m) (o : Opened) (ho : Ready m o) (nz : el m (o .r) ≢ zmod (m .p) .zer) where
-    pub unit-r : Unit m (o .r)
+    pub unit-r : HasInverse m (o .r)
     unit-r = record { good = good; kept = settled-kept m (ho .r); nonzero = nz }
 
-    pub unit-both : el m (o .s .c1) ≢ zmod (m .p) .zer → (k : Residue) → Stands m k (zmod (m .p) .mul (el m (o .r)) (el m (o .s .c1))) → Unit m k
+    pub unit-both : el m (o .s .c1) ≢ zmod (m .p) .zer → (k : Residue) → Stands m k (zmod (m .p) .mul (el m (o .r)) (el m (o .s .c1))) → HasInverse m k
     unit-both n k hk = product-unit m (o .r) (o .s .c1) k unit-r (record { good = good; kept = settled-kept m (ho .c1); nonzero = n }) hk
 
   pub undoes : (o : Opened) (k i : Residue) → Stands m k (zmod (m .p) .mul (el m (o .r)) (el m (o .s .c1))) → Inverts m k i → Undoes m (o .r) (o .s) i

@@ -3,7 +3,7 @@ use mathlib.Core.Path.{_≡_, sym, ap, _∙_, subst}
 use Rattle.algebra.proofs.zmod.Zmod.{zmod}
 use Rattle.field.specs.declared.Modulus.{Modulus}
 use Rattle.field.specs.declared.Residue.{Residue}
-use Rattle.field.specs.Residues.{el, Good, Unit, Stands, Inverts}
+use Rattle.field.specs.Residues.{el, Good, HasInverse, Stands, Inverts}
 use Rattle.field.proofs.Laws.{settled-kept}
 use Rattle.formulas.specs.declared.Condition.{Condition}
 use Rattle.formulas.specs.declared.Condition.the-variants.{Main}
@@ -13,7 +13,7 @@ use Rattle.opens3.specs.Opens.{SettledOpened}
 use Rattle.genus3.specs.Steps.{Divisible}
 
 module _ (m : Modulus) (good : Good m) (o : Opened) (h : SettledOpened m o) where
-  pub taken : (k : Condition) → Looked m (o .r) (o .s .c2) k → k ≡ Main → Unit m (o .r) × Unit m (o .s .c2)
+  pub taken : (k : Condition) → Looked m (o .r) (o .s .c2) k → k ≡ Main → HasInverse m (o .r) × HasInverse m (o .s .c2)
   taken k l e =
       let n : Looked m (o .r) (o .s .c2) Main = subst (λ (x : Condition). Looked m (o .r) (o .s .c2) x) e l in
       (record { good = good; kept = settled-kept m (h .r); nonzero = n .0 }, record { good = good; kept = settled-kept m (h .s .c2); nonzero = n .1 })

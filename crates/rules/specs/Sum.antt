@@ -1,5 +1,5 @@
--- Document 01, "The sum": composition with its d, s1, s2, s3, reduction, sum and double, by lists of coefficients (algebra, list.Ops). `/`
--- is the quotient and `%` the remainder by a monic polynomial, given by its lower coefficients; `monic` makes a polynomial monic and gives its lower
+-- Document 01, "The sum": composition with its d, s1, s2, s3, reduction, sum and double, by lists of coefficients (algebra, list.Ops): `+L`, `-L`, `*L`. `/M`
+-- is the quotient and `%M` the remainder by a monic polynomial, given by its lower coefficients; `monic` makes a polynomial monic and gives its lower
 -- coefficients.
 use Prim.Native.Nat.{ℕ, zero, suc}
 use mathlib.Core.List.{List}
@@ -14,35 +14,39 @@ module _ (E : Curve) where
   open Curve E using (K, low)
   open Arith K using (base as F)
 
+  -- all coefficients; and of a monic polynomial those below its leading 1
   abbrev Poly : Type 0
   Poly = List (F .El)
 
-  infixl 65 _+_
-  infixl 65 _-_
-  infixl 70 _*_
-  infixl 70 _/_
-  infixl 70 _%_
-  abbrev _+_ : Poly → Poly → Poly
-  a + b = addL F a b
+  abbrev Monic : Type 0
+  Monic = List (F .El)
 
-  abbrev _-_ : Poly → Poly → Poly
-  a - b = addL F a (negL F b)
+  infixl 65 _+L_
+  infixl 65 _-L_
+  infixl 70 _*L_
+  infixl 70 _/M_
+  infixl 70 _%M_
+  abbrev _+L_ : Poly → Poly → Poly
+  a +L b = addL F a b
 
-  abbrev _*_ : Poly → Poly → Poly
-  a * b = mulL F a b
+  abbrev _-L_ : Poly → Poly → Poly
+  a -L b = addL F a (negL F b)
 
-  abbrev _/_ : Poly → Poly → Poly
-  a / m = quotient F m a
+  abbrev _*L_ : Poly → Poly → Poly
+  a *L b = mulL F a b
 
-  abbrev _%_ : Poly → Poly → Poly
-  a % m = remainder F m a
+  abbrev _/M_ : Poly → Monic → Poly
+  a /M m = quotient F m a
+
+  abbrev _%M_ : Poly → Monic → Poly
+  a %M m = remainder F m a
 
   -- all coefficients of f, its leading 1 among them
   abbrev pub f-list : Poly
   f-list = whole F low
 
   abbrev pub f-v²-list : Pair K → Poly
-  f-v²-list a = f-list - a .v * a .v
+  f-v²-list a = f-list -L a .v *L a .v
 
   unfoldable pub composition : Pair K → Pair K → Pair K
   unfolding addL mulL whole quotient remainder monic gcd
@@ -53,19 +57,19 @@ module _ (E : Curve) where
       let v2 : Poly = b .v in
       -- d by Euclid, of u1 and u2, then of what that finds and v1 + v2
       let first : Bezout K = gcd K (a .u) u2 in
-      let second : Bezout K = gcd K (first .d) (v1 + v2) in
-      let d : Poly = second .d in
-      let s1 : Poly = second .s * first .s in
-      let s2 : Poly = second .s * first .t in
+      let second : Bezout K = gcd K (first .d) (v1 +L v2) in
+      let d : Monic = second .d in
+      let s1 : Poly = second .s *L first .s in
+      let s2 : Poly = second .s *L first .t in
       let s3 : Poly = second .t in
       -- (u1·u2/d² is monic: `monic` drops its leading zeros, and the leading 1, which a pair doesn't hold)
-      let u : Poly = monic K (u1 * u2 / d / d) in
-      record { u = u; v = (s1 * u1 * v2 + s2 * u2 * v1 + s3 * (v1 * v2 + f-list)) / d % u }
+      let u : Monic = monic K (u1 *L u2 /M d /M d) in
+      record { u = u; v = (s1 *L u1 *L v2 +L s2 *L u2 *L v1 +L s3 *L (v1 *L v2 +L f-list)) /M d %M u }
 
   -- u by (f - v²)/u made monic, then v by -v modulo the new u
   unfoldable pub step : Pair K → Pair K
   unfolding addL mulL negL whole quotient remainder monic
-  step a = let u : Poly = monic K (f-v²-list a / a .u) in record { u = u; v = negL F (a .v) % u }
+  step a = let u : Monic = monic K (f-v²-list a /M a .u) in record { u = u; v = negL F (a .v) %M u }
 
   -- while deg u > g, for at most n turns
   unfoldable pub while : ℕ → Pair K → Pair K
