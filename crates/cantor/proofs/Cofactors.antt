@@ -13,7 +13,6 @@ use Rattle.poly.specs.Polys.{P, pol, Is}
 use Rattle.poly.specs.Contracts.{ToQuotient, Quotient}
 use Rattle.poly.proofs.Monic.{monic-one}
 use Rattle.cantor.specs.declared.Mumford.{Mumford}
-use Rattle.cantor.specs.Composing.{ToStrip}
 use Rattle.cantor.specs.Reducing.{ToCofactor, Cofactor}
 
 module _ (m : Modulus) where
@@ -22,7 +21,7 @@ module _ (m : Modulus) where
   infixl 65 _+P_
   infixl 70 _*P_
   -- ---- by 1
-  pub strip-none : {a d : Poly} → ToStrip m a d → d .n ≡ 1 → Quotient m a d a
+  pub strip-none : {a d : Poly} → ToQuotient m a d → d .n ≡ 1 → Quotient m a d a
   strip-none {a} {d} h e = record {
     ok = h .left;
     is = sym (ap (λ t. pol m a *P t) (monic-one m (h .right) e (h .monic)) ∙ mul-one (P m) (pol m a));

@@ -1,76 +1,44 @@
 -- One step of the reduction, and the loop. f has odd degree, so it is no square and f - v² isn't zero: the cofactor can be made monic.
 use Prim.Native.Nat.{ℕ, suc, _+_, _-_, _≤_, _<_}
-use mathlib.Core.Path.{_≡_, refl, sym, ap, _∙_}
+use mathlib.Core.Path.{_≡_, refl, sym, ap, _∙_, subst}
 use mathlib.Core.List.{[], _∷_}
 use native.Mathlib.Omega.{arith}
-use native.Mathlib.Decide.{decLe, ℕ-discrete}
-use Rattle.algebra.proofs.ring.CRing.{CRing, zer-mul}
+use native.Mathlib.Decide.{ℕ-discrete}
+use Rattle.algebra.proofs.ring.CRing.{CRing}
 use Rattle.algebra.proofs.ring.Quote.{ring, quote, by}
-use Rattle.algebra.proofs.ring.Field.{no-zero-divisors}
-use Rattle.algebra.proofs.poly.Bound.{Below, below-mul, lead-mul}
-use Rattle.algebra.proofs.poly.Poly.{coef, coef-mul, coef-zer}
-use Rattle.algebra.proofs.poly.Term.{at, C, constants}
+use Rattle.algebra.proofs.poly.Degree.{Degree}
+use Rattle.algebra.proofs.poly.Term.{C, constants}
+use Rattle.algebra.proofs.ideal.Step.{cofactor-ne}
 use Rattle.field.specs.declared.Modulus.{Modulus}
+use Rattle.field.specs.Residues.{Good}
 use Rattle.field.proofs.Laws.{residue-field}
 use Rattle.poly.specs.declared.Poly.{Poly}
 use Rattle.poly.specs.Polys.{K, P, pol, Ok, Is}
 use Rattle.poly.specs.Contracts.{IsMonic, MadeMonic, Divided}
-use Rattle.poly.proofs.Lengths.{none-is}
+use Rattle.poly.proofs.Lengths.{none-is, degree-of}
 use Rattle.cantor.specs.declared.Mumford.{Mumford}
 use Rattle.cantor.specs.Pairs.{Fine}
 use Rattle.cantor.specs.Reducing.{Cofactor, ToStep, Stepped, Steps, ToReduce}
 use Rattle.cantor.proofs.Cofactors.{on-modulo}
 
 module _ (m : Modulus) where
-  open CRing (K m) using (El as A, zer as 𝟘)
-  open CRing (P m) using (El as Po, add as _+P_, mul as _*P_, neg as negP, zer as 0P, one as 1P)
+  open CRing (P m) using (add as _+P_, mul as _*P_, neg as negP, one as 1P)
 
   infixl 65 _+P_
   infixl 70 _*P_
-  abbrev cf : Po → ℕ → A
-  cf v = coef (K m) v
-
-  -- a square has even degree, so f is none
-  no-square : (f v : Poly) (g : ℕ) → Ok m f → Ok m v → f .n ≡ g + g + 2 → pol m f ≡ pol m v *P pol m v → ⊥
-  no-square f v g hf hv o e = go (ℕ-discrete (v .n) 0)
-    where
-      top-f : cf (pol m f) (f .n - 1) ≡ 𝟘 → ⊥
-      top-f = hf .size .top (omega arith)
-
-      square : (k : ℕ) → cf (pol m f) k ≡ coef (K m) (pol m v *P pol m v) k
-      square k = ap (λ t. cf t k) e
-
-      go : Dec (v .n ≡ 0) → ⊥
-      go (yes z) = top-f (square (f .n - 1) ∙ ap (λ t. cf t (f .n - 1)) (ap (λ t. t *P t) (none-is m hv z) ∙ zer-mul (P m) 0P) ∙ at (K m) (coef-zer (K m)) (f .n - 1))
-      go (no n) = cmp (decLe (v .n + v .n - 1) (f .n - 1))
-        where
-          -- shorter than f: its coefficient at f's top is zero
-          low : v .n + v .n - 1 ≤ f .n - 1 → ⊥
-          low l = top-f (square (f .n - 1) ∙ at (K m) (coef-mul (K m) (pol m v) (pol m v)) (f .n - 1) ∙ below-mul (K m) (v .n) (v .n) (cf (pol m v)) (cf (pol m v)) (hv .size .end) (hv .size .end) (f .n - 1) l)
-
-          -- longer than f: f's coefficient at the square's top isn't zero
-          high : f .n ≤ v .n - 1 + (v .n - 1) → ⊥
-          high l = no-zero-divisors (residue-field m (hf .fill .good)) (cf (pol m v) (v .n - 1)) (cf (pol m v) (v .n - 1)) (hv .size .top (omega arith)) (hv .size .top (omega arith))
-              (sym (lead-mul (K m) (v .n - 1) (v .n - 1) (v .n - 1 + (v .n - 1)) (cf (pol m v)) (cf (pol m v)) below below refl)
-              ∙ sym (at (K m) (coef-mul (K m) (pol m v) (pol m v)) (v .n - 1 + (v .n - 1)))
-              ∙ sym (square (v .n - 1 + (v .n - 1)))
-              ∙ hf .size .end (v .n - 1 + (v .n - 1)) l)
-            where
-              below : Below (K m) (suc (v .n - 1)) (cf (pol m v))
-              below k j = hv .size .end k (omega arith)
-
-          cmp : Dec (v .n + v .n - 1 ≤ f .n - 1) → ⊥
-          cmp (yes l) = low l
-          cmp (no l) = high (omega arith)
-
   -- ---- one step
   module _ (f : Poly) (x : Mumford) (h : ToStep m f x) (w : Poly) (hw : Cofactor m f x w) (u : Poly) (hu : MadeMonic m w u) where
+    good : Good m
+    good = h .to .ok-f .fill .good
+
+    f-degree : Degree (residue-field m good) (suc (h .g + h .g)) (pol m f)
+    f-degree = subst (λ n. Degree (residue-field m good) n (pol m f)) {x = f .n - 1} {y = suc (h .g + h .g)} (omega (arith, h .odd)) (degree-of m good f (h .to .ok-f) (omega (arith, h .odd)))
+
     some : 0 < w .n
     some = go (ℕ-discrete (w .n) 0)
       where
         go : Dec (w .n ≡ 0) → 0 < w .n
-        go (yes z) = absurd (no-square f (x .v) (h .g) (h .to .ok-f) (h .to .fine .ok-v) (h .odd) (hw .is ∙ ap (λ t. pol m (x .v) *P pol m (x .v) +P pol m (x .u) *P t) (none-is m (hw .ok) z)
-            ∙ ring (P m) (pol m (x .u) ∷ pol m (x .v) ∷ []) (search quote depth 40) refl))
+        go (yes z) = absurd (cofactor-ne (residue-field m good) (h .g) (pol m f) f-degree (pol m (x .u)) (pol m (x .v)) (pol m w) (hw .is) (none-is m (hw .ok) z))
         go (no n) = omega arith
 
     pub step-monic : IsMonic m u

@@ -17,12 +17,6 @@ module _ (m : Modulus) where
 
   infixl 65 _+P_
   infixl 70 _*P_
-  pub record ToStrip (a d : Poly) : Type 0 where
-    pub left : Ok m a
-    pub right : Ok m d
-    pub monic : IsMonic m d
-    pub divides : Divides (P m) (pol m d) (pol m a)
-
   pub record ToCommon (u1 u2 w : Poly) : Type 0 where
     pub ok-1 : Ok m u1
     pub ok-2 : Ok m u2

@@ -1,8 +1,8 @@
 // Cantor's composition and reduction, on pairs of polynomials (u, v) with u monic, v shorter than u, and u dividing f - v * v. Contracts
 // promise the equations that the theorem of `rules` takes; code need not follow the rules' own Euclid step by step.
-ghost use Rattle.cantor.specs.Composing.{ToStrip, ToCommon, Common, ToSlope, Slope, ToLift, Lift, ToJoin, Composed, ToCompose};
+ghost use Rattle.cantor.specs.Composing.{ToCommon, Common, ToSlope, Slope, ToLift, Lift, ToJoin, Composed, ToCompose};
 ghost use Rattle.cantor.specs.Reducing.{ToCofactor, Cofactor, ToStep, Stepped, ToReduce, Reduced, ToSum, Summed};
-ghost use Rattle.poly.specs.Contracts.{Quotient};
+ghost use Rattle.poly.specs.Contracts.{ToQuotient, Quotient};
 use euclid::half_xgcd;
 use euclid::xgcd;
 use field::Modulus;
@@ -22,7 +22,7 @@ pub struct Common3 {
 
 // a / d, where d divides a; most often d is 1.
 fn strip(a: Poly, d: Poly, m: Modulus) -> Poly
-    requires { ⌜ ToStrip m a d ⌝ }
+    requires { ⌜ ToQuotient m a d ⌝ }
     ensures { λ r. ⌜ Quotient m a d r ⌝ }
 {
     if d.n == 1 {

@@ -1,7 +1,7 @@
 -- Which numbers are taken as p. Document 01, "What the tablet does": an odd prime, 3 ≤ p ≤ 2,147,483,647; refusal 5.
-use Prim.Native.Nat.{ℕ, _≤_}
+use Prim.Native.Nat.{ℕ}
 use mathlib.Core.Bool.{Bool, true, false}
-use Rattle.algebra.proofs.zmod.Prime.{Prime}
+use Rattle.algebra.proofs.zmod.Prime.{OddPrime as OddPrimeTo}
 
 -- a test answers exactly whether A holds
 abbrev pub Decides : Bool → Type 0 → Type 0
@@ -12,7 +12,5 @@ Decides false A = A → ⊥
 abbrev pub limit : ℕ
 limit = 2147483647
 
-pub record OddPrime (p : ℕ) : Type 0 where
-  pub is : Prime p
-  pub odd : 3 ≤ p
-  pub small : p ≤ limit
+abbrev pub OddPrime : ℕ → Type 0
+OddPrime = OddPrimeTo limit

@@ -1,6 +1,6 @@
 -- Primes. Gives: the one proposition `Prime p`, that p is at least 2 and no number between 1 and p divides it; `prime-by-root`, that it
--- is enough to try the numbers whose square is at most p; and `prime-by-test`, which shows it of a p that
--- passes the test `is-prime`.
+-- is enough to try the numbers whose square is at most p; `prime-by-test` and `test-by-prime`, that the test `is-prime` decides it. And `OddPrime`, an odd
+-- prime within a limit.
 use Prim.Native.Nat.{ℕ, zero, suc, _*_, _/_, _%_, _≤_, _<_}
 use mathlib.Core.Path.{_≡_, refl, sym, ap, _∙_, subst}
 use mathlib.Core.Bool.{Bool, true, false, false≢true}
@@ -11,6 +11,11 @@ use native.Mathlib.Nat.{div-add-mod, mul-le-mul, mul-le-mul-left, mul-mod-left}
 pub record Prime (p : ℕ) : Type 0 where
   pub two : 2 ≤ p
   pub none : (d : ℕ) → 1 < d → d < p → 0 < p % d
+
+pub record OddPrime (limit p : ℕ) : Type 0 where
+  pub is : Prime p
+  pub odd : 3 ≤ p
+  pub small : p ≤ limit
 
 -- no number from 2 to d - 1 divides p, and p < d · d
 module _ (p d : ℕ) (two : 2 ≤ p) (root : p < d * d) (below : (k : ℕ) → 1 < k → k < d → 0 < p % k) where
@@ -68,3 +73,20 @@ unfolding is-prime
 prime-by-test zero t = absurd (false≢true t)
 prime-by-test (suc zero) t = absurd (false≢true t)
 prime-by-test (suc (suc p)) t = record { two = omega arith; none = λ d h k. no-divisor-sound (suc (suc p)) (suc p) t d h (omega arith) }
+
+no-divisor-complete : (p d : ℕ) → ((e : ℕ) → 1 < e → e ≤ d → 0 < p % e) → no-divisor p d ≡ true
+unfolding no-divisor
+no-divisor-complete p zero h = refl
+no-divisor-complete p (suc zero) h = refl
+no-divisor-complete p (suc (suc d)) h = go (p % suc (suc d)) (h (suc (suc d)) (omega arith) (omega arith)) (no-divisor-complete p (suc d) (λ e l k. h e l (omega arith)))
+  where
+    go : (r : ℕ) → 0 < r → no-divisor p (suc d) ≡ true → elim r [ zero ↦ false | suc r ↦ no-divisor p (suc d) ] ≡ true
+    go zero l e = absurd (omega arith)
+    go (suc r) l e = e
+
+-- the test is complete
+pub test-by-prime : (p : ℕ) → Prime p → is-prime p ≡ true
+unfolding is-prime
+test-by-prime zero h = absurd (omega (arith, h .two))
+test-by-prime (suc zero) h = absurd (omega (arith, h .two))
+test-by-prime (suc (suc p)) h = no-divisor-complete (suc (suc p)) (suc p) (λ e l k. h .none e l (omega arith))

@@ -9,7 +9,7 @@ use Rattle.rules.proofs.calls.CurveRecords.{Accepts, odd-prime, accepts
 pub accepts-laws : (c : CurveRecord) → Accepts c → Demand3 (curve c)
 accepts-laws c h =
     let o = odd-prime (h .prime) in
-    demand3 (c .p) (o .is) (o .least) (c .g) (c .low) (h .odd) (square-free-test (c .p) (o .is) (c .g) (c .low) .0 (h .free))
+    demand3 (c .p) (o .is) (o .odd) (c .g) (c .low) (h .odd) (square-free-test (c .p) (o .is) (c .g) (c .low) .0 (h .free))
 
 pub curve-laws : (s : List ℕ) {c : CurveRecord} → read-curve s ≡ taken c → Demand3 (curve c)
 curve-laws s {c} e = accepts-laws c (accepts s e)

@@ -11,7 +11,7 @@ use lib.Dec.{eqb}
 use lib.ListN.{getD, length, drop, drop-of-length-le}
 use borrow.Author.Tests.{leb-true, le-leb, eqb-true, eq-eqb, ne-eqb}
 use Rattle.algebra.proofs.zmod.Zmod.{zmod}
-use Rattle.algebra.proofs.zmod.Prime.{Prime, prime-by-test}
+use Rattle.algebra.proofs.zmod.Prime.{OddPrime, prime-by-test}
 use Rattle.rules.specs.Bytes.{word64, words, bytes64, all-bytes}
 use Rattle.rules.specs.Tests.{square-free?}
 use Rattle.rules.specs.Records.{taken, either, odd-prime?, below?, elements, numbers, CurveRecord, curve, version, marked?, genus?, curve-of, curve-checks, read-curve, curve-bytes}
@@ -60,17 +60,12 @@ pub record Accepts (c : CurveRecord) : Type 0 where
   pub odd : length (c .low) ≡ suc (c .g + c .g)
   pub free : square-free? (curve c) ≡ true
 
-pub record OddPrime (p : ℕ) : Type 0 where
-  pub is : Prime p
-  pub least : 2 < p
-  pub greatest : p ≤ 2147483647
-
-pub odd-prime : {p : ℕ} → odd-prime? p ≡ true → OddPrime p
+pub odd-prime : {p : ℕ} → odd-prime? p ≡ true → OddPrime 2147483647 p
 unfolding odd-prime?
 odd-prime {p} e =
     let t = both-true _ _ e in
     let r = both-true _ _ (t .1) in
-    record { is = prime-by-test p (r .1); least = leb-true 3 p (t .0); greatest = leb-true p 2147483647 (r .0) }
+    record { is = prime-by-test p (r .1); odd = leb-true 3 p (t .0); small = leb-true p 2147483647 (r .0) }
 
 pub genus-is : (g : ℕ) → genus? g ≡ true → (2 ≤ g) × (g ≤ 3)
 genus-is g e = go (either-true _ _ e)
@@ -123,7 +118,7 @@ module _ (s : List ℕ) (bytes : AreBytes s) (h : CurveBytes s) where
       one-off s 3 4 refl (omega arith) ∙ ap₂ _∷_ (omega arith) (
       one-off s 4 5 refl (omega arith) ∙ ap₂ _∷_ (omega arith) (
       one-off s 5 6 refl (omega arith) ∙ ap (_∷_ (getD s 5 0)) (
-      tail ∙ ap (λ l. bytes64 (word64 s 6) ++ all-bytes l) (sym (numbers-elements (word64 s 6) (omega (arith, (odd-prime (h .prime)) .least)) (words s 14 n) (h .below))))))))))
+      tail ∙ ap (λ l. bytes64 (word64 s 6) ++ all-bytes l) (sym (numbers-elements (word64 s 6) (omega (arith, (odd-prime (h .prime)) .odd)) (words s 14 n) (h .below))))))))))
 
 pub curve-written : (s : List ℕ) {c : CurveRecord} → AreBytes s → read-curve s ≡ taken c → curve-bytes c ≡ s
 curve-written s bytes e = let r = curve-read s e in subst (λ c. curve-bytes c ≡ s) (r .1) (curve-written-of s bytes (r .0))
@@ -134,16 +129,16 @@ module _ (c : CurveRecord) (h : Accepts c) where
   l = numbers (c .p) (c .low)
 
   pos : 0 < c .p
-  pos = omega (arith, (odd-prime (h .prime)) .least)
+  pos = omega (arith, (odd-prime (h .prime)) .odd)
 
   p-read : word64 (curve-bytes c) 6 ≡ c .p
   unfolding curve-bytes
-  p-read = word-behind (72 ∷ 74 ∷ 67 ∷ 0 ∷ 1 ∷ c .g ∷ []) (all-bytes l) (c .p) 6 refl (omega (arith, (odd-prime (h .prime)) .greatest))
+  p-read = word-behind (72 ∷ 74 ∷ 67 ∷ 0 ∷ 1 ∷ c .g ∷ []) (all-bytes l) (c .p) 6 refl (omega (arith, (odd-prime (h .prime)) .small))
 
   low-read : words (curve-bytes c) 14 (suc (c .g + c .g)) ≡ l
   unfolding curve-bytes
   low-read = ap (λ z. words (72 ∷ 74 ∷ 67 ∷ 0 ∷ 1 ∷ c .g ∷ (bytes64 (c .p) ++ z)) 14 (suc (c .g + c .g))) (sym (append-nil (all-bytes l)))
-      ∙ words-behind (c .p) (omega (arith, (odd-prime (h .prime)) .greatest)) (72 ∷ 74 ∷ 67 ∷ 0 ∷ 1 ∷ c .g ∷ bytes64 (c .p)) l [] (suc (c .g + c .g)) 14 refl
+      ∙ words-behind (c .p) (omega (arith, (odd-prime (h .prime)) .small)) (72 ∷ 74 ∷ 67 ∷ 0 ∷ 1 ∷ c .g ∷ bytes64 (c .p)) l [] (suc (c .g + c .g)) 14 refl
       (length-numbers (c .p) (c .low) ∙ h .odd) (numbers-below (c .p) pos (c .low))
 
   curve-same : curve-of (curve-bytes c) ≡ c

@@ -68,10 +68,10 @@ module _ (c : CurveRecord) where
 -- ---- writing what was read
 module _ (c : CurveRecord) (ok : Accepts c) where
   pos : 0 < c .p
-  pos = omega (arith, (odd-prime (ok .prime)) .least)
+  pos = omega (arith, (odd-prime (ok .prime)) .odd)
 
   fit : c .p ≤ 18446744073709551616
-  fit = omega (arith, (odd-prime (ok .prime)) .greatest)
+  fit = omega (arith, (odd-prime (ok .prime)) .small)
 
   module _ (s : List ℕ) (bytes : AreBytes s) (h : DivisorBytes c true s 0) where
     abbrev w : ℕ

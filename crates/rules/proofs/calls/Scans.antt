@@ -91,7 +91,7 @@ module _ (c : CurveRecord) where
   }) ∙ ap taken (made-numbers c d)
     where
       pos : 0 < c .p
-      pos = omega (arith, (odd-prime (ok .prime)) .least)
+      pos = omega (arith, (odd-prime (ok .prime)) .odd)
 
 -- ---- one scan
 pub record ScanDone (c : CurveRecord) (t : Running) (a : List ℕ) (w : Reply Running) : Type 0 where
