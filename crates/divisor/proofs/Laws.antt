@@ -11,13 +11,14 @@ use Rattle.field.specs.declared.Modulus.{Modulus}
 use Rattle.field.specs.declared.Residue.{Residue}
 use Rattle.field.specs.Residues.{Good}
 use Rattle.field.proofs.Laws.{settled-unique}
+use Rattle.field.proofs.Raw.{plain}
 use Rattle.divisor.specs.declared.Divisor.{Divisor}
 use Rattle.divisor.specs.declared.Divisor.the-variants.{Neutral, One, Two, Three}
 use Rattle.divisor.specs.Divisors.{weightOf, us, vs, elements, pair, AllSettled, Held}
 
 -- the k-th residue of a list, as code reads it
 abbrev pub at : List Residue → ℕ → Residue
-at l k = getD l k (record { 0 = 0 })
+at l k = getD l k (plain 0)
 
 -- a divisor is its coefficients
 make : ℕ → List Residue → List Residue → Divisor

@@ -1,4 +1,5 @@
 pub mod Laws
+pub mod Raw
 pub mod Units
 pub mod Bounds
 pub mod Back

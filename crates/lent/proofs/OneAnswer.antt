@@ -7,8 +7,7 @@ use mathlib.Core.HLevel.{Discrete, ×-discrete}
 use native.Mathlib.Decide.{ℕ-discrete}
 use Rattle.rules.specs.Records.{Checked, CurveRecord, taken, refused, read-curve}
 use Rattle.rules.specs.Calls.{Running as RuleRunning, Reply}
-use Rattle.field.specs.declared.Residue.{Residue}
-use Rattle.field.specs.Residues.{raw}
+use Rattle.field.proofs.Raw.{same-raw}
 use Rattle.divisor.specs.Divisors.{us, vs}
 use Rattle.divisor.proofs.Laws.{same-coefficients}
 use Rattle.running.specs.declared.Running.{Running}
@@ -18,17 +17,6 @@ use Rattle.flats.specs.declared.YubiScanned.{YubiScanned}
 use Rattle.flats.specs.Flats.{flat-running, unflat, Flattened, FlatScanIs}
 use Rattle.lent.specs.declared.Report.{Report}
 use Rattle.lent.specs.Lent.{ScanIs}
-
-residue : ℕ → Residue
-residue n = record { 0 = n }
-
-raw-back : (l : List Residue) → map residue (map raw l) ≡ l
-unfolding residue
-raw-back [] = refl
-raw-back (r ∷ l) = ap (λ (t : List Residue). r ∷ t) (raw-back l)
-
-same-raw : (a b : List Residue) → map raw a ≡ map raw b → a ≡ b
-same-raw a b e = sym (raw-back a) ∙ ap (map residue) e ∙ raw-back b
 
 -- what the rule sees of a total is all of it
 pub same-total : (x y : Running) → runningOf x ≡ runningOf y → x ≡ y
