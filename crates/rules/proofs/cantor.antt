@@ -17,3 +17,4 @@ pub mod Unique
 pub mod Group
 pub mod Totals
 pub mod Counts
+pub mod Signed

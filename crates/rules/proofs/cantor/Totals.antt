@@ -98,7 +98,7 @@ module _ (E : Curve) (h : Accepted E) where
 
   -- ---- multiples
   module _ (a : D) (va : Valid E a) where
-    multiple-is : (n : ℕ) → (nfold (jacobian E h) n (a, va)) .0 ≡ multiple E n a
+    pub multiple-is : (n : ℕ) → (nfold (jacobian E h) n (a, va)) .0 ≡ multiple E n a
     unfolding multiple
     multiple-is zero = refl
     multiple-is (suc n) = ap (λ (x : D). sum E x a) (multiple-is n)
