@@ -1,14 +1,19 @@
--- Powers in a commutative ring. Gives: `power`, and how it goes with an exponent that is one more or twice another.
--- Shut (`unfoldable`): `power`.
+-- Powers in a commutative ring. Gives: `power`; how it goes with an exponent that is one more or twice another, a sum or a product; powers of a product and of 1; the test that a power
+-- is 1 (`power-one?`).
+-- Shut (`unfoldable`): `power`, `power-one?`.
 use Prim.Native.Nat.{ℕ, zero, suc, _+_, _-_, _*_, _/_, _%_, _<_}
 use mathlib.Core.Path.{_≡_, refl, sym, ap, _∙_}
 use mathlib.Core.List.{[], _∷_}
+use mathlib.Core.Logic.{_↔_}
+use mathlib.Core.Bool.{Bool, true, decide, decide-iff}
 use native.Mathlib.Omega.{arith}
-use Rattle.algebra.proofs.ring.CRing.{CRing}
+use native.Mathlib.Nat.{zero-add, suc-mul, zero-mul}
+use Rattle.algebra.proofs.ring.CRing.{CRing, mul-one}
 use Rattle.algebra.proofs.ring.Quote.{ring, quote}
+use Rattle.algebra.proofs.ring.Field.{Arith}
 
 module _ (R : CRing) where
-  open CRing R using (El as A, mul as _⊗_, one as 𝟙)
+  open CRing R using (El as A, mul as _⊗_, one as 𝟙, one-mul, mul-assoc)
 
   infixl 70 _⊗_
   unfoldable pub power : A → ℕ → A
@@ -31,3 +36,32 @@ module _ (R : CRing) where
 
   pub power-even : (a : A) (n : ℕ) → n % 2 ≡ 0 → power (a ⊗ a) (n / 2) ≡ power a n
   power-even a n e = twice a (n / 2) ∙ ap (power a) {x = n / 2 + n / 2} {y = n} (omega arith)
+
+  pub power-add : (a : A) (m n : ℕ) → power a (m + n) ≡ power a m ⊗ power a n
+  unfolding power
+  power-add a zero n = ap (power a) (zero-add n) ∙ sym (one-mul (power a n))
+  power-add a (suc m) n = ap (power a) {x = suc m + n} {y = suc (m + n)} (omega arith) ∙ ap (λ t. a ⊗ t) (power-add a m n) ∙ sym (mul-assoc a (power a m) (power a n))
+
+  pub power-mul : (a : A) (m n : ℕ) → power a (m * n) ≡ power (power a n) m
+  unfolding power
+  power-mul a zero n = ap (power a) (zero-mul n)
+  power-mul a (suc m) n = ap (power a) {x = suc m * n} {y = n + m * n} (omega (arith, suc-mul m n)) ∙ power-add a n (m * n) ∙ ap (λ t. power a n ⊗ t) (power-mul a m n)
+
+  pub power-of-mul : (a b : A) (n : ℕ) → power (a ⊗ b) n ≡ power a n ⊗ power b n
+  unfolding power
+  power-of-mul a b zero = sym (mul-one R 𝟙)
+  power-of-mul a b (suc n) = ap (λ t. a ⊗ b ⊗ t) (power-of-mul a b n) ∙ ring R (a ∷ b ∷ power a n ∷ power b n ∷ []) (search quote depth 40) refl
+
+  pub power-of-one : (n : ℕ) → power 𝟙 n ≡ 𝟙
+  unfolding power
+  power-of-one zero = refl
+  power-of-one (suc n) = one-mul (power 𝟙 n) ∙ power-of-one n
+
+module _ (K : Arith) (a : K .base .El) (n : ℕ) where
+  unfoldable pub power-one? : Bool
+  unfolding power decide
+  power-one? = decide (K .dec (power (K .base) a n) (K .base .one))
+
+  pub power-one : (power-one? ≡ true) ↔ (power (K .base) a n ≡ K .base .one)
+  unfolding power-one?
+  power-one = decide-iff (K .dec (power (K .base) a n) (K .base .one))
