@@ -1,10 +1,8 @@
 // A divisor as it is held: one of four cases, each with exactly its own coefficients. It stands for a pair (u, v) of the rules.
 ghost use mathlib.Core.Path.{_≡_};
 ghost use Prim.Native.Nat.{_≤_};
-ghost use Rattle.field.specs.Primes.{Decides};
 ghost use Rattle.algebra.proofs.zmod.Zmod.{zmod};
 ghost use Rattle.field.specs.Residues.{el, Settled, Settles};
-ghost use Rattle.rules.specs.Pair.{opposite};
 ghost use Rattle.divisor.specs.Divisors.{Held, weightOf, RowOf, Opposed};
 use field::Modulus;
 use field::Residue;
@@ -148,28 +146,5 @@ impl Divisor {
             k += 1;
         }
         Divisor::of_row(w, r)
-    }
-
-    // Two meters are the same when their divisors are equal.
-    pub fn equal(self, other: Divisor, m: Modulus) -> bool
-        requires { ⌜ Held m self × Held m other ⌝ }
-        ensures { λ r. ⌜ Decides r (self ≡ other) ⌝ }
-    {
-        let w = self.weight();
-        if other.weight() != w {
-            return false;
-        }
-        let n = 2 * w;
-        let a = self.row();
-        let b = other.row();
-        let mut k: usize = 0;
-        while k < n {
-            if a[k].equal(b[k], m) {
-                k += 1;
-            } else {
-                return false;
-            }
-        }
-        true
     }
 }

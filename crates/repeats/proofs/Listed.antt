@@ -1,6 +1,6 @@
 -- The divisors of a batch in an array. Gives: the loop's start, a turn of it, and what is answered at each return.
 use Prim.Native.Nat.{ℕ, suc, _+_, _*_, _≤_, _<_}
-use mathlib.Core.Path.{_≡_, refl, sym, ap, _∙_, subst}
+use mathlib.Core.Path.{_≡_, refl, sym, ap, ap₂, _∙_, subst}
 use mathlib.Core.List.{List, [], _∷_, _++_, map}
 use mathlib.Core.Bool.{false}
 use native.Mathlib.Omega.{arith}
@@ -10,6 +10,7 @@ use lib.Seq.{getD-set-same, getD-set-other, take-suc-set}
 use Rattle.algebra.proofs.zmod.PrimeField.{modulo}
 use Rattle.rules.specs.Pair.{Pair}
 use Rattle.rules.specs.Records.{Checked, PairOf}
+use Rattle.rules.specs.First.{FirstIs}
 use Rattle.rules.specs.Lists.{Batch, Repeat, first-repeat}
 use Rattle.rules.specs.Calls.{Reply, done, deliver}
 use Rattle.divisor.specs.declared.Divisor.{Divisor}
@@ -22,11 +23,11 @@ use Rattle.divisor_read.specs.declared.DivisorRead.the-variants.{Taken, Refused
 use Rattle.divisor_read.specs.Read.{DivisorIs}
 use Rattle.repeat.specs.declared.Repeat.{Repeat as Found}
 use Rattle.repeat.specs.declared.Repeat.the-variants.{Pair as FoundPair, Nothing as FoundNothing}
-use Rattle.repeat.specs.First.{at, AllHeld, FirstIs}
+use Rattle.repeat.specs.First.{at, AllHeld, SameIn, placesOf}
 use Rattle.answers.proofs.Turns.{Going, begins, read-taken, ends, full, refuses, turns}
 use Rattle.repeats.specs.declared.RepeatAnswer.the-variants.{Pair as PairAnswer, Nothing as NothingAnswer, Refused as RefusedAnswer}
 use Rattle.repeats.specs.Repeats.{list-rule, no-repeat, repeat-of, repeat-rule, repeatOf}
-use Rattle.repeats.proofs.Found.{first-repeats, none-repeats, found-at}
+use Rattle.repeats.proofs.Found.{found-first}
 
 map-snoc : {A B : Type 0} (f : A → B) (l : List A) (x : A) → map f (l ++ (x ∷ [])) ≡ map f l ++ (f x ∷ [])
 map-snoc f [] x = refl
@@ -73,12 +74,12 @@ module _ (c : Curve) (s : List ℕ) where
         added : map (pair (c .m)) (take (k + 1) (set d k x)) ≡ snoc so-far (pair (c .m) x)
         added = ap (λ (n : ℕ). map (pair (c .m)) (take n (set d k x))) {x = k + 1} {y = suc k} (omega arith) ∙ ap (map (pair (c .m))) (take-suc-set d k x (omega (arith, i .long))) ∙ map-snoc (pair (c .m)) (take k d) x
 
-    module _ (over : length s ≤ a) (f : Found) (is : FirstIs d k f) where
-      answered : {r : Repeat} → first-repeat (c .m .p) so-far ≡ r → record { answer = done 0; out = []; own = r } ≡ repeat-rule c s
-      answered {r} e = sym (as-rule (ends (i .going) over) ∙ ap (λ (t : Repeat). record { answer = done 0; out = []; own = t }) e)
+    module _ (over : length s ≤ a) (f : Found) (is : FirstIs (SameIn (c .m) d) k (placesOf f)) where
+      answered : {r : Repeat} → placesOf f ≡ r → record { answer = done 0; out = []; own = r } ≡ repeat-rule c s
+      answered {r} e = sym (as-rule (ends (i .going) over) ∙ ap (λ (t : Repeat). record { answer = done 0; out = []; own = t }) (found-first (c .m) d k (i .all) (i .long) f is ∙ e))
 
       pub list-pair : {x y : ℕ} → f ≡ FoundPair x y → repeatOf (PairAnswer (x + 1) (y + 1)) ≡ repeat-rule c s
-      list-pair {x} {y} e = answered (first-repeats (c .m) d k (i .all) (i .long) x y (found-at d k f is e))
+      list-pair {x} {y} e = answered (ap placesOf e ∙ ap₂ (λ i j. record { first = i; second = j }) {x = suc x} {y = x + 1} {u = suc y} {v = y + 1} (omega arith) (omega arith))
 
       pub list-nothing : f ≡ FoundNothing → repeatOf NothingAnswer ≡ repeat-rule c s
-      list-nothing e = answered (none-repeats (c .m) d k (i .all) (i .long) (subst (FirstIs d k) e is))
+      list-nothing e = answered (ap placesOf e)

@@ -2,19 +2,21 @@
 -- to the whole answer and output (specs.Calls). `read-curve s ≡ taken c` says that s is a curve record, and c what it says;
 -- `AllRecords c rs` that each of rs is a divisor record on c, and `pair-of c r` is the pair of one; `answered w ≡ 0` that a call
 -- answered 0, and `front w` is then what it left at the front of its output. The proofs are in calls/.
-use Prim.Native.Nat.{ℕ, _+_, _*_, _≤_, _<_}
+use Prim.Native.Nat.{ℕ, suc, _+_, _*_, _≤_, _<_}
 use mathlib.Core.Path.{_≡_, sym, _∙_}
 use mathlib.Core.List.{List, [], _∷_, _++_, map, foldl, flatten, Perm}
 use mathlib.Core.Bool.{true}
 use mathlib.Core.Logic.{_↔_}
 use lib.ListN.{length, drop}
+use Rattle.algebra.proofs.ring.Field.{Arith}
 use Rattle.algebra.proofs.zmod.PrimeField.{modulo}
 use Rattle.rules.specs.Bytes.{number}
 use Rattle.rules.specs.Pair.{Pair, Valid, opposite}
 use Rattle.rules.specs.Sum.{double}
 use Rattle.rules.specs.Multiple.{multiple}
 use Rattle.rules.specs.Records.{Checked, taken, CurveRecord, curve, PairOf, read-curve, read-divisor, curve-bytes, divisor-bytes}
-use Rattle.rules.specs.Lists.{Batch, batch, first-repeat}
+use Rattle.rules.specs.First.{Clear, FirstAt}
+use Rattle.rules.specs.Lists.{Batch, batch, Same, first-repeat}
 use Rattle.rules.specs.Calls.{done, Result, stop, put, deliver, check-divisor, write, rewrite-curve, rewrite-divisor, double-call, opposite-call, add-call, multiply-call, total-call, repeat-call, Running, fresh, scan-call}
 use Rattle.rules.proofs.Demand3.{Demand3}
 use Rattle.rules.proofs.cantor.Totals.{AllValid}
@@ -24,7 +26,7 @@ use Rattle.rules.proofs.calls.CurveRecords.{accepts, curve-written, cur
 use Rattle.rules.proofs.calls.DivisorRecords.{divisor-valid, divisor-written, divisor-reread}
 use Rattle.rules.proofs.calls.Accepted.{curve-laws}
 use Rattle.rules.proofs.calls.Batches.{pair-of, AllRecords, MadeOf, records-valid, batch-records, batch-made, batch-is}
-use Rattle.rules.proofs.calls.Repeats.{Clear, FirstAt}
+use Rattle.rules.proofs.calls.Repeats.{SameAt}
 use Rattle.rules.proofs.calls.Written.{front, answered, bare}
 use Rattle.rules.proofs.calls.Done.{OneDone, AddDone, TotalDone, total-of}
 use Rattle.rules.proofs.calls.Totals.{subtotal, adds}
@@ -35,6 +37,7 @@ use Rattle.rules.proofs.calls.Rewrites
 use Rattle.rules.proofs.calls.Written
 use Rattle.rules.proofs.calls.Delivered
 use Rattle.rules.proofs.calls.Repeats
+use Rattle.rules.proofs.calls.Same as SameLaws
 use Rattle.rules.proofs.calls.Taken
 use Rattle.rules.proofs.calls.Done
 use Rattle.rules.proofs.calls.Sums
@@ -173,13 +176,21 @@ module _ (s : List ℕ) {c : CurveRecord} (ec : read-curve s ≡ taken c) (rs : 
   pub repeat-of-records : AllRecords c rs → length rs ≤ 4096 → repeat-call s (flatten rs) ≡ record { answer = done 0; out = []; own = first-repeat (c .p) (map (pair-of c) rs) }
   repeat-of-records = Repeats.repeat-records s ec rs
 
--- none, or least j, then least i < j
+-- none, exactly where no two are the same; or least j, then least i < j
 module _ (p : ℕ) (l : List (Pair (modulo p))) where
-  pub repeat-none : (first-repeat p l ≡ record { first = 0; second = 0 }) ↔ Clear l (length l)
+  pub repeat-none : (first-repeat p l ≡ record { first = 0; second = 0 }) ↔ Clear (SameAt l) (length l)
   repeat-none = Repeats.no-repeat-at p l
 
-  pub repeat-first : (i j : ℕ) → (first-repeat p l ≡ record { first = i + 1; second = j + 1 }) ↔ FirstAt l i j
+  pub repeat-first : (i j : ℕ) → (first-repeat p l ≡ record { first = suc i; second = suc j }) ↔ FirstAt (SameAt l) (length l) i j
   repeat-first = Repeats.repeat-at p l
+
+-- the same meters: as an equivalence, and where a divisor is its own opposite
+module _ (K : Arith) where
+  pub same-equivalence : ((a : Pair K) → Same a a) × (((a b : Pair K) → Same a b → Same b a) × ((a b c : Pair K) → Same a b → Same b c → Same a c))
+  same-equivalence = (SameLaws.same-refl K, (SameLaws.same-sym K, SameLaws.same-trans K))
+
+  pub same-as-itself : (a b : Pair K) → opposite b ≡ b → Same a b ↔ (a ≡ b)
+  same-as-itself = SameLaws.own-same K
 
 -- ---- what each call leaves: on 0 the rest of the output is unchanged; on any other number length and counts are 0 and output and total are
 -- unchanged

@@ -17,7 +17,8 @@ pub mod Refusals
 pub mod Places
 pub mod Delivered
 pub mod Written
--- the first repeat
+-- the same meters, and the first repeat
+pub mod Same
 pub mod Repeats
 -- the calls
 pub mod Taken

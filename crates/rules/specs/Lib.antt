@@ -6,5 +6,6 @@ pub mod Tests
 pub mod Bytes
 pub mod Checks
 pub mod Records
+pub mod First
 pub mod Lists
 pub mod Calls

@@ -1,6 +1,6 @@
 -- Document 01, "The pole's list": case P, the curve of case A and the three records (x, 1), (x + 6, 3), (x, 1), prints exactly the three lines of
--- the paper; beside it a neutral total without a repeat, a refusal at the second record, and files that can't be read. Rows of one list
--- under one claim, computed from the rule.
+-- the paper; beside it W-205's batch of (x, 1) and (x, 6), a batch without a repeat, a refusal at the second record, and files that can't be
+-- read. Rows of one list under one claim, computed from the rule.
 use Prim.Native.Nat.{ℕ}
 use Prim.Native.String.{String}
 use mathlib.Core.Path.{_≡_, refl}
@@ -10,7 +10,7 @@ use Rattle.algebra.proofs.zmod.PrimeField.{inv}
 use Rattle.rules.specs.Bytes.{bytes64, all-bytes}
 use Rattle.rules.specs.Sum.{sum}
 use Rattle.rules.specs.Records.{read-curve, numbers}
-use Rattle.rules.specs.Lists.{batch-from, repeat-from}
+use Rattle.rules.specs.Lists.{batch-from, same?, repeat-from}
 use Rattle.rules.specs.Calls.{repeat-call}
 use Rattle.digits.specs.Digits.{letters}
 use Rattle.texts.specs.Text.{File, unreadable, holds, text}
@@ -31,7 +31,8 @@ point u v = 1 ∷ all-bytes (u ∷ v ∷ [])
 abbrev pub rows : List Row
 rows =
     record { curve = curve-a; batch = holds (point 0 1 ++ (point 6 3 ++ point 0 1)); prints = "count 3\nrepeat 1 3\ntotal 02 0000000000000004 0000000000000004 0000000000000000 0000000000000001\n" }
-    ∷ record { curve = curve-a; batch = holds (point 0 1 ++ point 0 6); prints = "count 2\nrepeat none\ntotal 00\n" }
+    ∷ record { curve = curve-a; batch = holds (point 0 1 ++ point 0 6); prints = "count 2\nrepeat 1 2\ntotal 00\n" }
+    ∷ record { curve = curve-a; batch = holds (point 0 1 ++ point 6 3); prints = "count 2\nrepeat none\ntotal 02 0000000000000000 0000000000000006 0000000000000001 0000000000000002\n" }
     ∷ record { curve = curve-a; batch = holds []; prints = "count 0\nrepeat none\ntotal 00\n" }
     ∷ record { curve = curve-a; batch = holds (point 0 1 ++ point 0 2); prints = "refused 11 2\n" }
     ∷ record { curve = holds []; batch = holds []; prints = "refused 1 0\n" }
@@ -40,5 +41,5 @@ rows =
     ∷ []
 
 pub shown : map (λ r. text (r .curve) (r .batch)) rows ≡ map (λ r. letters (r .prints)) rows
-unfolding text zmod emb num zmod-dec inv sum read-curve numbers batch-from repeat-from repeat-call bytes64 all-bytes
+unfolding text zmod emb num zmod-dec inv sum read-curve numbers batch-from same? repeat-from repeat-call bytes64 all-bytes
 shown = refl

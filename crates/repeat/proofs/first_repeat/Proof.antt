@@ -2,21 +2,22 @@ use Rattle.field.proofs.Decide.{decided-yes, decided-no}
 use native.Mathlib.Omega.{arith}
 use borrow.Author.Needs.{needs}
 use Prim.Native.Nat.{_≤_, _-_}
-use mathlib.Core.Path.{_≡_, refl}
+use mathlib.Core.Path.{_≡_, refl, sym, subst}
 use borrow.Author.Count.{below-more}
 use Rattle.repeat.specs.declared.Repeat.the-variants.{Nothing}
-use Rattle.repeat.specs.First.{Clear, Unlike}
+use Rattle.rules.specs.First.{Clear, Unlike, FirstIs}
+use Rattle.repeat.specs.First.{SameIn, placesOf}
 use Rattle.repeat.proofs.first_repeat.Statement.{statement}
 use Rattle.repeat.proofs.first_repeat.Tie as tie
 
 abbrev Inv-loop : tie.InvT-loop
-Inv-loop n m d answer₀ j later i₀ answer i = (i ≤ j) × ((answer ≡ Nothing) × Unlike d j i)
+Inv-loop n m d answer₀ j later i₀ answer i = (i ≤ j) × ((answer ≡ Nothing) × Unlike (SameIn m d) j i)
 
 abbrev μ-loop : tie.MeasureT-loop
 μ-loop n m d answer₀ j later i₀ answer i = j - i
 
 abbrev Inv-search : tie.InvT-search
-Inv-search n m d answer₀ j₀ answer j = (j ≤ n) × ((answer ≡ Nothing) × Clear d j)
+Inv-search n m d answer₀ j₀ answer j = (j ≤ n) × ((answer ≡ Nothing) × Clear (SameIn m d) j)
 
 abbrev μ-search : tie.MeasureT-search
 μ-search n m d answer₀ j₀ answer j = n - j
@@ -39,8 +40,8 @@ mul-earlier c = search needs
 array-copy-out-earlier : tie.Need-array-copy-out-earlier Inv-loop μ-loop Inv-search μ-search
 array-copy-out-earlier c = search needs
 
-equal-requires : tie.Need-equal-requires Inv-loop μ-loop Inv-search μ-search
-equal-requires c κs = let s = c .before .before .before .before .before .before in (s .pre .held (c .before .before .loop .i) (omega arith), s .pre .held (c .before .before .before .before .before .search .j) (omega arith))
+same-requires : tie.Need-same-requires Inv-loop μ-loop Inv-search μ-search
+same-requires c κs = let s = c .before .before .before .before .before .before in (s .pre .held (c .before .before .loop .i) (omega arith), s .pre .held (c .before .before .before .before .before .search .j) (omega arith))
 
 add-i : tie.Need-add-i Inv-loop μ-loop Inv-search μ-search
 add-i c = search needs
@@ -49,7 +50,7 @@ loop-less : tie.Need-loop-less Inv-loop μ-loop Inv-search μ-search
 loop-less c = search needs
 
 loop-again : tie.Need-loop-again Inv-loop μ-loop Inv-search μ-search
-loop-again c = let i = c .before .before .before .before .loop in (search needs, (i .inv .1 .0, below-more _ (i .i) (i .inv .1 .1) (decided-no (c .if1 .left) (c .before .equal .ensures))))
+loop-again c = let i = c .before .before .before .before .loop in (search needs, (i .inv .1 .0, below-more _ (i .i) (i .inv .1 .1) (decided-no (c .if1 .left) (c .before .same .ensures))))
 
 add-j : tie.Need-add-j Inv-loop μ-loop Inv-search μ-search
 add-j c = search needs
@@ -66,13 +67,14 @@ search-again c =
 returns : tie.Need-returns Inv-loop μ-loop Inv-search μ-search
 returns c =
     let v = c .before .search .inv in
-    rw (v .1 .0) (λ b l. v .1 .1 b (omega arith))
+    let s = c .before .before .args in
+    subst (λ r. FirstIs (SameIn (s .m) (s .t1)) (s .n) (placesOf r)) (sym (v .1 .0)) (refl, λ b l. v .1 .1 b (omega arith))
 
 returns-2 : tie.Need-returns-2 Inv-loop μ-loop Inv-search μ-search
 returns-2 c =
     let i = c .before .before .before .before .loop in
     let j = c .before .before .before .before .before .before .before .search in
-    record { within = search needs; before = search needs; same = decided-yes (c .if1 .taken) (c .before .equal .ensures); least-j = j .inv .1 .1; least-i = i .inv .1 .1 }
+    record { within = search needs; before = search needs; same = decided-yes (c .if1 .taken) (c .before .same .ensures); least-j = j .inv .1 .1; least-i = i .inv .1 .1 }
 
 pub first-repeat-spec : {M : Type 1} → statement M
 first-repeat-spec =
@@ -88,7 +90,7 @@ first-repeat-spec =
     loop-holds
     mul-earlier
     array-copy-out-earlier
-    equal-requires
+    same-requires
     add-i
     loop-less
     loop-again

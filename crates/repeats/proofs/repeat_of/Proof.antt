@@ -75,19 +75,19 @@ enum-known-i : tie.Need-enum-known-i Inv-loop μ-loop
 enum-known-i c = search needs
 
 add-t27 : tie.Need-add-t27 Inv-loop μ-loop
-add-t27 c = let q = found-at _ _ _ (c .before .before .before .first-repeat .ensures) (c .before .i .given .1) in record { fits = omega (arith, q .within, q .before, c .before .before .before .before .before .loop .inv .all .room) }
+add-t27 c = let q = found-at (c .before .before .before .before .before .before .before .before .args .c .m) (c .before .before .before .before .before .loop .d) (c .before .before .before .before .before .loop .n) (c .before .before .before .first-repeat .result) (c .before .before .before .first-repeat .ensures) (c .before .i .given .1) in record { fits = omega (arith, q .within, q .before, c .before .before .before .before .before .loop .inv .all .room) }
 
 add-t29 : tie.Need-add-t29 Inv-loop μ-loop
-add-t29 c = let q = found-at _ _ _ (c .before .before .before .first-repeat .ensures) (c .before .i .given .1) in record { fits = omega (arith, q .within, q .before, c .before .before .before .before .before .loop .inv .all .room) }
+add-t29 c = let q = found-at (c .before .before .before .before .before .before .before .before .args .c .m) (c .before .before .before .before .before .loop .d) (c .before .before .before .before .before .loop .n) (c .before .before .before .first-repeat .result) (c .before .before .before .first-repeat .ensures) (c .before .i .given .1) in record { fits = omega (arith, q .within, q .before, c .before .before .before .before .before .loop .inv .all .room) }
 
 enum-told : tie.Need-enum-told Inv-loop μ-loop
 enum-told c = search needs
 
 returns-3 : tie.Need-returns-3 Inv-loop μ-loop
-returns-3 c = let i = c .before .before .before .before .before .loop in list-pair _ _ _ _ _ (i .inv) (omega arith) _ (c .before .before .before .first-repeat .ensures) (c .before .i .given .1)
+returns-3 c = let i = c .before .before .before .before .before .loop in list-pair _ _ _ _ _ (i .inv) (omega arith) (c .before .before .before .first-repeat .result) (c .before .before .before .first-repeat .ensures) (c .before .i .given .1)
 
 returns-4 : tie.Need-returns-4 Inv-loop μ-loop
-returns-4 c = let i = c .before .before .before .before .loop in list-nothing _ _ _ _ _ (i .inv) (omega arith) _ (c .before .before .first-repeat .ensures) (c .enum-told .given .1)
+returns-4 c = let i = c .before .before .before .before .loop in list-nothing _ _ _ _ _ (i .inv) (omega arith) (c .before .before .first-repeat .result) (c .before .before .first-repeat .ensures) (c .enum-told .given .1)
 
 pub repeat-of-spec : {M : Type 1} → statement M
 repeat-of-spec =
