@@ -113,7 +113,7 @@ typedef struct YubiRepeat {
     uint64_t number;
     uint64_t place;
     uint64_t length; /* always 0: the search writes no output */
-    uint64_t first;  /* place of the earlier of the two equal divisors, from 1; 0 for none */
+    uint64_t first;  /* place of the earlier of the two, from 1; 0 for none */
     uint64_t second; /* place of the later one; 0 for none */
 } YubiRepeat;
 
@@ -176,8 +176,8 @@ YubiMultiple yubi_multiply_inversion_free(const uint8_t *curve, size_t curve_len
 YubiTotal yubi_total_batch(const uint8_t *curve, size_t curve_length, const uint8_t *batch, size_t batch_length,
                            uint8_t *out, size_t out_length);
 
-/* Checks a whole batch and then finds its first two equal divisors: the least second, then the least first before it; both
- * 0 where no two are equal: 0 to 11, 14. Mind the stack. */
+/* Checks a whole batch and then finds its first two records of the same meter, whose divisors are equal or opposite: the least
+ * second, then the least first before it; both 0 where no two are: 0 to 11, 14. Mind the stack. */
 YubiRepeat yubi_first_repeat(const uint8_t *curve, size_t curve_length, const uint8_t *batch, size_t batch_length);
 
 /* A running total that has taken no scan: neutral, count 0. */

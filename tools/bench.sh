@@ -5,7 +5,7 @@
 #
 # looks at the library's product of residues, and exits 1 where the compiler didn't make one multiplication of each product of
 # words; builds both into one program and prints, for genus 2, genus 3 with f_6 = 0 and genus 3 with another f_6, the median
-# time of a batch total of 4,096 records and of a 256-bit multiple, and the ratio. Then it counts the instructions of
+# time of a batch total of 4,096 records, of a 256-bit multiple and of the search for a repeat among 4,096 different meters, and the ratio. Then it counts the instructions of
 # each, exactly, by Debian's qemu-user or by valgrind, whichever is there. Under an emulator times say nothing but their ratio.
 set -eu
 cd "$(dirname "$0")/.."
@@ -85,7 +85,7 @@ fi
 say "instructions, by $counter: two runs that differ in one round"
 declare -A names=([2]="genus 2" [3]="genus 3, f_6 = 0" [3-f6]="genus 3, f_6 ≠ 0")
 for curve in 2 3 3-f6; do
-    for work in total multiple; do
+    for work in total multiple repeat; do
         counts=()
         for engine in proved plain; do
             one=$(instructions $engine $work $curve 1)

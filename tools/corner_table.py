@@ -87,3 +87,17 @@ SCALARS = (
 # Case P on A: the batch, its total with the count, its first repeat
 CASE_P = (X_1, X6_3, X_1)
 CASE_P_TOTAL, CASE_P_COUNT, CASE_P_REPEAT = XX4X4, 3, (1, 3)
+
+# W-205: name, curve, batch, its first repeat. Equal, opposite, one behind the other, and divisors that are their own opposites
+FLIPPED = (
+    ("flipped", CURVE_A, (X_1, X_6), (1, 2)),
+    ("flipped-back", CURVE_A, (X_6, X_1), (1, 2)),
+    ("flipped-then-equal", CURVE_A, (X6_3, X_1, X_6, X6_3), (2, 3)),
+    ("equal-then-flipped", CURVE_A, (X_1, X6_3, X6_3, X_6), (2, 3)),
+    ("flipped-weight-2", CURVE_A, (XX_1, X_1, XX_6), (1, 3)),
+    ("flipped-weight-3", CURVE_B, (B_XXX_1, B_X_10, B_XXX_10), (1, 3)),
+    ("u-alike-alone", CURVE_A, (X_1, XX_1, XX6X), (0, 0)),
+    ("own-opposite-once", CURVE_A, (X1_0, X_1, NEUTRAL), (0, 0)),
+    ("own-opposite-twice", CURVE_A, (X1_0, X_1, X1_0), (1, 3)),
+    ("neutral-twice", CURVE_A, (NEUTRAL, X1_0, NEUTRAL), (1, 3)),
+)

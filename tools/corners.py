@@ -16,7 +16,7 @@ import sys
 import ideals
 import reference as r
 from corner_table import (
-    CASE_P, CASE_P_COUNT, CASE_P_REPEAT, CASE_P_TOTAL, CURVE_A, CURVES, DIVISORS, NEUTRAL, SCALARS, X6_3, X_1, X_6, XX6X, XX_1,
+    CASE_P, CASE_P_COUNT, CASE_P_REPEAT, CASE_P_TOTAL, CURVE_A, CURVES, DIVISORS, FLIPPED, NEUTRAL, SCALARS, X6_3, X_1, X_6, XX6X, XX_1,
     XX_6, each_example, power_and_1,
 )  # fmt: skip
 from frames import (
@@ -147,6 +147,11 @@ def put_case_p():
     corner("empty-batch-repeat", Frame(FIRST_REPEAT, CURVE_A, b""), 0, more=(0, 0))
 
 
+def put_flipped():
+    for name, curve, batch, pair in FLIPPED:
+        corner(name, Frame(FIRST_REPEAT, curve, b"".join(batch)), 0, more=pair)
+
+
 def put_slips():
     """ "Slips a fitter would make", those that the corners above don't show: two reductions in genus 3, f_6 ≠ 0 with
     p = 7. The sums' results come from ideals.py."""
@@ -176,7 +181,7 @@ def put_slips():
 def made():
     """The data and the text that the corners are answered by."""
     if not frames:
-        for put in (put_sums, put_curves, put_bounds, put_case_p, put_slips):
+        for put in (put_sums, put_curves, put_bounds, put_case_p, put_flipped, put_slips):
             put()
     data = b"".join(map(encoded, frames))
     return data, "".join(map(text_of, decoded(data)))

@@ -5,12 +5,13 @@
     python3 tools/demo.py --check     writes nothing: they must be what it would write
 
 case-p is document 01's own. street-with-a-repeat has 40 meters on a curve of genus 3 modulo the largest prime, and meter 7 again as the
-41st. damaged-list is the same list with one bit turned in the last number of record 23.
+41st. street-with-a-flipped-meter has the same 40, and meter 12 again as the 41st, with its sign turned. damaged-list is the first list with
+one bit turned in the last number of record 23.
 """
 import os
 import sys
 
-from streets import CASE_P, CURVE_A, CURVE_M, meters
+from streets import CASE_P, CURVE_A, CURVE_M, flipped, meters
 
 HOME = os.path.normpath(os.path.join(os.path.dirname(os.path.abspath(__file__)), "..", "demo"))
 
@@ -22,6 +23,7 @@ def folders():
     damaged[22] = damaged[22][:-1] + bytes([damaged[22][-1] ^ 1])
     yield "case-p", CURVE_A, CASE_P
     yield "street-with-a-repeat", CURVE_M, b"".join(street)
+    yield "street-with-a-flipped-meter", CURVE_M, b"".join(street[:40] + [flipped(CURVE_M, street[11])])
     yield "damaged-list", CURVE_M, b"".join(damaged)
 
 

@@ -3,7 +3,7 @@
 
     python3 tools/reference.py tally DIR    prints what the program prints for DIR's files `curve` and `batch`
 
-It was written from document 01 and shares no code with the product. Where the document leaves a choice (the flat
+It was written from document 01 and, of document 02, W-205, and shares no code with the product. Where the document leaves a choice (the flat
 running total, the place in a double, an opposite or a multiple, the order of 16 and 17) it follows the project's settled
 readings, as the product does: on those the two agreeing says nothing about the reading. Headings in quotes are the document's own. Each public call is one
 function from the bytes lent to it to a pair: the answer's fields in the order of the call's answer, and the
@@ -224,14 +224,20 @@ def total_of(curve, divisors):
     return total
 
 
-def first_repeat_of(divisors):
-    """ "The first equal pair: least j, then least i < j, or none": (i, j) from 1, or (0, 0)."""
+def first_repeat_of(divisors, opposite):
+    """ "The first equal pair: least j, then least i < j, or none": (i, j) from 1, or (0, 0). By W-205 "two meters are
+    the same when their divisors are equal or opposite"; `opposite` gives a divisor's."""
     first_place = {}
     for j, divisor in enumerate(divisors, start=1):
-        if divisor in first_place:
-            return first_place[divisor], j
+        places = [first_place[same] for same in (divisor, opposite(divisor)) if same in first_place]
+        if places:
+            return min(places), j
         first_place[divisor] = j
     return 0, 0
+
+
+def first_repeat_on(curve, divisors):
+    return first_repeat_of(divisors, lambda divisor: opposite_of(curve, divisor))
 
 
 # ---------------------------------------------------------------------------------------------------------
@@ -444,7 +450,7 @@ def first_repeat(curve, batch):
 
     def work():
         on = read_curve(curve)
-        return None, first_repeat_of(read_batch(on, batch))
+        return None, first_repeat_on(on, read_batch(on, batch))
 
     return answered(work, extra=2)
 
@@ -518,7 +524,7 @@ def program_text(curve_file, batch_file):
         divisors = read_batch(curve, batch_file)
     except Refused as refusal:
         return "refused %d %d\n" % (refusal.number, refusal.place)
-    i, j = first_repeat_of(divisors)
+    i, j = first_repeat_on(curve, divisors)
     repeat = "repeat %d %d" % (i, j) if j else "repeat none"
     total = spaced_record(write_divisor(total_of(curve, divisors)))
     return "count %d\n%s\ntotal %s\n" % (len(divisors), repeat, total)

@@ -15,7 +15,7 @@ import tempfile
 
 import reference
 from records import curve_record, divisor_record
-from streets import CASE_P, CURVE_A, CURVE_B, CURVE_L, CURVE_M, LARGEST, NEUTRAL, X6_3, X_1, X_2, X_6, meters, points
+from streets import CASE_P, CURVE_A, CURVE_B, CURVE_L, CURVE_M, LARGEST, NEUTRAL, X1_0, X6_3, X_1, X_2, X_6, flipped, meters, points
 
 MISSING, DIRECTORY = None, "directory"
 HOME = os.path.normpath(os.path.join(os.path.dirname(os.path.abspath(__file__)), "..", "crates", "scenarios"))
@@ -83,7 +83,10 @@ def put_batches():
     refused("fault-at-4096", CURVE_A, NEUTRAL * 4095 + b"\xff", 9, 4096)
     scenario("4096-neutrals", CURVE_A, NEUTRAL * 4096, "count 4096\nrepeat 1 2\ntotal 00\n")
     scenario("one-neutral", CURVE_A, NEUTRAL, "count 1\nrepeat none\ntotal 00\n")
-    scenario("neutral-total", CURVE_A, X_1 + X_6, "count 2\nrepeat none\ntotal 00\n")
+    scenario("flipped-sign", CURVE_A, X_1 + X_6, "count 2\nrepeat 1 2\ntotal 00\n")
+    scenario("flipped-then-equal", CURVE_A, X6_3 + X_1 + X_6 + X6_3, "count 4\nrepeat 2 3\n")
+    scenario("equal-then-flipped", CURVE_A, X_1 + X6_3 + X6_3 + X_6, "count 4\nrepeat 2 3\n")
+    scenario("own-opposite", CURVE_A, X1_0 + X_1 + NEUTRAL, "count 3\nrepeat none\ntotal 02 ")
     scenario("least-j", CURVE_A, X_1 + X6_3 + NEUTRAL + X6_3 + X_1, "count 5\nrepeat 2 4\n")
     scenario("least-i", CURVE_A, X6_3 + X_1 + X_1 + X_1, "count 4\nrepeat 2 3\n")
     scenario("weight-1", CURVE_A, X_1, "count 1\nrepeat none\ntotal 01 " + "0" * 16 + " " + "0" * 15 + "1\n")
@@ -94,6 +97,8 @@ def put_streets():
         street = meters(curve, 100, weight)
         scenario("street-of-" + name, curve, b"".join(street), "count 100\nrepeat none\ntotal 0%d " % weight)
         scenario("street-of-%s-with-a-repeat" % name, curve, b"".join(street + street[41:42]), "count 101\nrepeat 42 101\n")
+        turned = street + [flipped(curve, street[41]), street[6]]
+        scenario("street-of-%s-with-a-flipped-meter" % name, curve, b"".join(turned), "count 102\nrepeat 42 101\n")
 
 
 def put(folder, name, content):

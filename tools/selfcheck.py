@@ -12,8 +12,8 @@ import sys
 import ideals
 import reference as r
 from corner_table import (
-    B_X_10, B_XXX_1, CASE_P, CASE_P_COUNT, CASE_P_REPEAT, CASE_P_TOTAL, CURVE_A, CURVE_B, CURVES, DIVISORS, NEUTRAL, SCALARS,
-    X1_0, X6_3, X_1, X_6, XX6X, XX_1, each_example,
+    B_X_10, B_XXX_1, B_XXX_10, CASE_P, CASE_P_COUNT, CASE_P_REPEAT, CASE_P_TOTAL, CURVE_A, CURVE_B, CURVES, DIVISORS, NEUTRAL, SCALARS,
+    X1_0, X6_3, X_1, X_6, XX6X, XX_1, XX_6, each_example,
 )  # fmt: skip
 from records import curve_record, divisor_record
 
@@ -204,18 +204,28 @@ def check_batches():
     for batch, pair in (
         (a + b, (0, 0)),
         (a + b + b + a, (2, 3)),
-        (a + b + c + a + b, (1, 4)),
+        (a + b + c + a + b, (1, 3)),
         (a + a + a, (1, 2)),
         (b"\0" + a + b"\0", (1, 3)),
-        (a + XX_1 + c + XX_1, (2, 4)),
+        (b"\0" + a, (0, 0)),
+        (a + c, (1, 2)),
+        (c + a, (1, 2)),
+        (b + a + c + b, (2, 3)),
+        (a + b + b + c, (2, 3)),
+        (XX_1 + a + XX_6, (1, 3)),
+        (a + XX_1, (0, 0)),
+        (X1_0 + a, (0, 0)),
+        (X1_0 + a + X1_0, (1, 3)),
     ):
         expect("repeat", r.first_repeat(CURVE_A, batch), ((0, 0, 0) + pair, None))
-    letters = "abcd"
+    for batch, pair in ((B_XXX_1 + B_X_10 + B_XXX_10, (1, 3)), (B_XXX_1 + B_X_10, (0, 0)), (B_X_10 + B_X_10 + B_XXX_1 + B_XXX_10, (1, 2))):
+        expect("repeat in genus 3", r.first_repeat(CURVE_B, batch), ((0, 0, 0) + pair, None))
+    # a letter's opposite has the other case, and 0 is its own
     for length in range(7):
-        for word in itertools.product(letters, repeat=length):
-            pairs = [(j, i) for j in range(1, length + 1) for i in range(1, j) if word[i - 1] == word[j - 1]]
+        for word in itertools.product("aAbB0", repeat=length):
+            pairs = [(j, i) for j in range(1, length + 1) for i in range(1, j) if word[i - 1].lower() == word[j - 1].lower()]
             j, i = min(pairs) if pairs else (0, 0)
-            expect("least j, then least i", r.first_repeat_of(word), (i, j))
+            expect("least j, then least i", r.first_repeat_of(word, str.swapcase), (i, j))
 
 
 def check_running_totals():
@@ -266,7 +276,7 @@ def check_program():
     )
     expect("empty batch", r.program_text(CURVE_A, b""), "count 0\nrepeat none\ntotal 00\n")
     expect("digits", r.program_text(CURVE_B, B_X_10), "count 1\nrepeat none\ntotal 01 0000000000000000 000000000000000a\n")
-    expect("A6", r.program_text(CURVE_A, X_1 + X_6), "count 2\nrepeat none\ntotal 00\n")
+    expect("W-205", r.program_text(CURVE_A, X_1 + X_6), "count 2\nrepeat 1 2\ntotal 00\n")
     full = b"\0" * 4096
     expect("4,096", r.program_text(CURVE_A, full), "count 4096\nrepeat 1 2\ntotal 00\n")
     expect("4,097", r.program_text(CURVE_A, full + b"\0"), "refused 14 0\n")

@@ -12,6 +12,7 @@ CURVE_M = curve_record(3, LARGEST, [5, 3, 0, 2, 0, 0, 1])  # y² = x^7 + x^6 + 2
 NEUTRAL = b"\x00"
 X_1, X_6, X_2 = (divisor_record([0], [v]) for v in (1, 6, 2))  # (x, 1), (x, 6) and (x, 2)
 X6_3 = divisor_record([6], [3])  # (x + 6, 3)
+X1_0 = divisor_record([1], [0])  # (x + 1, 0)
 CASE_P = X_1 + X6_3 + X_1
 
 
@@ -25,6 +26,12 @@ def points(curve, start=1):
         if y * y % p == square:
             yield divisor_record([(-x) % p], [y])
         x += 1
+
+
+def flipped(curve, record):
+    """What older firmware reports after a restart: the opposite divisor."""
+    on = reference.read_curve(curve)
+    return reference.write_divisor(reference.opposite_of(on, reference.read_divisor(on, record, 1)))
 
 
 def meters(curve, count, weight, start=1):

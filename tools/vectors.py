@@ -510,7 +510,7 @@ def put_batches(dice, collection, pools):
         put_with_outputs(dice, collection, Frame(TOTAL_BATCH, pool.record, batch), [any_output if n == 1 else enough_output])
         if n % 2:
             collection.put(Frame(FIRST_REPEAT, pool.record, batch))
-        # different divisors, or the same with one of them again
+        # different divisors, some of them opposite, or the same with one of them again
         different = sorted(set(drawn_batch(dice, pool, length) + [pool.anything() for _ in range(3)]))
         records = [r.write_divisor(a) for a in dice.turned(different)[: length + 1]]
         for _ in range(1 + dice.below(2) if n % 2 else 0):
@@ -853,11 +853,11 @@ def put_every_total_fault(dice, collection, pools):
 
 
 def put_long_batches(dice, collection, pools_of):
-    """4,096 and 4,097 records, kept small by neutral ones; a thousand different points."""
+    """4,096 and 4,097 records, kept small by neutral ones; seven hundred different points."""
     pool = pools_of[2, 2147483647][0]
     points = []
     x = 1
-    while len(points) < 1000:
+    while len(points) < 700:
         x += 1 + dice.below(1000)
         y = square_root(value_at(pool.curve.f, x, pool.curve.p), pool.curve.p)
         if y:
@@ -882,6 +882,30 @@ def put_long_batches(dice, collection, pools_of):
     collection.put(Frame(TOTAL_BATCH, curve, NEUTRAL_RECORD * 4097, b"", 49))
 
 
+def own_opposites(pool, w):
+    """Divisors of weight w with v = 0."""
+    if pool.whole:
+        return [a for a in pool.whole if len(a.u) == w + 1 and a == pool.opposite(a)]
+    return [pool.sum(*flats) for flats in itertools.combinations(pool.flats, w)]
+
+
+def put_repeats(dice, collection, pools_of):
+    """For each weight a repeat by sign with an equal pair behind it, the other way round, and divisors that are their own opposites."""
+    for g, p in itertools.product(GENERA, (5, 7, 11, 1009, 2147483647)):
+        pools = pools_of[g, p]
+        for w in range(1, g + 1):
+            pool = pools[w % len(pools)]
+            own = own_opposites(pool, w)
+            own = [dice.pick(own)] if own else []
+            drawn = [pool.sum(*pool.signed_points(w)) for _ in range(12)] + [pool.heavy() for _ in range(24)]
+            turned = [a for a in drawn if len(a.u) == w + 1 and a != pool.opposite(a)][:1]
+            batches = [own + own] if own else []
+            for a in turned:
+                batches += [own + [a, pool.opposite(a), a], [a, a, pool.opposite(a)]]
+            for batch in batches:
+                collection.put(Frame(FIRST_REPEAT, pool.record, b"".join(map(r.write_divisor, batch))))
+
+
 def made(seed):
     dice, collection = Dice(seed), Collection()
     pools_of = {}
@@ -899,12 +923,25 @@ def made(seed):
     put_every_divisor_fault(dice, collection, [pools_of[key][1] for key in ((2, 7), (3, 2147483647))])
     put_every_total_fault(dice, collection, [pools_of[key][1] for key in ((3, 11), (2, 2147483647))])
     put_long_batches(dice, collection, pools_of)
+    put_repeats(dice, collection, pools_of)
     return collection
 
 
 # ---------------------------------------------------------------------------------------------------------
 # The census: from the frames alone, as they are read back
 # ---------------------------------------------------------------------------------------------------------
+
+
+REPEATS = ("equal", "by sign", "its own opposite")
+
+
+def kinds_of_repeat(curve, divisors, i, j):
+    """What the first repeat of a batch is, and whether an equal pair stands behind one by sign."""
+    a, b = divisors[i - 1], divisors[j - 1]
+    kind = REPEATS[1] if a != b else REPEATS[2] if a == r.opposite_of(curve, a) else REPEATS[0]
+    yield curve.g, "%s, weight %d" % (kind, len(a.u) - 1)
+    if kind == REPEATS[1] and len(set(divisors)) < len(divisors):
+        yield curve.g, "a repeat by sign, an equal pair behind it"
 
 
 class Census:
@@ -915,6 +952,7 @@ class Census:
         self.numbers = Counter()
         self.outputs = Counter()
         self.batches = Counter()
+        self.repeats = Counter()
         self.done_per_curve = Counter()
         self.longest = Counter()
         self.shapes = Counter()
@@ -945,10 +983,13 @@ class Census:
         if operation in (TOTAL_BATCH, FIRST_REPEAT):
             if number == 0:
                 curve = r.read_curve(frame.curve)
-                size = len(r.read_batch(curve, frame.first))
+                divisors = r.read_batch(curve, frame.first)
+                size = len(divisors)
                 self.batches["empty" if size == 0 else "of one" if size == 1 else "of 4,096" if size == 4096 else "longer"] += 1
                 if operation == FIRST_REPEAT:
                     self.batches["a repeat" if fields[4] else "no repeat"] += 1
+                    if fields[4]:
+                        self.repeats.update(kinds_of_repeat(curve, divisors, *fields[3:5]))
             elif number == 8:
                 self.batches["a cut last record"] += 1
             elif number == 14:
@@ -1002,6 +1043,9 @@ class Census:
             ("no repeat", 50),
         ):  # fmt: skip
             need("batches: " + what, self.batches[what], least)
+        for g in GENERA:
+            for what in ["a repeat by sign, an equal pair behind it"] + ["%s, weight %d" % (kind, w) for kind in REPEATS for w in range(1, g + 1)]:
+                need("g = %d: %s" % (g, what), self.repeats[g, what], 5)
         # Neighbours in the order: each two stages that follow each other and can go together, in every call.
         for operation in range(CHECK_CURVE, SCAN + 1):
             stages = ["%s %s" % stage for stage in Base(None, operation, None).stages]
@@ -1048,6 +1092,8 @@ class Census:
         yield ""
         yield "outputs: " + ", ".join("%s %d" % pair for pair in sorted(self.outputs.items()))
         yield "batches: " + ", ".join("%s %d" % pair for pair in sorted(self.batches.items()))
+        for g in GENERA:
+            yield "repeats, g = %d: " % g + ", ".join("%s %d" % (what, n) for (h, what), n in sorted(self.repeats.items()) if h == g)
         singles = sum(1 for order in self.orders if len(order) == 2)
         yield "refusals: %d stages by themselves, %d pairs of faults where the earlier must win" % (
             singles,

@@ -3,7 +3,8 @@
 //!     bench [RUNS]                        medians of RUNS runs (15) of each work and engine, and their ratio
 //!     bench count ENGINE WORK CURVE N     does a work N times and prints nothing, for a counter of instructions
 //!
-//! ENGINE is `proved` or `plain`, WORK is `total` (a batch of 4,096 records) or `multiple` (a 256-bit scalar), CURVE is `2` for genus
+//! ENGINE is `proved` or `plain`, WORK is `total` (a batch of 4,096 records), `multiple` (a 256-bit scalar) or `repeat` (the first repeat
+//! among 4,096 different meters), CURVE is `2` for genus
 //! 2, `3` for genus 3 with f_6 = 0, or `3-f6` for genus 3 with another f_6; p is 2,147,483,647. Every call checks its curve and its records, in both engines. A program that was built without
 //! the library times plain against plain. Exit 1 where the engines' results differ, 2 on wrong arguments.
 
@@ -16,6 +17,9 @@ const RECORDS: usize = 4096;
 /// Curve, batch and output to number and length.
 type Total = fn(&[u8], &[u8], &mut [u8]) -> (u64, u64);
 
+/// Curve and batch to number, first and second.
+type Repeat = fn(&[u8], &[u8]) -> (u64, u64, u64);
+
 /// Curve, divisor, scalar and output to number and length.
 type Multiple = fn(&[u8], &[u8], &[u8], &mut [u8]) -> (u64, u64);
 
@@ -24,6 +28,7 @@ struct Engine {
     name: &'static str,
     total: Total,
     multiple: Multiple,
+    repeat: Repeat,
 }
 
 const PLAIN: Engine = Engine {
@@ -35,6 +40,10 @@ const PLAIN: Engine = Engine {
     multiple: |curve, a, scalar, out| {
         let answer = plain::multiply(curve, a, scalar, out);
         (answer.number, answer.length)
+    },
+    repeat: |curve, batch| {
+        let answer = plain::first_repeat(curve, batch);
+        (answer.number, answer.first, answer.second)
     },
 };
 
@@ -49,6 +58,10 @@ const PROVED: Engine = Engine {
         let answer = yubisorade::raw::multiply(curve, a, scalar, out);
         (answer.number, answer.length)
     },
+    repeat: |curve, batch| {
+        let answer = yubisorade::raw::first_repeat(curve, batch);
+        (answer.number, answer.first, answer.second)
+    },
 };
 #[cfg(not(feature = "proved"))]
 const PROVED: Engine = Engine { name: "plain (no library)", ..PLAIN };
@@ -57,15 +70,17 @@ const PROVED: Engine = Engine { name: "plain (no library)", ..PLAIN };
 enum Work {
     Total,
     Multiple,
+    Repeat,
 }
 
 impl Work {
-    const ALL: [Work; 2] = [Work::Total, Work::Multiple];
+    const ALL: [Work; 3] = [Work::Total, Work::Multiple, Work::Repeat];
 
     fn name(self) -> &'static str {
         match self {
             Work::Total => "total",
             Work::Multiple => "multiple",
+            Work::Repeat => "repeat",
         }
     }
 }
@@ -134,12 +149,18 @@ impl Input {
         &self.batch[self.batch.len() - 1 - 16 * usize::from(self.genus)..]
     }
 
-    /// Does a work once and gives the record that it wrote.
+    /// Does a work once and gives the record that it wrote, or the two places of a repeat.
     fn run(&self, engine: &Engine, work: Work) -> Vec<u8> {
         let mut out = [0; 49];
         let (number, length) = match work {
             Work::Total => (engine.total)(&self.curve, &self.batch, &mut out),
             Work::Multiple => (engine.multiple)(&self.curve, self.divisor(), &self.scalar, &mut out),
+            Work::Repeat => {
+                let (number, first, second) = (engine.repeat)(&self.curve, &self.batch);
+                out[..8].copy_from_slice(&first.to_be_bytes());
+                out[8..16].copy_from_slice(&second.to_be_bytes());
+                (number, 16)
+            }
         };
         if number != 0 {
             eprintln!("{} {} was refused: {}", engine.name, work.name(), number);
@@ -150,7 +171,7 @@ impl Input {
 }
 
 fn usage() -> ! {
-    eprintln!("usage: bench [RUNS]\n       bench count proved|plain total|multiple 2|3|3-f6 N");
+    eprintln!("usage: bench [RUNS]\n       bench count proved|plain total|multiple|repeat 2|3|3-f6 N");
     exit(2)
 }
 

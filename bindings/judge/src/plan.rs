@@ -167,6 +167,7 @@ fn small_batches(judge: &mut Judge, sample: &Sample) {
             plain::scan_lent(&mut lent, curve, record);
         }
         put_batch(judge, curve, &records.concat(), ROOM);
+        put_repeats(judge, sample, &records);
         if size > 0 {
             let whole = records.concat();
             let cut = judge.rng.below(whole.len() as u64) as usize;
@@ -177,6 +178,26 @@ fn small_batches(judge: &mut Judge, sample: &Sample) {
             let room = judge.rng.below(ROOM as u64 + 1) as usize;
             put_batch(judge, curve, &records.concat(), room);
         }
+    }
+}
+
+/// The records with one of them again, one with its sign turned, or both, at drawn places.
+fn put_repeats(judge: &mut Judge, sample: &Sample, records: &[Vec<u8>]) {
+    if records.is_empty() {
+        return;
+    }
+    for kind in 1..4 {
+        // Few records, so that what is put in is often the first repeat.
+        let kept = 1 + judge.rng.below(records.len().min(5) as u64) as usize;
+        let mut batch = records[..kept].to_vec();
+        for turned in [1, 2] {
+            if kind & turned != 0 {
+                let one = batch[judge.rng.below(batch.len() as u64) as usize].clone();
+                let at = judge.rng.below(batch.len() as u64 + 1) as usize;
+                batch.insert(at, if turned == 2 { sample.opposite(&one) } else { one });
+            }
+        }
+        judge.put(Call::FirstRepeat { curve: &sample.curve, batch: &batch.concat() }, 0);
     }
 }
 
@@ -220,12 +241,12 @@ fn large_batches(judge: &mut Judge, sample: &Sample) {
         records[MOST - 1] = faulty_divisor(&mut judge.rng, sample, faults);
         judge.put(Call::TotalBatch { curve, batch: &records.concat() }, ROOM);
     }
-    // One repeat, anywhere.
-    for _ in 0..2 {
+    // One repeat, anywhere, as it was or with its sign turned.
+    for n in 0..4 {
         let second = 1 + judge.rng.below(MOST as u64 - 1) as usize;
         let first = judge.rng.below(second as u64) as usize;
         let mut records = walk[..MOST].to_vec();
-        records[second] = records[first].clone();
+        records[second] = if n < 2 { records[first].clone() } else { sample.opposite(&records[first]) };
         judge.put(Call::FirstRepeat { curve, batch: &records.concat() }, 0);
     }
 }
@@ -679,6 +700,16 @@ mod tests {
         assert_eq!(differences(|_, _, _| ()), 0);
     }
 
+    fn records_of(mut batch: &[u8]) -> Vec<&[u8]> {
+        let mut records = Vec::new();
+        while let Some(&weight) = batch.first() {
+            let (record, rest) = batch.split_at(1 + 16 * usize::from(weight));
+            records.push(record);
+            batch = rest;
+        }
+        records
+    }
+
     #[test]
     fn wrong_answers_show() {
         assert!(differences(|_, _, r| r.place += u64::from(r.number == 11)) > 0);
@@ -689,6 +720,17 @@ mod tests {
             differences(|c, _, r| {
                 if matches!(c, Call::FirstRepeat { .. }) && r.counts[1] > 2 {
                     r.counts.swap(0, 1);
+                }
+            }) > 0
+        );
+        // A repeat by sign that isn't found, as before W-205.
+        assert!(
+            differences(|c, _, r| {
+                if let (Call::FirstRepeat { batch, .. }, true) = (c, r.counts[1] > 0) {
+                    let records = records_of(batch);
+                    if records[r.counts[0] as usize - 1] != records[r.counts[1] as usize - 1] {
+                        r.counts = [0; 2];
+                    }
                 }
             }) > 0
         );

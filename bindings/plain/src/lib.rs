@@ -184,7 +184,7 @@ pub fn multiply_inversion_free(curve: &[u8], a: &[u8], scalar: &[u8], out: &mut 
 pub fn total_batch(curve: &[u8], batch: &[u8], out: &mut [u8]) -> Total {
     let (mut sum, mut count) = (Divisor::NEUTRAL, 0);
     let result = read_curve(curve).and_then(|curve| {
-        each_record(&curve, batch, |divisor, _| {
+        each_record(&curve, batch, |divisor| {
             sum = curve.add(&sum, divisor);
             count += 1;
         })?;
@@ -194,15 +194,15 @@ pub fn total_batch(curve: &[u8], batch: &[u8], out: &mut [u8]) -> Total {
     Total { number, place, length, count: if number == 0 { count } else { 0 } }
 }
 
-/// The first repeat in a batch: the least j whose divisor stood before, and where it first stood.
+/// The first repeat in a batch: the least j whose divisor or its opposite stood before, and the first place where one did.
 pub fn first_repeat(curve: &[u8], batch: &[u8]) -> Repeat {
     let mut first_places = HashMap::new();
     let (mut found, mut place) = (None, 0);
     let result = read_curve(curve).and_then(|curve| {
-        // A divisor has one record, so equal records are equal divisors.
-        each_record(&curve, batch, |_, record| {
+        // Of a divisor and its opposite the one with the smaller v stands for both.
+        each_record(&curve, batch, |divisor| {
             place += 1;
-            match first_places.entry(record) {
+            match first_places.entry((divisor.weight, divisor.u, divisor.v.min(curve.opposite(divisor).v))) {
                 Entry::Occupied(earlier) => found = found.or(Some((*earlier.get(), place))),
                 Entry::Vacant(fresh) => {
                     fresh.insert(place);
@@ -249,12 +249,8 @@ fn read_pair(curve: &[u8], divisor: &[u8]) -> Result<(Curve, Divisor), Refused> 
     Ok((curve, divisor))
 }
 
-/// Hands every divisor of a batch with its record to `visit`, first to last, up to the first fault.
-fn each_record<'a>(
-    curve: &Curve,
-    mut batch: &'a [u8],
-    mut visit: impl FnMut(&Divisor, &'a [u8]),
-) -> Result<(), Refused> {
+/// Hands every divisor of a batch to `visit`, first to last, up to the first fault.
+fn each_record(curve: &Curve, mut batch: &[u8], mut visit: impl FnMut(&Divisor)) -> Result<(), Refused> {
     let mut place = 0;
     while !batch.is_empty() {
         if place == MOST_RECORDS {
@@ -262,7 +258,7 @@ fn each_record<'a>(
         }
         place += 1;
         let (divisor, rest) = read_first(curve, batch, place)?;
-        visit(&divisor, &batch[..batch.len() - rest.len()]);
+        visit(&divisor);
         batch = rest;
     }
     Ok(())

@@ -257,6 +257,29 @@ fn batches_to_the_limit() {
     assert_eq!(first_repeat(&c, &mixed), Repeat { first: 2, second: 3, ..Repeat::default() });
 }
 
+/// A meter is the same with its sign turned.
+#[test]
+fn repeats_by_sign() {
+    let (c, a, b, turned) = (curve_a(), divisor(&[0], &[1]), divisor(&[6], &[3]), divisor(&[0], &[6]));
+    let repeat = |records: &[&[u8]]| {
+        let Repeat { number, place, first, second, .. } = first_repeat(&c, &records.concat());
+        assert_eq!((number, place), (0, 0));
+        (first, second)
+    };
+    assert_eq!(repeat(&[&a, &turned]), (1, 2));
+    assert_eq!(repeat(&[&b, &turned, &a, &b]), (2, 3));
+    assert_eq!(repeat(&[&a, &b, &b, &turned]), (2, 3));
+    // The same u alone doesn't make the same meter, nor does the same point in two weights.
+    let (both, square, square_turned) = (divisor(&[0, 6], &[1, 2]), divisor(&[0, 0], &[1, 0]), divisor(&[0, 0], &[6, 0]));
+    let other = divisor(&[0, 6], &[1, 3]); // (x² + 6x, 3x + 1): through (0, 1) and (1, 4)
+    assert_eq!(repeat(&[&both, &other, &a, &b]), (0, 0));
+    assert_eq!(repeat(&[&square, &a, &square_turned]), (1, 3));
+    // (x + 1, 0) is its own opposite.
+    let own = divisor(&[1], &[0]);
+    assert_eq!(repeat(&[&own, &a, &[0]]), (0, 0));
+    assert_eq!(repeat(&[&own, &a, &own]), (1, 3));
+}
+
 #[test]
 fn running_totals_refused() {
     let (c, a) = (curve_a(), divisor(&[0], &[1]));

@@ -65,7 +65,7 @@ pub struct Total {
     pub count: u64,
 }
 
-/// Two equal divisors of a batch, by their places from 1.
+/// Two records of the same meter in a batch, whose divisors are equal or opposite, by their places from 1.
 #[derive(Clone, Copy, Debug, PartialEq, Eq)]
 pub struct Repeat {
     pub first: u64,
@@ -141,7 +141,8 @@ pub fn total_batch(curve: &[u8], batch: &[u8], out: &mut [u8]) -> Result<Total, 
     Ok(Total { length: answer.length as usize, count: answer.count })
 }
 
-/// Checks a whole batch, then finds its first two equal divisors: the least `second`, then the least `first` before it.
+/// Checks a whole batch, then finds the first two records of the same meter, whose divisors are equal or opposite: the least
+/// `second`, then the least `first` before it.
 ///
 /// The search needs some 460 KB of stack.
 pub fn first_repeat(curve: &[u8], batch: &[u8]) -> Result<Option<Repeat>, Refusal> {

@@ -47,7 +47,7 @@ pub struct YubiRepeat {
     pub number: u64,
     pub place: u64,
     pub length: u64,
-    /// Place of the earlier of the two equal divisors, from 1; 0 for none.
+    /// Place of the earlier of the two, from 1; 0 for none.
     pub first: u64,
     /// Place of the later one; 0 for none.
     pub second: u64,
@@ -248,7 +248,7 @@ pub fn total_batch(curve: &[u8], batch: &[u8], out: &mut [u8]) -> YubiTotal {
     unsafe { yubi_total_batch(curve.as_ptr(), curve.len(), batch.as_ptr(), batch.len(), out.as_mut_ptr(), out.len()) }
 }
 
-/// Finds the first two equal divisors of a batch.
+/// Finds the first two divisors of a batch that are equal or opposite.
 pub fn first_repeat(curve: &[u8], batch: &[u8]) -> YubiRepeat {
     unsafe { yubi_first_repeat(curve.as_ptr(), curve.len(), batch.as_ptr(), batch.len()) }
 }

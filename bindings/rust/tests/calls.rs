@@ -65,6 +65,13 @@ fn the_pole_of_the_contract() {
     assert_eq!(out[..33], divisor(&[4, 4], &[0, 1])[..]);
     assert_eq!(first_repeat(&c, &batch), Ok(Some(Repeat { first: 1, second: 3 })));
     assert_eq!(first_repeat(&c, &batch[..34]), Ok(None));
+    // The sign turned: W-205.
+    let turned = [&a[..], &divisor(&[0], &[6])].concat();
+    assert_eq!(first_repeat(&c, &turned), Ok(Some(Repeat { first: 1, second: 2 })));
+    assert_eq!(total_batch(&c, &turned, &mut out), Ok(Total { length: 1, count: 2 }));
+    let own = divisor(&[1], &[0]);
+    assert_eq!(first_repeat(&c, &[&own[..], &a].concat()), Ok(None));
+    assert_eq!(first_repeat(&c, &[&own[..], &own].concat()), Ok(Some(Repeat { first: 1, second: 2 })));
 
     let mut total = RunningTotal::fresh();
     for record in batch.chunks(17) {
