@@ -33,12 +33,14 @@ use Rattle.rules.proofs.calls.Totals.{subtotal, adds}
 use Rattle.rules.proofs.calls.Scans.{ScanDone, running-result, scans, AllDone}
 use Rattle.rules.proofs.calls.Delivered.{Kept}
 use Rattle.rules.proofs.calls.Taken.{total-result}
+use Rattle.rules.proofs.calls.Keys.{EmptyKey}
 use Rattle.rules.proofs.calls.Rewrites
 use Rattle.rules.proofs.calls.Written
 use Rattle.rules.proofs.calls.Delivered
 use Rattle.rules.proofs.calls.Repeats
 use Rattle.rules.proofs.calls.Same as SameLaws
 use Rattle.rules.proofs.calls.Taken
+use Rattle.rules.proofs.calls.Keys
 use Rattle.rules.proofs.calls.Done
 use Rattle.rules.proofs.calls.Sums
 use Rattle.rules.proofs.calls.Totals
@@ -95,7 +97,7 @@ opposite-back s a out e = let t = Done.opposite-took s a out e in (t .0, t .1, D
 
 pub multiply-back : (s a n out : List ℕ) → answered (multiply-call s a n out) ≡ 0
     → TookCurve s (λ c. OneDone (λ c x. multiple (curve c) (number n) x) c a out (bare (multiply-call s a n out)))
-multiply-back s a n out e = let t = Done.multiply-took s a n out e in (t .0, t .1, (Done.multiply-done s a out (t .1) n e) .1)
+multiply-back s a n out e = let t = Done.multiply-took s a n out e in (t .0, t .1, (Done.multiply-done s a out (t .1) n e) .one)
 
 pub total-back : (s records out : List ℕ) → answered (total-call s records out) ≡ 0 → TookCurve s (λ c. TotalDone c records out (total-call s records out))
 total-back s records out e = let t = Done.total-took s records out e in (t .0, t .1, Done.total-done s records out (t .1) e)
@@ -123,15 +125,20 @@ module _ (s : List ℕ) where
   pub cancels : (a o1 out : List ℕ) → answered (opposite-call s a o1) ≡ 0 → add-call s a (front (opposite-call s a o1)) out ≡ write out (0 ∷ [])
   cancels = Sums.add-opposite s
 
-  -- multiples: n-fold, then m-fold, is mn-fold; m-fold plus n-fold is (m + n)-fold. The scalars have at most 32 bytes
+  -- multiples: n-fold, then m-fold, is mn-fold; m-fold plus n-fold is (m + n)-fold. The scalars have at most 32 bytes, and no step gives 19 (the first law
+  -- needs that of the n-fold alone: where the mn-fold is neutral, both ways give 19)
   pub multiplies : (a m n k o1 out : List ℕ) → answered (multiply-call s a n o1) ≡ 0 → length m ≤ 32 → length k ≤ 32 → number k ≡ number m * number n
       → bare (multiply-call s (front (multiply-call s a n o1)) m out) ≡ bare (multiply-call s a k out)
   multiplies = Sums.multiply-mul s
 
   pub distributes : (a m n k o1 o2 out : List ℕ) → answered (multiply-call s a m o1) ≡ 0 → answered (multiply-call s a n o2) ≡ 0
-      → length k ≤ 32 → number k ≡ number m + number n
+      → length k ≤ 32 → number k ≡ number m + number n → (answered (multiply-call s a k out) ≡ 19 → ⊥)
       → add-call s (front (multiply-call s a m o1)) (front (multiply-call s a n o2)) out ≡ bare (multiply-call s a k out)
   distributes = Sums.multiply-add s
+
+  -- no empty keys (W-207): 19 exactly where the divisor given or the multiple is neutral, the earlier checks passing, whatever the output; so for scalar 0
+  pub refuses-empty : (a n out : List ℕ) → (answered (multiply-call s a n out) ≡ 19) ↔ EmptyKey s a n
+  refuses-empty = Keys.empty-key s
 
 -- ---- demand 3: totals
 module _ (s : List ℕ) {c : CurveRecord} (ec : read-curve s ≡ taken c) (rs : List (List ℕ)) (good : AllRecords c rs) where

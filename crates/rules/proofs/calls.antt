@@ -22,6 +22,7 @@ pub mod Same
 pub mod Repeats
 -- the calls
 pub mod Taken
+pub mod Keys
 pub mod Done
 pub mod Sums
 pub mod ListLaws

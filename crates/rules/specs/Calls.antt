@@ -1,6 +1,6 @@
 -- Document 01, "Numbers the tablet shows": each call as a function from the bytes lent to its whole answer and to every byte of the output as it
 -- returns. A call's rule is what it comes to, its checks in their order and then a result; `deliver` makes the answer of it, the same for every call: 13
--- where the output is too short, and a refusal has length 0, none of the call's own numbers, and leaves the output as it was. Here are the numbers 12 to 15;
+-- where the output is too short, and a refusal has length 0, none of the call's own numbers, and leaves the output as it was. Here are the numbers 12 to 15 and 19;
 -- 16 and 17 are the program's (texts). At the end, of "The pole's list", the running total and the scan.
 use Prim.Native.Nat.{ℕ, _+_}
 use mathlib.Core.List.{List, [], _∷_, _++_}
@@ -11,7 +11,7 @@ use Rattle.rules.specs.Bytes.{number}
 use Rattle.rules.specs.Pair.{neutral, opposite}
 use Rattle.rules.specs.Sum.{sum, double}
 use Rattle.rules.specs.Multiple.{multiple, doublings, additions}
-use Rattle.rules.specs.Tests.{on-curve?}
+use Rattle.rules.specs.Tests.{weighs?, on-curve?}
 use Rattle.rules.specs.Checks.{Checked, refused, taken, choose, Check, first-failed, go-on}
 use Rattle.rules.specs.Records.{both, CurveRecord, curve, PairOf, made-of, below?, elements, numbers, read-curve, read-divisor, curve-bytes, divisor-bytes}
 use Rattle.rules.specs.Lists.{batch, most, Repeat, first-repeat}
@@ -89,14 +89,22 @@ add-call s a b out = deliver tt out (
     go-on (read-divisor c 2 b) (λ y.
     taken (record { bytes = divisor-bytes (c .p) (sum (curve c) x y); own = tt })))))
 
--- ---- a multiple, with its two counts, doublings and additions; 12 where the scalar has over 32 bytes
+-- ---- a multiple y of x, with its two counts, doublings and additions; 12 where the scalar has over 32 bytes, then 19 where x or y is neutral (W-207)
+abbrev pub multiply-checks : (c : CurveRecord) → List ℕ → PairOf c → PairOf c → List Check
+multiply-checks c scalar x y =
+    (leb (length scalar) 32, 12, 0) ∷
+    (weighs? x, 19, 0) ∷
+    (weighs? y, 19, 0) ∷
+    []
+
 unfoldable pub multiply-call : List ℕ → List ℕ → List ℕ → List ℕ → Reply (ℕ × ℕ)
 unfolding number read-curve divisor-bytes multiple doublings additions
 multiply-call s a scalar out = deliver (0, 0) out (
     go-on (read-curve s) (λ c.
     go-on (read-divisor c 1 a) (λ x.
-    first-failed ((leb (length scalar) 32, 12, 0) ∷ [])
-    (record { bytes = divisor-bytes (c .p) (multiple (curve c) (number scalar) x); own = (doublings (number scalar), additions (number scalar)) }))))
+    let y : PairOf c = multiple (curve c) (number scalar) x in
+    first-failed (multiply-checks c scalar x y)
+    (record { bytes = divisor-bytes (c .p) y; own = (doublings (number scalar), additions (number scalar)) }))))
 
 -- ---- a batch: its total with the count of records, its first repeat
 unfoldable pub total-call : List ℕ → List ℕ → List ℕ → Reply ℕ

@@ -59,7 +59,7 @@ pub fn add(curve: &[u8], a: &[u8], b: &[u8], out: &mut [u8]) -> Answer
     }
 }
 
-// What every multiplication reads and checks: number 12 where the scalar is too long.
+// What every multiplication reads and checks: number 12 where the scalar is too long, then 19 where the divisor is neutral.
 fn read_factors(curve: &[u8], a: &[u8], scalar: &[u8]) -> One
     ensures { λ r. ⌜ FactorsIs (now (curve .entry)) (now (a .entry)) (now (scalar .entry)) r ⌝ }
 {
@@ -76,15 +76,30 @@ fn read_factors(curve: &[u8], a: &[u8], scalar: &[u8]) -> One
             divisor: Divisor::Neutral,
         };
     }
+    let d = x.divisor;
+    let given = d.weight();
+    if given == 0 {
+        let c = x.curve;
+        return One {
+            number: refusals::EMPTY_KEY,
+            place: 0,
+            curve: c,
+            divisor: d,
+        };
+    }
     x
 }
 
-// What every multiplication writes and answers.
+// What every multiplication writes and answers: number 19 where the multiple is neutral, then 13 where the output is too short.
 fn write_multiple(y: Multiple, m: Modulus, out: &mut [u8]) -> MultipleAnswer
     requires { ⌜ Held m (y .divisor) ⌝ }
     ensures { λ r. ⌜ WroteMultiple y m (now (out .entry)) r (now (out .exit)) ⌝ }
 {
     let e = y.divisor;
+    let w = e.weight();
+    if w == 0 {
+        return MultipleAnswer::Refused(refusals::EMPTY_KEY, 0);
+    }
     let n = answers::write_out(e, m, out);
     if n == 0 {
         return MultipleAnswer::Refused(refusals::OUTPUT_LENGTH, 0);

@@ -7,8 +7,6 @@ use mathlib.Core.List.{List, [], _∷_, _++_}
 use mathlib.Core.Bool.{true}
 use mathlib.Core.Logic.{_⊎_, inl, inr}
 use native.Mathlib.Omega.{arith}
-use lib.Dec.{leb}
-use lib.ListN.{length}
 use Rattle.rules.specs.Bytes.{number}
 use Rattle.rules.specs.Pair.{neutral, opposite}
 use Rattle.rules.specs.Sum.{sum, double}
@@ -16,7 +14,7 @@ use Rattle.rules.specs.Multiple.{multiple}
 use Rattle.rules.specs.Checks.{Checked, refused, taken, first-failed, go-on}
 use Rattle.rules.specs.Records.{CurveRecord, curve, PairOf, read-curve, read-divisor}
 use Rattle.rules.specs.Lists.{batch}
-use Rattle.rules.specs.Calls.{Result, Reply, deliver, check-curve, check-divisor, rewrite-curve, from-one, rewrite-divisor, double-call, opposite-call, add-call, multiply-call, total-call, repeat-call, Running, resume, scan-call}
+use Rattle.rules.specs.Calls.{Result, Reply, deliver, check-curve, check-divisor, rewrite-curve, from-one, rewrite-divisor, double-call, opposite-call, add-call, multiply-checks, multiply-call, total-call, repeat-call, Running, resume, scan-call}
 use Rattle.rules.proofs.calls.Checks.{refused-as}
 use Rattle.rules.proofs.calls.Places.{At, None, Placed, elsewhere, placed-on, placed-taken, curve-place, divisor-place, resume-place, Faulty, batch-place}
 use Rattle.rules.proofs.calls.Delivered.{delivered-place}
@@ -83,11 +81,12 @@ module _ (s out : List ℕ) where
       K : ℕ → ℕ → Type 0
       K = On s (λ c. OfTwo c a b)
 
-  -- 12 has place 0
+  -- 12 and 19 have place 0
   pub multiply-place : (a scalar : List ℕ) → Stands Alone (multiply-call s a scalar out)
   unfolding multiply-call
   multiply-place a scalar = delivered-place no-counts out Alone _ (on-curve Alone s _ (λ c e. alone c a _ (λ x n j q.
-      refused-as (multiple-result c (number scalar) x) (At Alone) ((leb (length scalar) 32, 12, 0) ∷ []) (elsewhere Alone (λ l u. omega arith) refl, tt) q)))
+      refused-as (multiple-result c (number scalar) x) (At Alone) (multiply-checks c scalar x (multiple (curve c) (number scalar) x))
+      (elsewhere Alone (λ l u. omega arith) refl, (elsewhere Alone (λ l u. omega arith) refl, (elsewhere Alone (λ l u. omega arith) refl, tt))) q)))
 
   pub total-place : (records : List ℕ) → Stands (On s (λ c. Faulty c records)) (total-call s records out)
   unfolding total-call

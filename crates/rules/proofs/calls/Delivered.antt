@@ -1,5 +1,5 @@
 -- One way to refuse, of every call at once: a call's rule is `deliver` of what its checks and its result come to. Gives: on a number other
--- than 0 the length is 0, the output is as it was and the call's own numbers are `none` (`refused-kept`); what it comes to where it answers 0 (`delivered`, `came-on`); that its place
+-- than 0 the length is 0, the output is as it was and the call's own numbers are `none` (`refused-kept`); what it comes to where it answers 0 (`delivered`, `came-on`), or a number that what it read first can't give (`came-past`); that its place
 -- is that of what was refused (`delivered-place`).
 -- Open: `Kept`, `full`.
 use Prim.Native.Nat.{ℕ, _≤_, _<_}
@@ -55,11 +55,16 @@ module _ {N : Type 0} (none : N) (out : List ℕ) where
       go true q e = absurd (omega arith)
       go false q e = record { result = r; is = refl; room = ltb-false (length out) (length (r .bytes)) q; reply = ap (λ t. choose t (stop none out 13 0) (full r)) q }
 
-  -- and so the first that was read was taken
+  -- it answered a number that what was read first is never refused with: that was taken
+  pub came-past : (l : ℕ) {A : Type 0} (x : Checked A) (go : A → Checked (Result N)) → ((n k : ℕ) → x ≡ refused n k → n ≡ l → ⊥) → (deliver none out (go-on x go)) .answer .number ≡ l
+      → (a : A) × (x ≡ taken a) × ((deliver none out (go a)) .answer .number ≡ l)
+  came-past l (refused n k) go h e = absurd (h n k refl e)
+  came-past l (taken a) go h e = (a, refl, e)
+
+  -- and so where it answered 0
   pub came-on : {A : Type 0} (x : Checked A) (go : A → Checked (Result N)) → Numbered x → (deliver none out (go-on x go)) .answer .number ≡ 0
       → (a : A) × (x ≡ taken a) × ((deliver none out (go a)) .answer .number ≡ 0)
-  came-on (refused n k) go h e = absurd (omega (arith, h n k refl, e))
-  came-on (taken a) go h e = (a, refl, e)
+  came-on x go h e = came-past 0 x go (λ n k q z. omega (arith, h n k q, z)) e
 
   pub delivered-place : (K : ℕ → ℕ → Type 0) (x : Checked (Result N)) → Placed K x → At K ((deliver none out x) .answer .number) ((deliver none out x) .answer .place)
   delivered-place K (refused n k) p = p n k refl

@@ -1,21 +1,21 @@
 -- Calls that answered 0: all that they read was taken, the result stands at the front of the output, and read back it is taken (`OneDone`,
--- `AddDone`, `TotalDone`); whatever call it was, its curve was taken (`add-took` and its like).
+-- `MultiplyDone`, `AddDone`, `TotalDone`); whatever call it was, its curve was taken (`add-took` and its like).
 use Prim.Native.Nat.{ℕ, _≤_, _<_}
 use mathlib.Core.Path.{_≡_, sym, ap, _∙_}
-use mathlib.Core.List.{List, [], _∷_, map}
-use mathlib.Core.Bool.{true}
+use mathlib.Core.List.{List, map}
+use mathlib.Core.Bool.{Bool, true}
 use native.Mathlib.Omega.{arith}
-use lib.Dec.{leb}
 use lib.ListN.{length}
 use borrow.Author.Tests.{leb-true}
 use Rattle.rules.specs.Bytes.{number}
 use Rattle.rules.specs.Pair.{Valid, neutral, opposite}
 use Rattle.rules.specs.Sum.{sum, double}
 use Rattle.rules.specs.Multiple.{multiple, total}
-use Rattle.rules.specs.Checks.{Checked, taken, Check, first-failed, go-on}
+use Rattle.rules.specs.Tests.{weighs?}
+use Rattle.rules.specs.Checks.{Checked, taken, choose, Check, first-failed, go-on}
 use Rattle.rules.specs.Records.{CurveRecord, curve, PairOf, read-curve, read-divisor, divisor-bytes}
 use Rattle.rules.specs.Lists.{batch}
-use Rattle.rules.specs.Calls.{Result, Reply, put, deliver, write, rewrite-curve, from-one, rewrite-divisor, double-call, opposite-call, add-call, multiply-call, total-call}
+use Rattle.rules.specs.Calls.{Result, Reply, stop, put, deliver, write, rewrite-curve, from-one, rewrite-divisor, double-call, opposite-call, add-call, multiply-checks, multiply-call, total-call}
 use Rattle.rules.proofs.Demand3.{Demand3}
 use Rattle.rules.proofs.calls.CurveRecords.{Accepts, accepts}
 use Rattle.rules.proofs.calls.Accepted.{accepts-laws}
@@ -44,6 +44,13 @@ pub record OneDone (f : (c : CurveRecord) → PairOf c → PairOf c) (c : CurveR
 abbrev pub Closed : ((c : CurveRecord) → PairOf c → PairOf c) → Type 0
 Closed f = (c : CurveRecord) → Demand3 (curve c) → (x : PairOf c) → Valid (curve c) x → Valid (curve c) (f c x)
 
+-- a multiple: its scalar has at most 32 bytes, and neither the divisor nor the multiple is neutral
+pub record MultiplyDone (c : CurveRecord) (a scalar out : List ℕ) (w : Reply (ℕ × ℕ)) : Type 0 where
+  pub short : length scalar ≤ 32
+  pub one : OneDone (λ c x. multiple (curve c) (number scalar) x) c a out (bare w)
+  pub given : weighs? (one .x) ≡ true
+  pub made : weighs? (multiple (curve c) (number scalar) (one .x)) ≡ true
+
 module _ (s a out : List ℕ) {c : CurveRecord} (ec : read-curve s ≡ taken c) where
   ok : Accepts c
   ok = accepts s ec
@@ -69,34 +76,30 @@ module _ (s a out : List ℕ) {c : CurveRecord} (ec : read-curve s ≡ taken c) 
   unfolding opposite-call
   opposite-done e = one-done (λ c x. opposite x) (λ c h x v. h .opposite-closed x v) e
 
-  -- with a scalar of at most 32 bytes
-  pub multiply-done : (scalar : List ℕ) → answered (multiply-call s a scalar out) ≡ 0
-      → (length scalar ≤ 32) × OneDone (λ c x. multiple (curve c) (number scalar) x) c a out (bare (multiply-call s a scalar out))
+  pub multiply-done : (scalar : List ℕ) → answered (multiply-call s a scalar out) ≡ 0 → MultiplyDone c a scalar out (multiply-call s a scalar out)
   unfolding multiply-call
   multiply-done scalar e =
       let r = came-on no-counts out (read-divisor c 1 a) _ (divisor-numbered c 1 true a 0) (ap (λ x. answered (deliver no-counts out x)) (sym (on-taken _ _ ec)) ∙ e) in
-      let q = delivered no-counts out (scalar-checked (r .0)) (scalar-numbered (r .0)) (r .2) in
-      let l : length scalar ≤ 32 = leb-true _ _ ((all-passed (multiple-result c (number scalar) (r .0)) scalar-checks (q .is)) .0 .0) in
-      (l, finish (r .0) (r .1) l)
+      let q = delivered no-counts out (checked (r .0)) (numbered (r .0)) (r .2) in
+      let t = (all-passed (multiple-result c (number scalar) (r .0)) (checks (r .0)) (q .is)) .0 in
+      finish (r .0) (r .1) (leb-true _ _ (t .0)) (t .1 .0) (t .1 .1 .0)
     where
-      scalar-checks : List Check
-      scalar-checks = (leb (length scalar) 32, 12, 0) ∷ []
+      checks : PairOf c → List Check
+      checks x = multiply-checks c scalar x (multiple (curve c) (number scalar) x)
 
-      scalar-checked : PairOf c → Checked (Result (ℕ × ℕ))
-      scalar-checked x = first-failed scalar-checks (multiple-result c (number scalar) x)
+      checked : PairOf c → Checked (Result (ℕ × ℕ))
+      checked x = first-failed (checks x) (multiple-result c (number scalar) x)
 
-      scalar-numbered : (x : PairOf c) → Numbered (scalar-checked x)
-      scalar-numbered x n k e = refused-as (multiple-result c (number scalar) x) (λ n k. 0 < n) scalar-checks (omega arith, tt) e
+      numbered : (x : PairOf c) → Numbered (checked x)
+      numbered x n k e = refused-as (multiple-result c (number scalar) x) (λ n k. 0 < n) (checks x) (omega arith, (omega arith, (omega arith, tt))) e
 
-      finish : (x : PairOf c) → read-divisor c 1 a ≡ taken x → length scalar ≤ 32
-          → OneDone (λ c x. multiple (curve c) (number scalar) x) c a out (bare (multiply-call s a scalar out))
-      finish x h l = let is = multiply-written s ec a h out scalar l in
-          record {
-            x = x;
-            a-is = h;
-            is = is;
-            back = read-back c ok (multiple (curve c) (number scalar) x) ((accepts-laws c ok) .multiple-closed (number scalar) x (divisor-valid c 1 true a 0 h)) out is e;
-          }
+      finish : (x : PairOf c) → read-divisor c 1 a ≡ taken x → length scalar ≤ 32 → weighs? x ≡ true → weighs? (multiple (curve c) (number scalar) x) ≡ true
+          → MultiplyDone c a scalar out (multiply-call s a scalar out)
+      finish x h l given made =
+          let y : PairOf c = multiple (curve c) (number scalar) x in
+          let is = multiply-written s ec a h out scalar l given ∙ ap (λ (t : Bool). choose t (write out (divisor-bytes (c .p) y)) (stop tt out 19 0)) made in
+          let back = read-back c ok y ((accepts-laws c ok) .multiple-closed (number scalar) x (divisor-valid c 1 true a 0 h)) out is e in
+          record { short = l; one = record { x = x; a-is = h; is = is; back = back }; given = given; made = made }
 
 -- ---- the sum of two
 pub record AddDone (c : CurveRecord) (a b out : List ℕ) (w : Written) : Type 0 where

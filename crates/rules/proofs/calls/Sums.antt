@@ -3,15 +3,16 @@
 use Prim.Native.Nat.{ℕ, _+_, _*_, _≤_}
 use mathlib.Core.Path.{_≡_, refl, sym, ap, _∙_}
 use mathlib.Core.List.{List, [], _∷_}
-use mathlib.Core.Bool.{true}
+use mathlib.Core.Bool.{Bool, true, false}
 use lib.ListN.{length}
 use Rattle.rules.specs.Bytes.{number}
 use Rattle.rules.specs.Pair.{neutral}
 use Rattle.rules.specs.Sum.{sum, double}
 use Rattle.rules.specs.Multiple.{multiple}
-use Rattle.rules.specs.Checks.{Checked, refused, taken, go-on}
+use Rattle.rules.specs.Tests.{weighs?}
+use Rattle.rules.specs.Checks.{Checked, refused, taken, choose, go-on}
 use Rattle.rules.specs.Records.{CurveRecord, curve, PairOf, read-curve, read-divisor, divisor-bytes}
-use Rattle.rules.specs.Calls.{deliver, write, from-one, rewrite-divisor, double-call, opposite-call, add-call, multiply-call}
+use Rattle.rules.specs.Calls.{stop, deliver, write, from-one, rewrite-divisor, double-call, opposite-call, add-call, multiply-call}
 use Rattle.rules.proofs.cantor.Pairs.{neutral-valid}
 use Rattle.rules.proofs.calls.Tests.{taken-inj}
 use Rattle.rules.proofs.calls.CurveRecords.{Accepts, accepts}
@@ -19,7 +20,7 @@ use Rattle.rules.proofs.calls.Accepted.{curve-laws}
 use Rattle.rules.proofs.calls.DivisorRecords.{divisor-read, divisor-taken, divisor-valid, divisor-reread}
 use Rattle.rules.proofs.calls.Refusals.{on-taken}
 use Rattle.rules.proofs.calls.Written.{only, front, answered, bare}
-use Rattle.rules.proofs.calls.Taken.{add-is, multiply-written}
+use Rattle.rules.proofs.calls.Taken.{write-key, add-is, multiply-written}
 use Rattle.rules.proofs.calls.Done.{add-done, opposite-done, multiply-done, add-took, opposite-took, multiply-took}
 
 -- two that go on alike are alike
@@ -38,6 +39,15 @@ neutral-read c ok k = ap (read-divisor c k) (sym (neutral-bytes (c .p))) ∙ div
 -- a record is read alike at every place
 elsewhere : (c : CurveRecord) (k j : ℕ) (a : List ℕ) {x : PairOf c} → read-divisor c k a ≡ taken x → read-divisor c j a ≡ taken x
 elsewhere c k j a e = let r = divisor-read c k true a 0 e in divisor-taken c j true a 0 (r .0) ∙ ap taken (r .1)
+
+-- a multiple that isn't refused 19 is written
+key-kept : (c : CurveRecord) (out : List ℕ) (y : PairOf c) → (answered (write-key c out y) ≡ 19 → ⊥) → write out (divisor-bytes (c .p) y) ≡ write-key c out y
+key-kept c out y some = go (weighs? y) some
+  where
+    go : (t : Bool) → (answered (choose t (write out (divisor-bytes (c .p) y)) (stop tt out 19 0)) ≡ 19 → ⊥)
+        → write out (divisor-bytes (c .p) y) ≡ choose t (write out (divisor-bytes (c .p) y)) (stop tt out 19 0)
+    go true some = refl
+    go false some = absurd (some refl)
 
 module _ (s : List ℕ) where
   -- ---- whatever the bytes are
@@ -94,29 +104,30 @@ module _ (s : List ℕ) where
 
   -- ---- multiples; m, n and k are scalars
   module _ (a : List ℕ) where
-    -- n-fold and then m-fold is mn-fold
+    -- n-fold and then m-fold is mn-fold, and 19 where that is neutral, both ways
     pub multiply-mul : (m n k o1 out : List ℕ) → answered (multiply-call s a n o1) ≡ 0 → length m ≤ 32 → length k ≤ 32 → number k ≡ number m * number n
         → bare (multiply-call s (front (multiply-call s a n o1)) m out) ≡ bare (multiply-call s a k out)
     multiply-mul m n k o1 out e lm lk is = let t = multiply-took s a n o1 e in go (t .0) (t .1)
       where
         go : (c : CurveRecord) → read-curve s ≡ taken c → bare (multiply-call s (front (multiply-call s a n o1)) m out) ≡ bare (multiply-call s a k out)
-        go c ec = let r = (multiply-done s a o1 ec n e) .1 in
-            multiply-written s ec (front (multiply-call s a n o1)) (r .back 1) out m lm
-            ∙ ap (λ (d : PairOf c). write out (divisor-bytes (c .p) d))
+        go c ec = let d = multiply-done s a o1 ec n e in let r = d .one in
+            multiply-written s ec (front (multiply-call s a n o1)) (r .back 1) out m lm (d .made)
+            ∙ ap (write-key c out)
             (sym (ap (λ (i : ℕ). multiple (curve c) i (r .x)) is ∙ (curve-laws s ec) .fold-mul (number m) (number n) (r .x) (divisor-valid c 1 true a 0 (r .a-is))))
-            ∙ sym (multiply-written s ec a (r .a-is) out k lk)
+            ∙ sym (multiply-written s ec a (r .a-is) out k lk (d .given))
 
-    -- m-fold and n-fold added is (m + n)-fold
+    -- m-fold and n-fold added is (m + n)-fold, where that isn't refused 19
     pub multiply-add : (m n k o1 o2 out : List ℕ) → answered (multiply-call s a m o1) ≡ 0 → answered (multiply-call s a n o2) ≡ 0
-        → length k ≤ 32 → number k ≡ number m + number n
+        → length k ≤ 32 → number k ≡ number m + number n → (answered (multiply-call s a k out) ≡ 19 → ⊥)
         → add-call s (front (multiply-call s a m o1)) (front (multiply-call s a n o2)) out ≡ bare (multiply-call s a k out)
-    multiply-add m n k o1 o2 out e e' lk is = let t = multiply-took s a n o2 e' in go (t .0) (t .1)
+    multiply-add m n k o1 o2 out e e' lk is some = let t = multiply-took s a n o2 e' in go (t .0) (t .1)
       where
         go : (c : CurveRecord) → read-curve s ≡ taken c → add-call s (front (multiply-call s a m o1)) (front (multiply-call s a n o2)) out ≡
             bare (multiply-call s a k out)
-        go c ec = let q = (multiply-done s a o1 ec m e) .1 in let r = (multiply-done s a o2 ec n e') .1 in
+        go c ec = let q = (multiply-done s a o1 ec m e) .one in let d = multiply-done s a o2 ec n e' in let r = d .one in
+            let is-key = multiply-written s ec a (r .a-is) out k lk (d .given) in
             add-is s ec (front (multiply-call s a m o1)) (q .back 1) out (front (multiply-call s a n o2)) (r .back 2)
             ∙ ap (λ (d : PairOf c). write out (divisor-bytes (c .p) d))
             (ap (λ (x : PairOf c). sum (curve c) (multiple (curve c) (number m) x) (multiple (curve c) (number n) (r .x))) (taken-inj (sym (q .a-is) ∙ r .a-is))
             ∙ sym (ap (λ (i : ℕ). multiple (curve c) i (r .x)) is ∙ (curve-laws s ec) .fold-add (number m) (number n) (r .x) (divisor-valid c 1 true a 0 (r .a-is))))
-            ∙ sym (multiply-written s ec a (r .a-is) out k lk)
+            ∙ key-kept c out (multiple (curve c) (number k) (r .x)) (λ z. some (ap answered is-key ∙ z)) ∙ sym is-key
