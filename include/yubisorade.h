@@ -62,9 +62,12 @@
  *        or isn't valid on this curve, or its count is over     damaged, or the curve was changed under it
  *        4096 (here also: weight above g, or an unused
  *        coefficient that isn't 0)
+ *   19   the divisor given or its multiple is neutral, in       don't commission the meter: its key would be empty. Ask
+ *        yubi_multiply or yubi_multiply_inversion_free          the office for a new key
  *
  *   Where several would fit, the first in this order is given: the curve's 1 (under 6 bytes), 2, 3, 4, 1, 5, 6, 7; for a
- *   scan 15, 14; then the divisors from first to last, each 8 (empty), 9, 8 (length), 10, 11; then 12; then 13.
+ *   scan 15, 14; then the divisors from first to last, each 8 (empty), 9, 8 (length), 10, 11; then 12; then 19;
+ *   then 13.
  */
 #ifndef YUBISORADE_H
 #define YUBISORADE_H
@@ -162,13 +165,13 @@ YubiAnswer yubi_double(const uint8_t *curve, size_t curve_length, const uint8_t 
 YubiAnswer yubi_opposite(const uint8_t *curve, size_t curve_length, const uint8_t *a, size_t a_length, uint8_t *out,
                          size_t out_length);
 
-/* Writes the sum of n copies of the divisor a to out, n the scalar; neutral for n = 0: 0 to 13. Its time depends on the
- * scalar. */
+/* Writes the sum of n copies of the divisor a to out, n the scalar: 0 to 13, 19. There are no empty keys: a neutral divisor, and
+ * a scalar whose multiple is neutral, 0 among them, give 19. Its time depends on the scalar. */
 YubiMultiple yubi_multiply(const uint8_t *curve, size_t curve_length, const uint8_t *a, size_t a_length,
                            const uint8_t *scalar, size_t scalar_length, uint8_t *out, size_t out_length);
 
 /* The same multiple by inversion-free coordinates, for machines that divide slowly: one division at the end, where genus 2
- * meets no special pair. Answer and output are those of yubi_multiply on the same bytes: 0 to 13. */
+ * meets no special pair. Answer and output are those of yubi_multiply on the same bytes: 0 to 13, 19. */
 YubiMultiple yubi_multiply_inversion_free(const uint8_t *curve, size_t curve_length, const uint8_t *a, size_t a_length,
                                           const uint8_t *scalar, size_t scalar_length, uint8_t *out, size_t out_length);
 

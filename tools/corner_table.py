@@ -73,15 +73,42 @@ DIVISORS = (
 )
 
 # On A, of (x, 1): name, scalar, number, the multiple, its counts. (x, 1) has order 5, A5: 2^256 - 1 = 0 and 2^255 = 3 modulo 5.
+# A neutral multiple is 19 (W-207).
 SCALARS = (
-    ("scalar-32-zeros", bytes(32), 0, NEUTRAL, (0, 0)),
-    ("scalar-32-five", (5).to_bytes(32, "big"), 0, NEUTRAL, (2, 1)),
-    ("scalar-32-ones", b"\xff" * 32, 0, NEUTRAL, (255, 255)),
+    ("scalar-32-zeros", bytes(32), 19, b"", (0, 0)),
+    ("scalar-32-five", (5).to_bytes(32, "big"), 19, b"", (0, 0)),
+    ("scalar-32-six", (6).to_bytes(32, "big"), 0, X_1, (2, 1)),
+    ("scalar-32-ones", b"\xff" * 32, 19, b"", (0, 0)),
+    ("scalar-32-ones-but-one", b"\xff" * 31 + b"\xfe", 0, X_6, (255, 254)),
     ("scalar-32-top", b"\x80" + bytes(31), 0, XX_6, (255, 0)),
     ("scalar-33-zeros", bytes(33), 12, b"", (0, 0)),
     ("scalar-33-five", (5).to_bytes(33, "big"), 12, b"", (0, 0)),
     ("scalar-33-ones", b"\xff" * 33, 12, b"", (0, 0)),
-    ("scalar-empty", b"", 0, NEUTRAL, (0, 0)),
+    ("scalar-empty", b"", 19, b"", (0, 0)),
+)
+
+# W-207, "after 12 and before 13": name, curve, divisor, scalar, length of the output, number. (x, 1) has order 5 on A and 7 on B.
+KEYS = (
+    ("key-A-neutral", CURVE_A, NEUTRAL, b"\3", 40, 19),
+    ("key-A-neutral-no-output", CURVE_A, NEUTRAL, b"\3", 0, 19),
+    ("key-A-neutral-scalar-33", CURVE_A, NEUTRAL, bytes(33), 40, 12),
+    ("key-A-neutral-scalar-33-no-output", CURVE_A, NEUTRAL, bytes(33), 0, 12),
+    ("key-A5-no-output", CURVE_A, X_1, b"\5", 0, 19),
+    ("key-A5-scalar-33-no-output", CURVE_A, X_1, bytes(32) + b"\5", 0, 12),
+    ("key-A-zero", CURVE_A, X_1, b"\0", 40, 19),
+    ("key-A-zero-no-output", CURVE_A, X_1, b"\0", 0, 19),
+    ("key-A-empty-no-output", CURVE_A, X_1, b"", 0, 19),
+    ("key-A4-no-output", CURVE_A, X_1, b"\4", 0, 13),
+    ("key-B-neutral", CURVE_B, NEUTRAL, b"\3", 50, 19),
+    ("key-B-neutral-no-output", CURVE_B, NEUTRAL, b"\3", 0, 19),
+    ("key-B-neutral-scalar-33", CURVE_B, NEUTRAL, bytes(33), 50, 12),
+    ("key-B-neutral-scalar-33-no-output", CURVE_B, NEUTRAL, bytes(33), 0, 12),
+    ("key-B3-no-output", CURVE_B, X_1, b"\7", 0, 19),
+    ("key-B3-scalar-33-no-output", CURVE_B, X_1, bytes(32) + b"\7", 0, 12),
+    ("key-B-zero", CURVE_B, X_1, b"\0", 50, 19),
+    ("key-B-zero-no-output", CURVE_B, X_1, b"\0", 0, 19),
+    ("key-B-empty-no-output", CURVE_B, X_1, b"", 0, 19),
+    ("key-B2-no-output", CURVE_B, X_1, b"\4", 0, 13),
 )
 
 # Case P on A: the batch, its total with the count, its first repeat

@@ -16,8 +16,8 @@ import sys
 import ideals
 import reference as r
 from corner_table import (
-    CASE_P, CASE_P_COUNT, CASE_P_REPEAT, CASE_P_TOTAL, CURVE_A, CURVES, DIVISORS, FLIPPED, NEUTRAL, SCALARS, X6_3, X_1, X_6, XX6X, XX_1,
-    XX_6, each_example, power_and_1,
+    CASE_P, CASE_P_COUNT, CASE_P_REPEAT, CASE_P_TOTAL, CURVE_A, CURVES, DIVISORS, FLIPPED, KEYS, NEUTRAL, SCALARS, X6_3, X_1, X_6,
+    XX6X, XX_1, XX_6, each_example, power_and_1,
 )  # fmt: skip
 from frames import (
     ADD, CHECK_CURVE, CHECK_DIVISOR, DOUBLE, FIRST_REPEAT, GUARD, MULTIPLY, OPPOSITE, REWRITE_CURVE, REWRITE_DIVISOR, SCAN,
@@ -49,8 +49,12 @@ def summed(name, curve, a, b, result):
 
 
 def times(name, curve, a, n, result, counts):
-    """The n-fold, by a multiple, by a batch of n records and by n scans."""
-    corner(name + "-multiply", Frame(MULTIPLY, curve, a, bytes([n]), len(result) + 3), 0, 0, result, counts)
+    """The n-fold, by a multiple, which is refused 19 where it is neutral, by a batch of n records and by n scans."""
+    multiply = Frame(MULTIPLY, curve, a, bytes([n]), len(result) + 3)
+    if result == NEUTRAL:
+        corner(name + "-multiply", multiply, 19, more=(0, 0))
+    else:
+        corner(name + "-multiply", multiply, 0, 0, result, counts)
     corner(name + "-batch", Frame(TOTAL_BATCH, curve, a * n, b"", len(result) + 1), 0, 0, result, (n,))
     total = r.fresh_total()
     for k in range(n):
@@ -120,6 +124,8 @@ def put_bounds():
             taken_divisor(name, record)
     for name, scalar, number, result, counts in SCALARS:
         corner(name, Frame(MULTIPLY, CURVE_A, X_1, scalar, 40), number, 0, result, counts)
+    for name, curve, a, scalar, output, number in KEYS:
+        corner(name, Frame(MULTIPLY, curve, a, scalar, output), number, more=(0, 0))
     for name, frame, result, more in (
         ("add", Frame(ADD, CURVE_A, X_1, X6_3), XX6X, ()),
         ("double", Frame(DOUBLE, CURVE_A, X_1), XX_1, ()),

@@ -429,6 +429,9 @@ def multiply(curve, a, scalar, out):
         on = read_curve(curve)
         divisor = read_divisor(on, a, 1)
         result, doublings, additions = multiple_of(on, divisor, read_scalar(scalar))
+        # W-207: "refuses with 19 when the divisor given or the result is neutral, after 12 and before 13, place 0"
+        if NEUTRAL in (divisor, result):
+            raise Refused(19)
         return write_divisor(result), (doublings, additions)
 
     return answered(work, out, extra=2)

@@ -12,8 +12,8 @@ import sys
 import ideals
 import reference as r
 from corner_table import (
-    B_X_10, B_XXX_1, B_XXX_10, CASE_P, CASE_P_COUNT, CASE_P_REPEAT, CASE_P_TOTAL, CURVE_A, CURVE_B, CURVES, DIVISORS, NEUTRAL, SCALARS,
-    X1_0, X6_3, X_1, X_6, XX6X, XX_1, XX_6, each_example,
+    B_X_10, B_XXX_1, B_XXX_10, CASE_P, CASE_P_COUNT, CASE_P_REPEAT, CASE_P_TOTAL, CURVE_A, CURVE_B, CURVES, DIVISORS, KEYS, NEUTRAL,
+    SCALARS, X1_0, X6_3, X_1, X_6, XX6X, XX_1, XX_6, each_example,
 )  # fmt: skip
 from records import curve_record, divisor_record
 
@@ -55,7 +55,11 @@ def check_examples():
 
     def multiples(name, curve, a, n, record, counts):
         for scalar in (bytes([n]), bytes(31) + bytes([n])):
-            expect_written(name, lambda out: r.multiply(curve, a, scalar, out), record, counts)
+            if record == NEUTRAL:
+                for out in (b"", GUARD, GUARD * 49):
+                    expect(name, r.multiply(curve, a, scalar, out), ((19, 0, 0, 0, 0), out))
+            else:
+                expect_written(name, lambda out: r.multiply(curve, a, scalar, out), record, counts)
         expect_written(name + " as a batch", lambda out: r.total_batch(curve, a * n, out), record, (n,))
 
     each_example(sums, doubles, multiples)
@@ -113,6 +117,9 @@ def check_corners():
             expect(name, r.multiply(CURVE_A, X_1, scalar, out), ((number, 0, 0) + counts, out))
         else:
             expect_written(name, lambda out: r.multiply(CURVE_A, X_1, scalar, out), record, counts)
+    for name, curve, a, scalar, length, number in KEYS:
+        out = GUARD * length
+        expect(name, r.multiply(curve, a, scalar, out), ((number, 0, 0, 0, 0), out))
     expect("12 before 13", r.multiply(CURVE_A, X_1, bytes(33), b""), ((12, 0, 0, 0, 0), b""))
     out = GUARD * 32
     expect("output of 32", r.double(CURVE_A, X_1, out), ((13, 0, 0), out))
@@ -166,6 +173,7 @@ def check_order():
             expect("first divisor first", r.add(CURVE_A, wrong, second, b""), ((number, 1, 0), b""))
         expect("second divisor", r.add(CURVE_A, X_1, wrong, b""), ((number, 2, 0), b""))
         expect("before 12", r.multiply(CURVE_A, wrong, bytes(33), b""), ((number, 1, 0, 0, 0), b""))
+        expect("before 19", r.multiply(CURVE_A, wrong, b"", b""), ((number, 1, 0, 0, 0), b""))
         expect("before 13", r.double(CURVE_A, wrong, b""), ((number, 1, 0), b""))
         expect("before 13", r.opposite(CURVE_A, wrong, b""), ((number, 1, 0), b""))
         expect("before 13", r.rewrite_divisor(CURVE_A, wrong, b""), ((number, 1, 0), b""))

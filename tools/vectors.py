@@ -33,6 +33,7 @@ GENERA = (2, 3)
 MOST_BYTES = 990000  # of input and expected text together: both stand in the repository, with some 55,000 of the corners
 ENOUGH = 20  # of each main kind of sum, per genus and prime
 NEUTRAL_RECORD = r.write_divisor(r.NEUTRAL)
+NUMBERS = tuple(range(16)) + (19,)  # that the calls answer
 
 
 class Dice:
@@ -363,13 +364,13 @@ def any_output(dice, need):
 
 
 def need_of(frame):
-    """The length of the result, for a frame that a large output lets succeed."""
+    """The length of the result, for a frame that a large output lets succeed; 0 where none does (19)."""
     fields, _ = answer(frame._replace(output=MOST_OUTPUT))
     return fields[2]
 
 
 def put_with_outputs(dice, collection, frame, outputs):
-    need = need_of(frame)
+    need = need_of(frame) or 1
     for output in outputs:
         collection.put(frame._replace(output=output(dice, need)))
 
@@ -479,10 +480,25 @@ def put_multiples(dice, collection, pools):
         a = r.write_divisor(pool.sum(*pool.signed_points(1)) if n % 3 == 0 else pool.anything())
         output = enough_output if n % 4 else any_output
         put_with_outputs(dice, collection, Frame(MULTIPLY, pool.record, a, scalar), [output])
+        if pool.whole and n % 2 == 0:
+            # about the order of the group, written with leading zeros: the opposite comes out, the neutral, which is 19, the same
+            about = (len(pool.whole) + n % 3 - 1).to_bytes(2 + dice.below(6), "big")
+            put_with_outputs(dice, collection, Frame(MULTIPLY, pool.record, a, about), [enough_output])
+
+
+def put_keys(dice, collection, pools):
+    """19 with a scalar that fits and one that doesn't, with an output and without: the divisor is neutral, the scalar is 0, or the
+    multiple is neutral, by the order of the group where it is known and by 2 where y = 0."""
+    for pool in pools:
+        heavy = r.write_divisor(pool.heavy())
+        keys = [(NEUTRAL_RECORD, dice.some_bytes(3)), (heavy, dice.pick([b"", b"\0"]))]
         if pool.whole:
-            # the order of the group, written with leading zeros: the neutral comes out
-            order = len(pool.whole).to_bytes(2 + dice.below(6), "big")
-            put_with_outputs(dice, collection, Frame(MULTIPLY, pool.record, a, order), [enough_output])
+            keys.append((heavy, len(pool.whole).to_bytes(2, "big")))
+        if pool.flats:
+            keys.append((r.write_divisor(dice.pick(pool.flats)), b"\2"))
+        for a, scalar in keys:
+            for fitted, output in itertools.product((scalar, scalar.rjust(33, b"\0")), (0, 49)):
+                collection.put(Frame(MULTIPLY, pool.record, a, fitted, output))
 
 
 def drawn_batch(dice, pool, length):
@@ -639,7 +655,7 @@ class Base:
         elif operation == SCAN:
             stages += [("total", "15"), ("total", "14")] + first
         if operation == MULTIPLY:
-            stages.append(("scalar", "12"))
+            stages += [("scalar", "12"), ("key", "19")]
         if operation in WITH_OUTPUT:
             stages.append(("output", "13"))
         self.stages = stages
@@ -684,8 +700,18 @@ class Base:
             if first is None or second is None:
                 return None
         if operation == MULTIPLY:
-            second = dice.some_bytes(3)
-            if by_part["scalar"]:
+            if by_part["key"]:
+                # a neutral divisor, where it needn't be faulty, or scalar 0
+                second = b"" if dice.below(2) else bytes(1 + dice.below(32))
+                if not by_part["first"] and dice.below(2):
+                    first, second = NEUTRAL_RECORD, dice.some_bytes(3)
+            else:
+                second = dice.some_bytes(3)
+                while answer(Frame(MULTIPLY, curve, first, second, MOST_OUTPUT))[0][0] == 19:
+                    second = dice.some_bytes(3)
+            if by_part["scalar"] and by_part["key"]:
+                second = second.rjust(33, b"\0")
+            elif by_part["scalar"]:
                 second = dice.pick([bytes(33), b"\0" + dice.some_bytes(32), dice.some_bytes(40), b"\xff" * 33])
         if operation == SCAN:
             total = self.running_total(by_part["total"])
@@ -924,6 +950,7 @@ def made(seed):
     put_every_total_fault(dice, collection, [pools_of[key][1] for key in ((3, 11), (2, 2147483647))])
     put_long_batches(dice, collection, pools_of)
     put_repeats(dice, collection, pools_of)
+    put_keys(dice, collection, [pools_of[key][1] for key in ((2, 5), (3, 2147483647))])
     return collection
 
 
@@ -1034,7 +1061,7 @@ class Census:
             need("g = %d, %s: %s" % key, self.classes[key], classes.LEAST)
         if set(self.shapes) - set(SHAPES):
             short.append("shapes that can't be: %s" % (set(self.shapes) - set(SHAPES)))
-        for number in range(16):
+        for number in NUMBERS:
             need("number %d" % number, sum(n for (_, k), n in self.numbers.items() if k == number), 10)
         for what in ("below the need", "below the need by one", "empty", "equal to the need", "above the need"):
             need("outputs " + what, self.outputs[what], ENOUGH)
@@ -1060,11 +1087,11 @@ class Census:
         yield "%d frames, %d bytes of input, %d bytes of expected text" % (len(self.frames), size, sum(map(len, self.text)))
         yield ""
         yield "calls by number answered"
-        yield "%-16s" % "" + "".join("%6d" % number for number in range(16)) + "     all"
+        yield "%-16s" % "" + "".join("%6d" % number for number in NUMBERS) + "     all"
         for operation in range(CHECK_CURVE, SCAN + 1):
-            row = [self.numbers[operation, number] for number in range(16)]
+            row = [self.numbers[operation, number] for number in NUMBERS]
             yield "%-16s" % NAMES[operation] + "".join("%6d" % n if n else "     ." for n in row) + "%8d" % sum(row)
-        row = [sum(self.numbers[o, number] for o in range(12)) for number in range(16)]
+        row = [sum(self.numbers[o, number] for o in range(12)) for number in NUMBERS]
         yield "%-16s" % "all" + "".join("%6d" % n for n in row) + "%8d" % sum(row)
         yield ""
         yield "sums that were done, by genus, prime and kind (a sum may be of several kinds)"

@@ -237,7 +237,9 @@ impl Sample {
         }
         for _ in 0..8 {
             let (a, scalar) = (self.any(rng).to_vec(), rng.next().to_be_bytes());
-            self.pool.push(written(|out| plain::multiply(&self.curve, &a, &scalar, out).length));
+            let multiple = written(|out| plain::multiply(&self.curve, &a, &scalar, out).length);
+            // A neutral one is refused, and goes in all the same.
+            self.pool.push(if multiple.is_empty() { vec![0] } else { multiple });
         }
     }
 

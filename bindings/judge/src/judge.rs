@@ -159,8 +159,12 @@ fn broken_rule(call: &Call, outcome: &Outcome, before: &[u8], guard: usize, room
     if buffer[guard + written..end] != before[guard + written..end] {
         return Some("bytes behind the result changed");
     }
-    if reply.number > 15 {
-        return Some("a number that isn't in the table");
+    let multiply = matches!(call, Call::Multiply { .. } | Call::MultiplyInversionFree { .. });
+    if reply.number > 15 && !(multiply && reply.number == 19) {
+        return Some("a number that isn't in the call's table");
+    }
+    if multiply && written == 1 {
+        return Some("an empty key");
     }
     if reply.number == 0 {
         if reply.place != 0 {

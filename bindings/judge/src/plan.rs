@@ -431,6 +431,7 @@ struct Faults {
     a: u32,
     b: u32,
     scalar: bool,
+    key: bool,
     room: bool,
 }
 
@@ -444,6 +445,7 @@ impl Faults {
             a: self.a | other.a,
             b: self.b | other.b,
             scalar: self.scalar | other.scalar,
+            key: self.key | other.key,
             room: self.room | other.room,
         }
     }
@@ -459,13 +461,14 @@ fn neighbouring_faults(judge: &mut Judge, sample: &Sample) {
     let a: Vec<Faults> = (0..DIVISOR_FAULTS).map(|k| Faults { a: 1 << k, ..none }).collect();
     let b: Vec<Faults> = (0..DIVISOR_FAULTS).map(|k| Faults { b: 1 << k, ..none }).collect();
     let scalar = vec![Faults { scalar: true, ..none }];
+    let key = vec![Faults { key: true, ..none }];
     let room = vec![Faults { room: true, ..none }];
     let totals: Vec<Faults> = (0..TOTAL_FAULTS).map(|k| Faults { total: 1 << k, ..none }).collect();
     let full = vec![Faults { full: true, ..none }];
 
     let orders: [(Put, Vec<Faults>); 4] = [
         (put_add, [&curve[..], &a, &b, &room].concat()),
-        (put_multiply, [&curve[..], &a, &scalar, &room].concat()),
+        (put_multiply, [&curve[..], &a, &scalar, &key, &room].concat()),
         (put_total, [&curve[..], &a, &b, &room].concat()),
         (put_scan, [&curve[..], &totals, &full, &a].concat()),
     ];
@@ -490,9 +493,14 @@ fn put_add(judge: &mut Judge, sample: &Sample, faults: Faults) {
 
 fn put_multiply(judge: &mut Judge, sample: &Sample, faults: Faults) {
     let curve = faulty_curve(&mut judge.rng, sample, faults.curve);
-    let a = faulty_divisor(&mut judge.rng, sample, faults.a);
+    let mut a = faulty_divisor(&mut judge.rng, sample, faults.a);
     let length = if faults.scalar { 33 + judge.rng.below(4) } else { judge.rng.below(33) };
-    let scalar = judge.rng.bytes(length as usize);
+    let mut scalar = judge.rng.bytes(length as usize);
+    if faults.key && faults.a == 0 && judge.rng.one_in(2) {
+        a = vec![0];
+    } else if faults.key {
+        scalar.fill(0);
+    }
     judge.put(Call::Multiply { curve: &curve, a: &a, scalar: &scalar }, if faults.room { 0 } else { ROOM });
 }
 
@@ -526,6 +534,7 @@ fn mixed_faults(judge: &mut Judge, sample: &Sample) {
             a: some_faults(rng, DIVISOR_FAULTS),
             b: some_faults(rng, DIVISOR_FAULTS),
             scalar: rng.one_in(4),
+            key: rng.one_in(4),
             room: rng.one_in(4),
         };
         let put: Put = *rng.pick(&[put_add as Put, put_multiply, put_total, put_scan]);
@@ -657,7 +666,7 @@ mod tests {
         let mut judge = Judge::new(&Plain, &Plain, 1, true);
         run(&mut judge, 80_000);
         assert_eq!(judge.tally.differences, 0);
-        for number in 0..=15 {
+        for number in (0..=15).chain([19]) {
             assert!(judge.tally.numbers[&number] >= 20, "{} {:?}", number, judge.tally.numbers);
         }
         assert_eq!(judge.tally.census.len(), 12);
@@ -713,6 +722,7 @@ mod tests {
     #[test]
     fn wrong_answers_show() {
         assert!(differences(|_, _, r| r.place += u64::from(r.number == 11)) > 0);
+        assert!(differences(|_, _, r| r.number = if r.number == 19 { 13 } else { r.number }) > 0);
         assert!(differences(|_, _, r| r.counts[1] += u64::from(r.counts[1] > 200)) > 0);
         assert!(differences(|_, _, r| r.number = if r.number == 6 { 5 } else { r.number }) > 0);
         assert!(differences(|_, _, r| r.total.count += u64::from(r.total.count == 4096)) > 0);

@@ -17,9 +17,10 @@
 //!     point.extend_from_slice(&number.to_be_bytes());
 //! }
 //! let mut out = [0; 33];
-//! let answer = plain::multiply(&curve, &point, &[5], &mut out);
-//! assert_eq!((answer.number, answer.length, out[0]), (0, 1, 0)); // five times (x, 1) is neutral
+//! let answer = plain::multiply(&curve, &point, &[6], &mut out);
+//! assert_eq!((answer.number, &out[..17]), (0, &point[..])); // five times (x, 1) is neutral, so six times is (x, 1) again
 //! assert_eq!((answer.doublings, answer.additions), (2, 1));
+//! assert_eq!(plain::multiply(&curve, &point, &[5], &mut out).number, 19);
 //! ```
 
 #![forbid(unsafe_code)]
@@ -162,13 +163,17 @@ pub fn opposite(curve: &[u8], a: &[u8], out: &mut [u8]) -> Answer {
     read_pair(curve, a).and_then(|(curve, a)| write_divisor(&curve.opposite(&a), out)).into()
 }
 
-/// The n-fold sum of a divisor. The scalar n has 0 to 32 bytes, big-endian.
+/// The n-fold sum of a divisor. The scalar n has 0 to 32 bytes, big-endian. Neither the divisor nor the sum may be neutral: no empty keys.
 pub fn multiply(curve: &[u8], a: &[u8], scalar: &[u8], out: &mut [u8]) -> Multiple {
     let result = read_pair(curve, a).and_then(|(curve, a)| {
         if scalar.len() > SCALAR_ROOM {
             return Err(Refused::new(12));
         }
-        write_divisor(&curve.multiple(&a, scalar), out)
+        let multiple = curve.multiple(&a, scalar);
+        if a.weight == 0 || multiple.weight == 0 {
+            return Err(Refused::new(19));
+        }
+        write_divisor(&multiple, out)
     });
     let Answer { number, place, length } = Answer::from(result);
     let (doublings, additions) = if number == 0 { steps(scalar) } else { (0, 0) };

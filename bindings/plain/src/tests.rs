@@ -48,10 +48,16 @@ fn twice(curve: &[u8], a: &[u8]) -> Vec<u8> {
     out[..answer.length as usize].to_vec()
 }
 
+/// A neutral multiple is refused 19, and nothing else is.
 fn times(curve: &[u8], a: &[u8], n: u64) -> Vec<u8> {
-    let mut out = [0; 49];
+    let mut out = [0x55; 49];
     let answer = multiply(curve, a, &n.to_be_bytes(), &mut out);
+    if answer.number == 19 {
+        assert_eq!((answer, out), (Multiple { number: 19, ..Multiple::default() }, [0x55; 49]));
+        return neutral();
+    }
     assert_eq!(answer.number, 0);
+    assert_ne!(out[0], 0);
     assert_eq!(answer.doublings, if n == 0 { 0 } else { u64::from(63 - n.leading_zeros()) });
     assert_eq!(answer.additions, u64::from(n.count_ones()).saturating_sub(1));
     out[..answer.length as usize].to_vec()
@@ -188,11 +194,19 @@ fn scalars_and_outputs() {
     assert_eq!(multiply(&c, &a, &[0; 33], &mut []), refused(12));
     assert_eq!(multiply(&c, &a, &[2], &mut out[..32]), refused(13));
     assert_eq!(out, [0x55; 33]);
-    assert_eq!(multiply(&c, &a, &[], &mut []), refused(13));
-    assert_eq!(multiply(&c, &a, &[], &mut out[..1]), Multiple { length: 1, ..refused(0) });
-    let all = multiply(&c, &a, &[0xff; 32], &mut out);
-    // 2^256 - 1 is a multiple of 5.
-    assert_eq!(all, Multiple { length: 1, doublings: 255, additions: 255, ..refused(0) });
+    // 2^256 - 1 is a multiple of 5, and 2^255 is 3 modulo 5.
+    for scalar in [&[][..], &[0], &[0; 32], &[5], &[0xff; 32]] {
+        for room in [0, 1, 33] {
+            assert_eq!(multiply(&c, &a, scalar, &mut out[..room]), refused(19));
+            assert_eq!(multiply(&c, &neutral(), scalar, &mut out[..room]), refused(19));
+        }
+    }
+    assert_eq!(multiply(&c, &neutral(), &[3], &mut out), refused(19));
+    assert_eq!(multiply(&c, &neutral(), &[3; 33], &mut out), refused(12));
+    assert_eq!(out, [0x55; 33]);
+    let top: Vec<u8> = std::iter::once(0x80).chain([0; 31]).collect();
+    assert_eq!(multiply(&c, &a, &top, &mut out), Multiple { length: 33, doublings: 255, ..refused(0) });
+    assert_eq!(out[..], divisor(&[0, 0], &[6, 0])[..]);
     assert_eq!(multiply(&c, &a, &[0, 0, 2], &mut out), Multiple { length: 33, doublings: 1, ..refused(0) });
     assert_eq!(out[..], divisor(&[0, 0], &[1, 0])[..]);
 

@@ -118,7 +118,8 @@ pub fn opposite(curve: &[u8], a: &[u8], out: &mut [u8]) -> Result<usize, Refusal
     length_of(raw::opposite(curve, a, out))
 }
 
-/// Writes the sum of n copies of a divisor to the front of `out`; the scalar n has 0 to 32 bytes, big-endian.
+/// Writes the sum of n copies of a divisor to the front of `out`; the scalar n has 0 to 32 bytes, big-endian. Where the divisor or the
+/// sum is neutral, [`Refusal::EmptyKey`]: there are no empty keys.
 pub fn multiply(curve: &[u8], a: &[u8], scalar: &[u8], out: &mut [u8]) -> Result<Multiple, Refusal> {
     multiple_of(raw::multiply(curve, a, scalar, out))
 }

@@ -37,6 +37,8 @@ pub enum Refusal {
     /// 15: a running total's own divisor has a number of p or more or isn't valid on the curve given, or its count is
     /// over 4,096.
     RunningTotal,
+    /// 19: the divisor given or its multiple is neutral.
+    EmptyKey,
 }
 
 impl Refusal {
@@ -62,11 +64,12 @@ impl Refusal {
             13 => Refusal::OutputLength,
             14 => Refusal::Full,
             15 => Refusal::RunningTotal,
+            19 => Refusal::EmptyKey,
             other => panic!("libtablet.a answered {}, which isn't a number of the contract", other),
         })
     }
 
-    /// The contract's number, 1 to 15.
+    /// The contract's number, 1 to 15 or 19.
     pub fn number(self) -> u64 {
         match self {
             Refusal::CurveLength => 1,
@@ -84,6 +87,7 @@ impl Refusal {
             Refusal::OutputLength => 13,
             Refusal::Full => 14,
             Refusal::RunningTotal => 15,
+            Refusal::EmptyKey => 19,
         }
     }
 
@@ -123,6 +127,7 @@ impl Refusal {
                 "a running total's own divisor has a number of p or more or isn't valid on the curve given, \
                  or its count is over 4,096"
             }
+            Refusal::EmptyKey => "the divisor given or its multiple is neutral",
         }
     }
 }
@@ -142,7 +147,7 @@ mod tests {
     #[test]
     fn numbers_and_places_come_back() {
         assert_eq!(Refusal::check(0, 0), Ok(()));
-        for number in 1..=15 {
+        for number in (1..=15).chain([19]) {
             let place = if (8..=11).contains(&number) { 7 } else { 0 };
             let refusal = Refusal::check(number, place).unwrap_err();
             assert_eq!((refusal.number(), refusal.place()), (number, place));

@@ -50,7 +50,11 @@ fn multiples() {
         let four = call(&c, &a, &[4], &mut out);
         assert_eq!(four, Ok(Multiple { length: 17, doublings: 2, additions: 0 }));
         assert_eq!(out[..17], divisor(&[0], &[6])[..]);
-        assert_eq!(call(&c, &a, &[], &mut out), Ok(Multiple { length: 1, doublings: 0, additions: 0 }));
+        for scalar in [&[][..], &[0], &[5]] {
+            assert_eq!(call(&c, &a, scalar, &mut []), Err(Refusal::EmptyKey));
+        }
+        assert_eq!(call(&c, &[0], &[4], &mut out), Err(Refusal::EmptyKey));
+        assert_eq!(call(&c, &[0], &[0; SCALAR_ROOM + 1], &mut out), Err(Refusal::ScalarLength));
         assert_eq!(call(&c, &a, &[0; SCALAR_ROOM + 1], &mut out), Err(Refusal::ScalarLength));
         assert_eq!(call(&c, &a, &[2], &mut out[..32]), Err(Refusal::OutputLength));
     }
