@@ -1185,6 +1185,9 @@ def main():
             os.makedirs(os.path.dirname(os.path.abspath(path)), exist_ok=True)
             with open(path, "wb") as file:
                 file.write(content)
+        for path in part_paths(options.input, 26)[len(parts) :]:  # parts of a longer set, made before
+            if os.path.exists(path):
+                os.remove(path)
     for line in short:
         print("SHORT " + line)
     print("the census is complete" if not short else "the census falls short")
