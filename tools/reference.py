@@ -3,7 +3,7 @@
 
     python3 tools/reference.py tally DIR    prints what the program prints for DIR's files `curve` and `batch`
 
-It was written from document 01 and, of document 02, W-205, and shares no code with the product. Where the document leaves a choice (the flat
+It was written from document 01 and, of document 02, W-205 and W-207, and shares no code with the product. Where the document leaves a choice (the flat
 running total, the place in a double, an opposite or a multiple, the order of 16 and 17) it follows the project's settled
 readings, as the product does: on those the two agreeing says nothing about the reading. Headings in quotes are the document's own. Each public call is one
 function from the bytes lent to it to a pair: the answer's fields in the order of the call's answer, and the
