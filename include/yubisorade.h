@@ -94,13 +94,14 @@ typedef struct YubiAnswer {
     uint64_t length; /* bytes written to the front of the output */
 } YubiAnswer;
 
-/* What yubi_multiply and yubi_multiply_inversion_free answer. */
+/* What yubi_multiply and yubi_multiply_inversion_free answer. The counts are those of double-and-add from the left over the
+ * scalar's signed digits: -1, 0 and 1, no two neighbours both nonzero, the highest 1. */
 typedef struct YubiMultiple {
     uint64_t number;
     uint64_t place;
     uint64_t length;
-    uint64_t doublings; /* of left-to-right double-and-add: the scalar's bit length less 1; 0 for scalar 0 */
-    uint64_t additions; /* of the same: ones in the scalar less 1; 0 for scalar 0 */
+    uint64_t doublings; /* digits less 1; 0 for scalar 0 */
+    uint64_t additions; /* nonzero digits less 1; 0 for scalar 0 */
 } YubiMultiple;
 
 /* What yubi_total_batch answers. */

@@ -23,7 +23,7 @@ SUM, DOUBLE, MULTIPLE = "sum", "double", "multiple"
 EXAMPLES = (
     (SUM, "A1", CURVE_A, X_1, X6_3, XX6X),
     (DOUBLE, "A2", CURVE_A, X_1, XX_1),
-    (MULTIPLE, "A3", CURVE_A, X_1, 3, XX_6, (1, 1)),
+    (MULTIPLE, "A3", CURVE_A, X_1, 3, XX_6, (2, 1)),  # 3 = 4 - 1
     (MULTIPLE, "A4", CURVE_A, X_1, 4, X_6, (2, 0)),
     (MULTIPLE, "A5", CURVE_A, X_1, 5, NEUTRAL, (2, 1)),
     (SUM, "A6", CURVE_A, X_1, X_6, NEUTRAL),
@@ -32,7 +32,7 @@ EXAMPLES = (
     (SUM, "A9", CURVE_A, XX6X, X_1, XX4X4),
     (DOUBLE, "B1", CURVE_B, B_XXX_1, B_X_10),
     (MULTIPLE, "B2", CURVE_B, X_1, 4, B_XXX_10, (2, 0)),
-    (MULTIPLE, "B3", CURVE_B, X_1, 7, NEUTRAL, (2, 2)),
+    (MULTIPLE, "B3", CURVE_B, X_1, 7, NEUTRAL, (3, 1)),  # 7 = 8 - 1
 )
 
 
@@ -77,10 +77,15 @@ DIVISORS = (
 SCALARS = (
     ("scalar-32-zeros", bytes(32), 19, b"", (0, 0)),
     ("scalar-32-five", (5).to_bytes(32, "big"), 19, b"", (0, 0)),
-    ("scalar-32-six", (6).to_bytes(32, "big"), 0, X_1, (2, 1)),
+    ("scalar-32-six", (6).to_bytes(32, "big"), 0, X_1, (3, 1)),  # 8 - 2
     ("scalar-32-ones", b"\xff" * 32, 19, b"", (0, 0)),
-    ("scalar-32-ones-but-one", b"\xff" * 31 + b"\xfe", 0, X_6, (255, 254)),
+    ("scalar-32-ones-but-one", b"\xff" * 31 + b"\xfe", 0, X_6, (256, 1)),  # 2^256 - 2: the 257th digit
     ("scalar-32-top", b"\x80" + bytes(31), 0, XX_6, (255, 0)),
+    ("scalar-7", b"\7", 0, XX_1, (3, 1)),
+    ("scalar-11", b"\x0b", 0, X_1, (4, 2)),  # 16 - 4 - 1
+    ("scalar-255", b"\xff", 19, b"", (0, 0)),
+    ("scalar-32-aa", b"\xaa" * 32, 19, b"", (0, 0)),  # (2^257 - 2)/3, the largest of 256 digits
+    ("scalar-32-ab", b"\xaa" * 31 + b"\xab", 0, X_1, (256, 128)),  # 2^256 - 2^254 - 2^252 .. - 1
     ("scalar-33-zeros", bytes(33), 12, b"", (0, 0)),
     ("scalar-33-five", (5).to_bytes(33, "big"), 12, b"", (0, 0)),
     ("scalar-33-ones", b"\xff" * 33, 12, b"", (0, 0)),

@@ -130,7 +130,7 @@ def put_bounds():
         ("add", Frame(ADD, CURVE_A, X_1, X6_3), XX6X, ()),
         ("double", Frame(DOUBLE, CURVE_A, X_1), XX_1, ()),
         ("opposite", Frame(OPPOSITE, CURVE_A, XX_1), XX_6, ()),
-        ("multiply", Frame(MULTIPLY, CURVE_A, X_1, b"\3"), XX_6, (1, 1)),
+        ("multiply", Frame(MULTIPLY, CURVE_A, X_1, b"\3"), XX_6, (2, 1)),
         ("total", Frame(TOTAL_BATCH, CURVE_A, b"".join(CASE_P)), CASE_P_TOTAL, (CASE_P_COUNT,)),
         ("rewrite", Frame(REWRITE_DIVISOR, CURVE_A, XX6X), XX6X, ()),
     ):

@@ -203,16 +203,29 @@ def opposite_of(curve, divisor):
     return Divisor(divisor.u, minus(ZERO, divisor.v, curve.p))
 
 
+def signed_digits_of(n):
+    """W-208: "digits -1, 0 and 1, no two neighbours both nonzero", without leading zeros, that weigh up to n; the highest first."""
+    digits = []
+    while n != 0:
+        digit = 0
+        if n % 2 == 1:
+            digit = 1 if n % 4 == 1 else -1  # so that (n - digit) / 2 is even, and the next digit 0
+        digits.insert(0, digit)
+        n = (n - digit) // 2
+    return digits
+
+
 def multiple_of(curve, divisor, n):
-    """ "n-fold multiple: n copies summed, neutral for n = 0", by left-to-right double-and-add.
+    """ "n-fold multiple: n copies summed, neutral for n = 0", by left-to-right double-and-add over the signed digits.
     Answers the multiple and the two counts, as they were made."""
     if n == 0:
         return NEUTRAL, 0, 0
     result, doublings, additions = divisor, 0, 0
-    for bit in bin(n)[3:]:  # the binary digits after the leading 1
+    for digit in signed_digits_of(n)[1:]:  # the digits after the leading 1
         result, doublings = double_of(curve, result), doublings + 1
-        if bit == "1":
-            result, additions = sum_of(curve, result, divisor), additions + 1
+        if digit != 0:
+            added = divisor if digit == 1 else opposite_of(curve, divisor)
+            result, additions = sum_of(curve, result, added), additions + 1
     return result, doublings, additions
 
 

@@ -360,6 +360,27 @@ def group_order(curve):
     return sum(a) + sum(a[i] * p ** (g - i) for i in range(g))
 
 
+def counts_of(n):
+    """Doublings and additions: there is a signed digit less than 3n has bits, and the nonzero ones stand where 3n and n differ."""
+    return max(0, (3 * n).bit_length() - 2), max(0, bin(3 * n ^ n).count("1") - 1)
+
+
+def check_signed_digits():
+    """Every string of up to 10 digits without leading zeros and nonzero neighbours is the one of its weight; then larger numbers."""
+    for length in range(11):
+        for digits in itertools.product((-1, 0, 1), repeat=length):
+            apart = all(not (one and other) for one, other in zip(digits, digits[1:]))
+            weight = sum(digit << k for k, digit in enumerate(reversed(digits)))
+            if apart and (length == 0 or digits[0] == 1):
+                expect("signed digits of %d" % weight, tuple(r.signed_digits_of(weight)), digits)
+    for n in (2**256 - 1, (2**257 - 2) // 3, (2**257 + 1) // 3, 2**255, 3**150, 7**80):
+        digits = r.signed_digits_of(n)
+        expect("%d by its digits" % n, sum(digit << k for k, digit in enumerate(reversed(digits))), n)
+        expect("neighbours in %d" % n, any(one and other for one, other in zip(digits, digits[1:])), False)
+        expect("counts of %d" % n, (len(digits) - 1, sum(map(abs, digits)) - 1), counts_of(n))
+    expect("digits of AA..AA and the next", [len(r.signed_digits_of((2**257 - 2) // 3 + k)) for k in (0, 1)], [256, 257])
+
+
 def check_small_curves():
     curves = [
         (2, 3, (1, 0, 0, 0, 0)), (2, 3, (0, 2, 0, 0, 0)), (2, 3, (1, 1, 0, 0, 1)), (2, 5, (0, 4, 0, 0, 0)),
@@ -401,7 +422,7 @@ def check_small_curves():
             for a in divisors[:: max(1, order // 10)]:
                 multiple, doublings, additions = r.multiple_of(curve, a, n)
                 expect(name + ": %d-fold" % n, multiple, r.total_of(curve, [a] * n))
-                expect(name + ": counts", (doublings, additions), (max(0, n.bit_length() - 1), max(0, bin(n).count("1") - 1)))
+                expect(name + ": counts", (doublings, additions), counts_of(n))
         check_any_triple(name, curve, divisors)
         check_turned_batches(name, curve, divisors)
 
@@ -472,6 +493,7 @@ def main():
         check_batches,
         check_running_totals,
         check_program,
+        check_signed_digits,
         check_small_curves,
         check_large_curves,
     ):

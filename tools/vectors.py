@@ -468,12 +468,15 @@ def put_checks(dice, collection, pools):
         put_with_outputs(dice, collection, Frame(REWRITE_DIVISOR, pool.record, a), [any_output])
 
 
+# Among them the largest of all, the largest with 256 signed digits, and the least with 257
+SCALARS = [
+    b"", b"\0", bytes(32), b"\1", b"\0\0\1", b"\2", b"\3", b"\7", b"\x0b", b"\xff", b"\xff" * 32, b"\xaa" * 32,
+    b"\xaa" * 31 + b"\xab", bytes(31) + b"\5",
+]  # fmt: skip
+
+
 def put_multiples(dice, collection, pools):
-    scalars = [
-        b"", b"\0", bytes(32), b"\1", b"\0\0\1", b"\2", b"\3", b"\4", b"\7", b"\x80", b"\xff", b"\0\xff\0", b"\1" + bytes(31),
-        bytes(31) + b"\5",
-    ]  # fmt: skip
-    scalars = dice.turned(scalars)[:6] + [dice.some_bytes(1 + dice.below(4)) for _ in range(2)]
+    scalars = dice.turned(SCALARS)[:6] + [dice.some_bytes(1 + dice.below(4)) for _ in range(2)]
     scalars += [dice.some_bytes(8), dice.some_bytes(20), dice.some_bytes(32), b"\xff" * dice.pick([8, 16, 32])]
     for n, scalar in enumerate(scalars):
         pool = pools[n % len(pools)]
@@ -499,6 +502,22 @@ def put_keys(dice, collection, pools):
         for a, scalar in keys:
             for fitted, output in itertools.product((scalar, scalar.rjust(33, b"\0")), (0, 49)):
                 collection.put(Frame(MULTIPLY, pool.record, a, fitted, output))
+
+
+def order_below_four(curve, a):
+    """2 or 3 for a divisor of that order, else 0."""
+    orders = [n for n in (1, 2, 3) if r.multiple_of(curve, a, n)[0] == r.NEUTRAL]
+    return orders[0] if orders and orders[0] > 1 else 0
+
+
+def put_small_orders(dice, collection, pools_of):
+    """Divisors of order 2 and 3: partial multiples are neutral, also where the opposite is added."""
+    for g, order in itertools.product(GENERA, (2, 3)):
+        whole = [(pool, a) for p in (3, 5) for pool in pools_of[g, p] for a in pool.whole or ()]
+        those = [(pool, a) for pool, a in dice.turned(whole) if order_below_four(pool.curve, a) == order]
+        for n, scalar in enumerate((b"\3", b"\5", b"\7", b"\0\x0b", b"\xfe", b"\xff" * 32)):
+            pool, a = those[n % len(those)]
+            collection.put(Frame(MULTIPLY, pool.record, r.write_divisor(a), scalar, 49))
 
 
 def drawn_batch(dice, pool, length):
@@ -951,6 +970,7 @@ def made(seed):
     put_long_batches(dice, collection, pools_of)
     put_repeats(dice, collection, pools_of)
     put_keys(dice, collection, [pools_of[key][1] for key in ((2, 5), (3, 2147483647))])
+    put_small_orders(dice, collection, pools_of)
     return collection
 
 
@@ -984,6 +1004,7 @@ class Census:
         self.longest = Counter()
         self.shapes = Counter()
         self.classes = Counter()
+        self.multiples = Counter()
         self.text = []
         for frame in frames:
             self.take(frame)
@@ -1021,6 +1042,8 @@ class Census:
                 self.batches["a cut last record"] += 1
             elif number == 14:
                 self.batches["over 4,096"] += 1
+        if operation == MULTIPLY and number in (0, 19):
+            self.multiples[r.read_curve(frame.curve).g, frame.second] += 1  # 0 as a scalar is 19
         if number != 0:
             return
         self.done[operation] += 1
@@ -1036,6 +1059,13 @@ class Census:
             a = r.read_divisor(curve, frame.first, 1)
             self.done_per_curve[key, "flat double"] += has_flat_point(curve, a)
             self.classes[classes.class_of(curve, a)] += 1
+        if operation == MULTIPLY:
+            a, digits = r.read_divisor(curve, frame.first, 1), r.signed_digits_of(int.from_bytes(frame.second, "big"))
+            self.multiples["of 257 digits"] += len(digits) == 257
+            self.multiples["of 256 digits"] += len(digits) == 256
+            self.multiples["with a digit -1"] += -1 in digits
+            for order in (2, 3):
+                self.multiples["of a divisor of order %d" % order] += order_below_four(curve, a) == order
 
     def shortfalls(self):
         short = []
@@ -1063,6 +1093,10 @@ class Census:
             short.append("shapes that can't be: %s" % (set(self.shapes) - set(SHAPES)))
         for number in NUMBERS:
             need("number %d" % number, sum(n for (_, k), n in self.numbers.items() if k == number), 10)
+        for what in ("of 257 digits", "of 256 digits", "with a digit -1", "of a divisor of order 2", "of a divisor of order 3"):
+            need("multiples " + what, self.multiples[what], 8)
+        for g, scalar in itertools.product(GENERA, SCALARS):
+            need("g = %d: scalar %s" % (g, scalar.hex()), self.multiples[g, scalar], 1)
         for what in ("below the need", "below the need by one", "empty", "equal to the need", "above the need"):
             need("outputs " + what, self.outputs[what], ENOUGH)
         for what, least in (
@@ -1121,6 +1155,8 @@ class Census:
         yield "batches: " + ", ".join("%s %d" % pair for pair in sorted(self.batches.items()))
         for g in GENERA:
             yield "repeats, g = %d: " % g + ", ".join("%s %d" % (what, n) for (h, what), n in sorted(self.repeats.items()) if h == g)
+        named = sorted((what, n) for what, n in self.multiples.items() if isinstance(what, str))
+        yield "multiples: " + ", ".join("%s %d" % pair for pair in named)
         singles = sum(1 for order in self.orders if len(order) == 2)
         yield "refusals: %d stages by themselves, %d pairs of faults where the earlier must win" % (
             singles,

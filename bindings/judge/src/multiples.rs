@@ -32,8 +32,12 @@ pub fn run(judge: &mut Judge, count: u64) {
         let sample = Sample::new(&mut judge.rng, if round % 8 == 7 { 3 } else { 2 }, LARGE);
         let a = sample.any(&mut judge.rng).to_vec();
         let mut scalar = judge.rng.bytes(32);
-        if judge.rng.one_in(8) {
-            scalar.fill(0xff);
+        // The largest of all; the largest with 256 signed digits, and the least with 257.
+        match judge.rng.below(24) {
+            0 => scalar.fill(0xff),
+            1 => scalar.fill(0xaa),
+            2 => scalar = [vec![0xaa; 31], vec![0xab]].concat(),
+            _ => (),
         }
         judge.put(Call::Multiply { curve: &sample.curve, a: &a, scalar: &scalar }, ROOM);
     }

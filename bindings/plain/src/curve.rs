@@ -135,19 +135,37 @@ impl Curve {
         Divisor::from_polys(&u, &v)
     }
 
-    /// The n-fold sum, n big-endian, by double-and-add from the left.
+    /// The n-fold sum, n big-endian, by double-and-add from the left over its signed digits.
     pub fn multiple(&self, a: &Divisor, n: &[u8]) -> Divisor {
+        let opposite = self.opposite(a);
         let mut sum = Divisor::NEUTRAL;
-        for &byte in n {
-            for bit in (0..8).rev() {
-                sum = self.double(&sum);
-                if (byte >> bit) & 1 == 1 {
-                    sum = self.add(&sum, a);
-                }
+        for &digit in signed_digits(n).iter().rev() {
+            sum = self.double(&sum);
+            match digit {
+                1 => sum = self.add(&sum, a),
+                -1 => sum = self.add(&sum, &opposite),
+                _ => (),
             }
         }
         sum
     }
+}
+
+/// The digits -1, 0 and 1 of a big-endian number, the lowest first, no two neighbours both nonzero, without leading zeros.
+/// Where bit and carry come to 1, the digit is 1 before a 0 and -1 before a 1, which is then carried.
+pub fn signed_digits(n: &[u8]) -> Vec<i8> {
+    let bit = |i: usize| n.iter().rev().nth(i / 8).map_or(0, |byte| (byte >> (i % 8) & 1) as i8);
+    let (mut digits, mut carry) = (Vec::new(), 0);
+    for i in 0..=8 * n.len() {
+        let sum = bit(i) + carry;
+        let digit = if sum == 1 { 1 - 2 * bit(i + 1) } else { 0 };
+        carry = (sum - digit) / 2;
+        digits.push(digit);
+    }
+    while digits.last() == Some(&0) {
+        digits.pop();
+    }
+    digits
 }
 
 #[cfg(test)]

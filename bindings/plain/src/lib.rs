@@ -58,9 +58,9 @@ pub struct Multiple {
     pub number: u64,
     pub place: u64,
     pub length: u64,
-    /// Doublings of left-to-right double-and-add: the scalar's bit length less 1.
+    /// Doublings of left-to-right double-and-add over the scalar's signed digits: the digits less 1.
     pub doublings: u64,
-    /// Its additions: the scalar's ones less 1.
+    /// Its additions: the nonzero digits less 1.
     pub additions: u64,
 }
 
@@ -269,14 +269,11 @@ fn each_record(curve: &Curve, mut batch: &[u8], mut visit: impl FnMut(&Divisor))
     Ok(())
 }
 
-/// Doublings and additions of left-to-right double-and-add.
+/// Doublings and additions of left-to-right double-and-add over the signed digits.
 fn steps(scalar: &[u8]) -> (u64, u64) {
-    let bits = match scalar.iter().position(|&byte| byte != 0) {
-        Some(lead) => 8 * (scalar.len() - lead) as u64 - u64::from(scalar[lead].leading_zeros()),
-        None => return (0, 0),
-    };
-    let ones: u64 = scalar.iter().map(|byte| u64::from(byte.count_ones())).sum();
-    (bits - 1, ones - 1)
+    let digits = curve::signed_digits(scalar);
+    let nonzero = digits.iter().filter(|&&digit| digit != 0).count() as u64;
+    ((digits.len() as u64).saturating_sub(1), nonzero.saturating_sub(1))
 }
 
 /// The running total after a scan.

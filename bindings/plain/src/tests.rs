@@ -58,8 +58,10 @@ fn times(curve: &[u8], a: &[u8], n: u64) -> Vec<u8> {
     }
     assert_eq!(answer.number, 0);
     assert_ne!(out[0], 0);
-    assert_eq!(answer.doublings, if n == 0 { 0 } else { u64::from(63 - n.leading_zeros()) });
-    assert_eq!(answer.additions, u64::from(n.count_ones()).saturating_sub(1));
+    // There is a digit less than 3n has bits, and the nonzero ones stand where 3n and n differ.
+    let (n, thrice) = (u128::from(n), 3 * u128::from(n));
+    assert_eq!(answer.doublings, u64::from(128 - thrice.leading_zeros()).saturating_sub(2));
+    assert_eq!(answer.additions, u64::from((thrice ^ n).count_ones()).saturating_sub(1));
     out[..answer.length as usize].to_vec()
 }
 
@@ -207,6 +209,9 @@ fn scalars_and_outputs() {
     let top: Vec<u8> = std::iter::once(0x80).chain([0; 31]).collect();
     assert_eq!(multiply(&c, &a, &top, &mut out), Multiple { length: 33, doublings: 255, ..refused(0) });
     assert_eq!(out[..], divisor(&[0, 0], &[6, 0])[..]);
+    // 2^256 - 2 is -1 modulo 5: its highest digit is the 257th.
+    let near: Vec<u8> = std::iter::repeat(0xff).take(31).chain([0xfe]).collect();
+    assert_eq!(multiply(&c, &a, &near, &mut out), Multiple { length: 17, doublings: 256, additions: 1, ..refused(0) });
     assert_eq!(multiply(&c, &a, &[0, 0, 2], &mut out), Multiple { length: 33, doublings: 1, ..refused(0) });
     assert_eq!(out[..], divisor(&[0, 0], &[1, 0])[..]);
 

@@ -50,9 +50,10 @@ pub const MOST_RECORDS: u64 = 4096;
 pub struct Multiple {
     /// Bytes written.
     pub length: usize,
-    /// Doublings of left-to-right double-and-add: the scalar's bit length less 1; 0 for scalar 0.
+    /// Doublings of left-to-right double-and-add over the scalar's signed digits -1, 0, 1, no two neighbours both nonzero:
+    /// the digits less 1; 0 for scalar 0.
     pub doublings: u64,
-    /// Its additions: ones in the scalar less 1; 0 for scalar 0.
+    /// Its additions: the nonzero digits less 1; 0 for scalar 0.
     pub additions: u64,
 }
 

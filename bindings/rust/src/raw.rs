@@ -23,9 +23,9 @@ pub struct YubiMultiple {
     pub number: u64,
     pub place: u64,
     pub length: u64,
-    /// The scalar's bit length less 1; 0 for scalar 0.
+    /// The scalar's signed digits less 1; 0 for scalar 0.
     pub doublings: u64,
-    /// Ones in the scalar less 1; 0 for scalar 0.
+    /// Its nonzero signed digits less 1; 0 for scalar 0.
     pub additions: u64,
 }
 

@@ -50,11 +50,14 @@ fn multiples() {
         let four = call(&c, &a, &[4], &mut out);
         assert_eq!(four, Ok(Multiple { length: 17, doublings: 2, additions: 0 }));
         assert_eq!(out[..17], divisor(&[0], &[6])[..]);
-        for scalar in [&[][..], &[0], &[5]] {
+        for scalar in [&[][..], &[0], &[5], &[255]] {
             assert_eq!(call(&c, &a, scalar, &mut []), Err(Refusal::EmptyKey));
         }
         assert_eq!(call(&c, &[0], &[4], &mut out), Err(Refusal::EmptyKey));
         assert_eq!(call(&c, &[0], &[0; SCALAR_ROOM + 1], &mut out), Err(Refusal::ScalarLength));
+        // 3 = 4 - 1, and 254 = 256 - 2, which is -1 modulo 5.
+        assert_eq!(call(&c, &a, &[3], &mut out), Ok(Multiple { length: 33, doublings: 2, additions: 1 }));
+        assert_eq!(call(&c, &a, &[254], &mut out), Ok(Multiple { length: 17, doublings: 8, additions: 1 }));
         assert_eq!(call(&c, &a, &[0; SCALAR_ROOM + 1], &mut out), Err(Refusal::ScalarLength));
         assert_eq!(call(&c, &a, &[2], &mut out[..32]), Err(Refusal::OutputLength));
     }

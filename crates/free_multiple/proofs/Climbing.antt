@@ -1,10 +1,12 @@
--- Runs of steps on tuples alone, and the step after them. Gives: what a step with one bit is, by the last Z (`stuck`, `doubled-only`, `doubled-added`); what a run keeps (`Going`) over each bit;
--- what it is where no bit is taken (`stays`); the next bit by the plain sum (`further-by`).
-use Prim.Native.Nat.{ℕ, _-_, _/_, _%_, _^_, _≤_, _<_}
+-- Runs of steps on tuples alone, and the step after them. Gives: what a step with one digit is, by the last Z (`stuck`, `climbed`, `climbed-up`, `climbed-down`); what a run keeps (`Going`) over each
+-- digit; what it is where no digit is taken (`stays`); the next digit by the plain sum (`further-by`).
+use Prim.Native.Nat.{ℕ, _-_, _≤_, _<_}
 use mathlib.Core.Path.{_≡_, subst}
 use mathlib.Core.Logic.{_≢_}
 use mathlib.Core.List.{List}
 use native.Mathlib.Omega.{arith}
+use lib.ListN.{length, getD}
+use Rattle.signed.specs.Digits.{minus, null, plus}
 use Rattle.algebra.proofs.zmod.Zmod.{zmod}
 use Rattle.divisor.specs.declared.Divisor.{Divisor}
 use Rattle.divisor.specs.declared.Divisor.the-variants.{Two}
@@ -14,60 +16,72 @@ use Rattle.field.specs.Residues.{el}
 use Rattle.divisor.specs.Divisors.{pair}
 use Rattle.curve.specs.declared.Curve.{Curve}
 use Rattle.curve.specs.Curves.{Sound, Holds}
-use Rattle.multiple.specs.Contracts.{Stepped as StepsPlain}
+use Rattle.multiple.specs.Contracts.{digit, Stepped as StepsPlain}
 use Rattle.free.specs.declared.Tuple.{Tuple}
 use Rattle.free.specs.Tuples.{Mixed, Doubled}
 use Rattle.free_multiple.specs.declared.State.{State}
 use Rattle.free_multiple.specs.declared.State.the-variants.{Free}
 use Rattle.free_multiple.specs.declared.Run.{Run}
-use Rattle.free_multiple.specs.States.{Means, SomeFree, GivesIt, Doubles, Stepped, Reads, Climbed, Reaches, ToRun, Ran, GoneOn}
+use Rattle.free_multiple.specs.States.{Means, SomeFree, GivesIt, Doubles, Opposes, Stepped, Reads, Climbed, Reaches, ToRun, Ran, GoneOn}
 use Rattle.free_multiple.proofs.Steps.{free-double, free-add}
-use Rattle.free_multiple.proofs.Running.{without, with-one, one-bit}
+use Rattle.free_multiple.proofs.Running.{doubled, doubled-added, doubled-taken, one-digit}
 
-module _ (c : Curve) (h : Sound c) (f2 f3 f4 : Residue) (hf : Reads c f2 f3 f4) (q : Quadratic) (hq : Holds c (Two q)) (t d : Tuple) (hd : Doubled (c .m) f2 f3 f4 t d) (bit : ℕ) where
-  pub stuck : el (c .m) (d .z) ≡ zmod (c .m .p) .zer → Climbed c q t bit d
+module _ (c : Curve) (h : Sound c) (f2 f3 f4 : Residue) (hf : Reads c f2 f3 f4) (q : Quadratic) (hq : Holds c (Two q)) (t d : Tuple) (hd : Doubled (c .m) f2 f3 f4 t d) (b : ℕ) where
+  pub stuck : el (c .m) (d .z) ≡ zmod (c .m .p) .zer → Climbed c q t b d
   stuck e = record { settled = hd .settled; is = λ nz. absurd (nz e) }
 
   module _ (nz : el (c .m) (d .z) ≢ zmod (c .m .p) .zer) where
     doubles : Doubles c (Free t) (Free d)
     doubles x hx = free-double c h t d nz f2 f3 f4 (hf .second) (hf .third) (hf .fourth) hd x hx
 
-    pub doubled-only : bit ≡ 0 → Climbed c q t bit d
-    doubled-only z = record { settled = hd .settled; is = λ _. without c h (Two q) hq (Free t) (Free d) doubles bit z }
+    pub climbed : digit b ≡ null → Climbed c q t b d
+    climbed z = record { settled = hd .settled; is = λ _. doubled c h (Two q) hq (Free t) (Free d) doubles b z }
 
-    pub doubled-added : (e : Tuple) → Mixed (c .m) f4 d q e → bit ≡ 1 → Climbed c q t bit e
-    doubled-added e he o = record {
+    pub climbed-up : (e : Tuple) → Mixed (c .m) f4 d q e → digit b ≡ plus → Climbed c q t b e
+    climbed-up e he o = record {
       settled = he .settled;
-      is = λ ne. with-one c h (Two q) hq (Free t) (Free d) (Free e) doubles (λ x hx. free-add c h d e ne f4 (hf .fourth) q hq he x hx) bit o;
+      is = λ ne. doubled-added c h (Two q) hq (Free t) (Free d) (Free e) doubles (λ x hx. free-add c h d e ne f4 (hf .fourth) q hq he x hx) b o;
     }
 
-pub record Going (c : Curve) (q : Quadratic) (n k : ℕ) (r : Tuple) (j : ℕ) : Type 0 where
+    pub climbed-down : (p : Quadratic) → Opposes c (Two q) (Two p) → (e : Tuple) → Mixed (c .m) f4 d p e → digit b ≡ minus → Climbed c q t b e
+    climbed-down p hp e he o = record {
+      settled = he .settled;
+      is = λ ne. doubled-taken c h (Two q) hq (Two p) hp (Free t) (Free d) (Free e) doubles (λ x hx. free-add c h d e ne f4 (hf .fourth) p (hp .holds) he x hx) b o;
+    }
+
+pub record Going (c : Curve) (q : Quadratic) (d : List ℕ) (k : ℕ) (r : Tuple) (j : ℕ) : Type 0 where
   pub at-most : j ≤ k
-  pub reaches : Reaches c (Two q) n (Free r) j
+  pub reaches : Reaches c (Two q) d (Free r) j
 
-module _ (c : Curve) (q : Quadratic) (n k : ℕ) where
-  pub going-on : (r y : Tuple) (j bit : ℕ) → Going c q n k r j → 0 < j → bit ≡ n / 2 ^ (j - 1) % 2 → Stepped c (Two q) (Free r) bit (Free y) → Going c q n k y (j - 1)
-  going-on r y j bit v more e s = record { at-most = omega (arith, v .at-most); reaches = one-bit c (Two q) n 0 (Free r) (Free y) j bit (v .reaches) more e s }
+module _ (c : Curve) (q : Quadratic) (d : List ℕ) (k : ℕ) where
+  pub going-on : (r y : Tuple) (j : ℕ) → Going c q d k r j → 0 < j → j ≤ length d → Stepped c (Two q) (Free r) (getD d (j - 1) 0) (Free y) → Going c q d k y (j - 1)
+  going-on r y j v more room s = record { at-most = omega (arith, v .at-most); reaches = one-digit c (Two q) d (Free r) (Free y) j (v .reaches) more room s }
 
-  pub some-going : (r : Tuple) (j : ℕ) → Going c q n k r j → SomeFree c r
+  pub some-going : (r : Tuple) (j : ℕ) → Going c q d k r j → SomeFree c r
   some-going r j v = record { x = _; free = v .reaches }
 
-  pub gone : (r : Tuple) (j : ℕ) → Going c q n k r j → Ran c (Two q) n k (record { state = Free r; k = j })
+  pub gone : (r : Tuple) (j : ℕ) → Going c q d k r j → Ran c (Two q) d k (record { state = Free r; k = j })
   gone r j v = record { at-most = v .at-most; reaches = v .reaches }
 
-pub stays : (c : Curve) (a : Divisor) (n : ℕ) (r : State) (k : ℕ) → Reaches c a n r k → Ran c a n k (record { state = r; k = k })
-stays c a n r k v = record { at-most = omega arith; reaches = v }
+pub stays : (c : Curve) (a : Divisor) (d : List ℕ) (r : State) (k : ℕ) → Reaches c a d r k → Ran c a d k (record { state = r; k = k })
+stays c a d r k v = record { at-most = omega arith; reaches = v }
 
-pub known-run : (c : Curve) (s : List ℕ) (k : ℕ) (a a' : Divisor) (r r' : State) → a ≡ a' → r ≡ r' → ToRun c a s r k → ToRun c a' s r' k
-known-run c s k a a' r r' ea er h = subst (λ (d : Divisor). ToRun c d s r' k) ea (subst (λ (v : State). ToRun c a s v k) er h)
+pub known-run : (c : Curve) (d : List ℕ) (k : ℕ) (a a' b : Divisor) (r r' : State) → a ≡ a' → r ≡ r' → ToRun c a b d r k → ToRun c a' b d r' k
+known-run c d k a a' b r r' ea er h = subst (λ (x : Divisor). ToRun c x b d r' k) ea (subst (λ (v : State). ToRun c a b d v k) er h)
+
+pub known-beside : (c : Curve) (d : List ℕ) (k : ℕ) (a b b' : Divisor) (r : State) → b ≡ b' → ToRun c a b d r k → ToRun c a b' d r k
+known-beside c d k a b b' r e h = subst (λ (x : Divisor). ToRun c a x d r k) e h
 
 -- a step by the plain sum
-plain-step : (c : Curve) (a : Divisor) (s : State) (bit : ℕ) (d e : Divisor) (t : State) → GivesIt c s d → StepsPlain c a d bit e → Means c t (pair (c .m) e) → Stepped c a s bit t
-plain-step c a s bit d e t hd he ht n hs = subst (Means c t) (he n (hd _ hs .is) .is) ht
+plain-step : (c : Curve) (a : Divisor) (s : State) (b : ℕ) (d e : Divisor) (t : State) → GivesIt c s d → StepsPlain c a d b e → Means c t (pair (c .m) e) → Stepped c a s b t
+plain-step c a s b d e t hd he ht k hs = subst (Means c t) (he k (hd _ hs .is) .is) ht
 
-pub further-by : (c : Curve) (a : Divisor) (n k : ℕ) (y : Run) → Ran c a n k y → 0 < y .k → (bit : ℕ) → bit ≡ n / 2 ^ (y .k - 1) % 2 → (d e : Divisor) (t : State) → GivesIt c (y .state) d → StepsPlain c a d bit e → Means c t (pair (c .m) e)
-    → GoneOn c a n k (record { state = t; k = y .k - 1 })
-further-by c a n k y v more bit b d e t hd he ht = record { less = omega (arith, v .at-most); reaches = one-bit c a n 0 (y .state) t (y .k) bit (v .reaches) more b (plain-step c a (y .state) bit d e t hd he ht) }
+pub further-by : (c : Curve) (a : Divisor) (l : List ℕ) (k : ℕ) (y : Run) → Ran c a l k y → 0 < y .k → k ≤ length l → (d e : Divisor) (t : State) → GivesIt c (y .state) d
+    → StepsPlain c a d (getD l (y .k - 1) 0) e → Means c t (pair (c .m) e) → GoneOn c a l k (record { state = t; k = y .k - 1 })
+further-by c a l k y v more room d e t hd he ht = record {
+  less = omega (arith, v .at-most);
+  reaches = one-digit c a l (y .state) t (y .k) (v .reaches) more (omega (arith, v .at-most)) (plain-step c a (y .state) (getD l (y .k - 1) 0) d e t hd he ht);
+}
 
-pub further-all : (c : Curve) (a : Divisor) (n k : ℕ) (y : Run) → Ran c a n k y → y .k ≡ 0 → 0 < k → GoneOn c a n k y
-further-all c a n k y v z more = record { less = omega arith; reaches = v .reaches }
+pub further-all : (c : Curve) (a : Divisor) (l : List ℕ) (k : ℕ) (y : Run) → Ran c a l k y → y .k ≡ 0 → 0 < k → GoneOn c a l k y
+further-all c a l k y v z more = record { less = omega arith; reaches = v .reaches }

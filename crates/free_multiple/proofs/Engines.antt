@@ -1,5 +1,6 @@
 -- The two engines answer alike: one value, with both counts, on every curve and divisor of either genus.
 use mathlib.Core.Path.{_≡_, sym, _∙_, subst}
+use mathlib.Core.List.{List}
 use Prim.Native.Nat.{ℕ}
 use Rattle.divisor.specs.declared.Divisor.{Divisor}
 use Rattle.divisor.proofs.Laws.{pair-inj}
@@ -24,5 +25,5 @@ same-multiple c a n r s hr hs = λ i. record {
 }
 
 -- and so does each step, special pairs included, by whatever tuples or divisors it came there
-pub same-further : (c : Curve) (a : Divisor) (n k : ℕ) (x x' : Run) → GoneOn c a n k x → GoneOn c a n k x' → x .k ≡ x' .k → (d d' : Divisor) → GivesIt c (x .state) d → GivesIt c (x' .state) d' → d ≡ d'
-same-further c a n k x x' g g' e d d' h h' = one-value c d d' (h _ (g .reaches)) (h' _ (subst (λ (j : ℕ). Reaches c a n (x' .state) j) (sym e) (g' .reaches)))
+pub same-further : (c : Curve) (a : Divisor) (l : List ℕ) (k : ℕ) (x x' : Run) → GoneOn c a l k x → GoneOn c a l k x' → x .k ≡ x' .k → (d d' : Divisor) → GivesIt c (x .state) d → GivesIt c (x' .state) d' → d ≡ d'
+same-further c a l k x x' g g' e d d' h h' = one-value c d d' (h _ (g .reaches)) (h' _ (subst (λ (j : ℕ). Reaches c a l (x' .state) j) (sym e) (g' .reaches)))

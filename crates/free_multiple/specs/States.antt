@@ -1,15 +1,16 @@
 -- What a partial multiple in code stands for, and what the engine's steps promise.
-use Prim.Native.Nat.{ℕ, _+_, _*_, _/_, _^_, _≤_, _<_}
+use Prim.Native.Nat.{ℕ, _≤_, _<_}
 use mathlib.Core.Path.{_≡_}
 use mathlib.Core.Logic.{_≢_}
 use mathlib.Core.List.{List}
 use lib.ListN.{length}
+use lib.IntN.{ℤ, _+ℤ_}
+use Rattle.signed.specs.Digits.{value}
 use Rattle.algebra.proofs.zmod.Zmod.{zmod}
 use Rattle.algebra.proofs.zmod.PrimeField.{modulo}
-use Rattle.rules.specs.Pair.{Pair, Valid}
+use Rattle.rules.specs.Pair.{Pair, Valid, opposite}
 use Rattle.rules.specs.Sum.{sum, double}
-use Rattle.rules.specs.Multiple.{multiple}
-use Rattle.rules.specs.Bytes.{number}
+use Rattle.rules.proofs.cantor.Signed.{wholes}
 use Rattle.field.specs.declared.Residue.{Residue}
 use Rattle.field.specs.Residues.{el, Stands, Settled}
 use Rattle.divisor.specs.declared.Divisor.{Divisor}
@@ -18,6 +19,7 @@ use Rattle.divisor.specs.declared.Quadratic.{Quadratic}
 use Rattle.divisor.specs.Divisors.{pair}
 use Rattle.curve.specs.declared.Curve.{Curve}
 use Rattle.curve.specs.Curves.{curveOf, Sound, Holds, Gives}
+use Rattle.multiple.specs.Contracts.{digit, upper}
 use Rattle.free.specs.declared.Tuple.{Tuple}
 use Rattle.free.specs.Tuples.{KeptTuple, Quotients}
 use Rattle.free_multiple.specs.declared.State.{State}
@@ -54,9 +56,9 @@ module _ (c : Curve) where
   abbrev pub Adds : State → Divisor → State → Type 0
   Adds s a r = (x : Pair (modulo (c .m .p))) → Means s x → Means r (sum (curveOf c) x (pair (c .m) a))
 
-  -- a multiple of a with one bit more
+  -- a multiple of a with one digit more
   abbrev pub Stepped : Divisor → State → ℕ → State → Type 0
-  Stepped a s bit t = (n : ℕ) → Means s (multiple (curveOf c) n (pair (c .m) a)) → Means t (multiple (curveOf c) (n + n + bit) (pair (c .m) a))
+  Stepped a s d t = (k : ℤ) → Means s (wholes (curveOf c) k (pair (c .m) a)) → Means t (wholes (curveOf c) (value (digit d) +ℤ (k +ℤ k)) (pair (c .m) a))
 
   -- the curve's own coefficients
   pub record Reads (f2 f3 f4 : Residue) : Type 0 where
@@ -64,34 +66,39 @@ module _ (c : Curve) where
     pub third : Stands (c .m) f3 (el (c .m) (c .f3))
     pub fourth : Stands (c .m) f4 (el (c .m) (c .f4))
 
-  pub record ToClimb (f2 f3 f4 : Residue) (q : Quadratic) (t : Tuple) (bit : ℕ) : Type 0 where
+  -- b is a's opposite
+  abbrev pub Opposes : Divisor → Divisor → Type 0
+  Opposes a b = Gives c b (opposite (pair (c .m) a))
+
+  pub record ToClimb (f2 f3 f4 : Residue) (q p : Quadratic) (t : Tuple) : Type 0 where
     pub sound : Sound c
     pub reads : Reads f2 f3 f4
     pub left : SomeFree t
     pub right : Holds c (Two q)
-    pub small : bit < 2
+    pub opposed : Opposes (Two q) (Two p)
 
   -- a step on tuples alone, where the last Z isn't 0
-  pub record Climbed (q : Quadratic) (t : Tuple) (bit : ℕ) (r : Tuple) : Type 0 where
+  pub record Climbed (q : Quadratic) (t : Tuple) (d : ℕ) (r : Tuple) : Type 0 where
     pub settled : Settled (c .m) (r .z)
-    pub is : el (c .m) (r .z) ≢ zmod (c .m .p) .zer → Stepped (Two q) (Free t) bit (Free r)
+    pub is : el (c .m) (r .z) ≢ zmod (c .m .p) .zer → Stepped (Two q) (Free t) d (Free r)
 
-  -- s stands for the multiple of a by n without its lowest k bits
-  abbrev pub Reaches : Divisor → ℕ → State → ℕ → Type 0
-  Reaches a n s k = Means s (multiple (curveOf c) (n / 2 ^ k) (pair (c .m) a))
+  -- s stands for the multiple of a by the digits from place k on
+  abbrev pub Reaches : Divisor → List ℕ → State → ℕ → Type 0
+  Reaches a d s k = Means s (wholes (curveOf c) (upper d k) (pair (c .m) a))
 
-  pub record ToRun (a : Divisor) (s : List ℕ) (r : State) (k : ℕ) : Type 0 where
+  pub record ToRun (a b : Divisor) (d : List ℕ) (r : State) (k : ℕ) : Type 0 where
     pub sound : Sound c
     pub right : Holds c a
-    pub place : k ≤ 8 * length s
-    pub reaches : Reaches a (number s) r k
+    pub opposed : Opposes a b
+    pub place : k ≤ length d
+    pub reaches : Reaches a d r k
 
-  -- some bits taken, or none
-  pub record Ran (a : Divisor) (n k : ℕ) (x : Run) : Type 0 where
+  -- some digits taken, or none
+  pub record Ran (a : Divisor) (d : List ℕ) (k : ℕ) (x : Run) : Type 0 where
     pub at-most : x .k ≤ k
-    pub reaches : Reaches a n (x .state) (x .k)
+    pub reaches : Reaches a d (x .state) (x .k)
 
   -- one at least
-  pub record GoneOn (a : Divisor) (n k : ℕ) (x : Run) : Type 0 where
+  pub record GoneOn (a : Divisor) (d : List ℕ) (k : ℕ) (x : Run) : Type 0 where
     pub less : x .k < k
-    pub reaches : Reaches a n (x .state) (x .k)
+    pub reaches : Reaches a d (x .state) (x .k)

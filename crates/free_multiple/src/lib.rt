@@ -1,4 +1,4 @@
-// The second engine: the n-fold multiple by left-to-right double-and-add on tuples without division. Where a step has a special pair, or the genus is 3,
+// The second engine: the n-fold multiple by left-to-right double-and-add over signed digits, on tuples without division. Where a step has a special pair, or the genus is 3,
 // it is made by the plain sum. Runs of ordinary steps are made on tuples alone.
 ghost use mathlib.Core.Path.{_≡_};
 ghost use Prim.Native.Nat.{_<_};
@@ -12,7 +12,7 @@ use divisor::Divisor;
 use divisor::Quadratic;
 use field::Residue;
 use free::Tuple;
-use multiple::Counts;
+use multiple::Digits;
 use multiple::Multiple;
 
 // A partial multiple, over a common Z or plain.
@@ -21,10 +21,10 @@ pub enum State {
     Plain(Divisor),
 }
 
-// How far a run of bits came: k are left.
+// How far a run of digits came: k are left.
 pub struct Run {
     pub state: State,
-    pub k: u64,
+    pub k: usize,
 }
 
 // In plain form, by one inverse at most.
@@ -59,10 +59,19 @@ fn keep(c: Curve, d: Divisor) -> State
     }
 }
 
-// A tuple doubled, and q added where the bit is 1: over a Z of 0 where a pair is special.
-fn climb(c: Curve, f2: Residue, f3: Residue, f4: Residue, q: Quadratic, t: Tuple, bit: u8) -> Tuple
-    requires { ⌜ ToClimb c f2 f3 f4 q t bit ⌝ }
-    ensures { λ r. ⌜ Climbed c q t bit r ⌝ }
+// A tuple doubled, and q or its opposite p added as the digit says: over a Z of 0 where a pair is special.
+fn climb(
+    c: Curve,
+    f2: Residue,
+    f3: Residue,
+    f4: Residue,
+    q: Quadratic,
+    p: Quadratic,
+    t: Tuple,
+    digit: u8,
+) -> Tuple
+    requires { ⌜ ToClimb c f2 f3 f4 q p t ⌝ }
+    ensures { λ r. ⌜ Climbed c q t digit r ⌝ }
 {
     let m = c.m;
     let d = free::double(t, f2, f3, f4, m);
@@ -70,16 +79,19 @@ fn climb(c: Curve, f2: Residue, f3: Residue, f4: Residue, q: Quadratic, t: Tuple
     if z.is_zero(m) {
         return d;
     }
-    if bit == 1 {
-        return free::mixed(d, q, f4, m);
+    if digit == 0 {
+        return free::mixed(d, p, f4, m);
     }
-    d
+    if digit == 1 {
+        return d;
+    }
+    free::mixed(d, q, f4, m)
 }
 
-// Bits as long as no pair is special: the curve's coefficients are read once.
-fn on_tuples(c: Curve, q: Quadratic, s: &[u8], t: Tuple, k: u64) -> Run
-    requires { ⌜ ToRun c (Divisor.Two q) (now s) (State.Free t) k ⌝ }
-    ensures { λ r. ⌜ Ran c (Divisor.Two q) (number (now (s .entry))) k r ⌝ }
+// Digits as long as no pair is special: the curve's coefficients are read once.
+fn on_tuples(c: Curve, q: Quadratic, p: Quadratic, at: &[u8], t: Tuple, k: usize) -> Run
+    requires { ⌜ ToRun c (Divisor.Two q) (Divisor.Two p) (now at) (State.Free t) k ⌝ }
+    ensures { λ r. ⌜ Ran c (Divisor.Two q) (now (at .entry)) k r ⌝ }
 {
     let m = c.m;
     let f2 = c.f2;
@@ -88,7 +100,7 @@ fn on_tuples(c: Curve, q: Quadratic, s: &[u8], t: Tuple, k: u64) -> Run
     let mut r = t;
     let mut j = k;
     while 0 < j {
-        let y = climb(c, f2, f3, f4, q, r, multiple::bit(s, j - 1));
+        let y = climb(c, f2, f3, f4, q, p, r, at[j - 1]);
         let z = y.z;
         if z.is_zero(m) {
             return Run {
@@ -105,47 +117,69 @@ fn on_tuples(c: Curve, q: Quadratic, s: &[u8], t: Tuple, k: u64) -> Run
     }
 }
 
-// As many bits as can be taken on tuples.
-fn ahead(c: Curve, a: Divisor, s: &[u8], r: State, k: u64) -> Run
-    requires { ⌜ ToRun c a (now s) r k ⌝ }
-    ensures { λ x. ⌜ Ran c a (number (now (s .entry))) k x ⌝ }
+// As many digits as can be taken on tuples, where the divisor has weight 2, by its opposite b.
+fn beside(c: Curve, q: Quadratic, b: Divisor, at: &[u8], t: Tuple, k: usize) -> Run
+    requires { ⌜ ToRun c (Divisor.Two q) b (now at) (State.Free t) k ⌝ }
+    ensures { λ x. ⌜ Ran c (Divisor.Two q) (now (at .entry)) k x ⌝ }
+{
+    match b {
+        Divisor::Neutral => Run {
+            state: State::Free(t),
+            k: k,
+        },
+        Divisor::One(_) => Run {
+            state: State::Free(t),
+            k: k,
+        },
+        Divisor::Two(p) => on_tuples(c, q, p, at, t, k),
+        Divisor::Three(_) => Run {
+            state: State::Free(t),
+            k: k,
+        },
+    }
+}
+
+// As many digits as can be taken on tuples.
+fn ahead(c: Curve, a: Divisor, b: Divisor, at: &[u8], r: State, k: usize) -> Run
+    requires { ⌜ ToRun c a b (now at) r k ⌝ }
+    ensures { λ x. ⌜ Ran c a (now (at .entry)) k x ⌝ }
 {
     match r {
         State::Free(t) => match a {
             Divisor::Neutral => Run { state: r, k: k },
             Divisor::One(_) => Run { state: r, k: k },
-            Divisor::Two(q) => on_tuples(c, q, s, t, k),
+            Divisor::Two(q) => beside(c, q, b, at, t, k),
             Divisor::Three(_) => Run { state: r, k: k },
         },
         State::Plain(_) => Run { state: r, k: k },
     }
 }
 
-// These, and the bit after them by the plain sum.
-fn further(c: Curve, a: Divisor, s: &[u8], r: State, k: u64) -> Run
-    requires { ⌜ ToRun c a (now s) r k × (0 < k) ⌝ }
-    ensures { λ x. ⌜ GoneOn c a (number (now (s .entry))) k x ⌝ }
+// These, and the digit after them by the plain sum.
+fn further(c: Curve, a: Divisor, b: Divisor, at: &[u8], r: State, k: usize) -> Run
+    requires { ⌜ ToRun c a b (now at) r k × (0 < k) ⌝ }
+    ensures { λ x. ⌜ GoneOn c a (now (at .entry)) k x ⌝ }
 {
-    let y = ahead(c, a, s, r, k);
+    let y = ahead(c, a, b, at, r, k);
     let j = y.k;
     if j == 0 {
         return y;
     }
     let v = y.state;
     let d = plain(c, v);
-    let e = multiple::step(c, a, d, multiple::bit(s, j - 1));
+    let e = multiple::step(c, a, b, d, at[j - 1]);
     let t = keep(c, e);
     Run { state: t, k: j - 1 }
 }
 
-// The leading 1 is a itself.
+// The highest digit is a itself.
 pub fn of(c: Curve, a: Divisor, s: &[u8]) -> Multiple
     requires { ⌜ ToMultiply c a (now s) ⌝ }
     ensures { λ r. ⌜ Multiplied c a (number (now (s .entry))) r ⌝ }
 {
-    let n = Counts::of(s);
+    let n = Digits::of(s);
     let length = n.length;
-    let ones = n.ones;
+    let nonzeros = n.nonzeros;
     if length == 0 {
         return Multiple {
             divisor: Divisor::neutral(),
@@ -153,17 +187,19 @@ pub fn of(c: Curve, a: Divisor, s: &[u8]) -> Multiple
             additions: 0,
         };
     }
+    let at = n.at;
+    let b = jacobian::opposite(c, a);
     let mut r = keep(c, a);
     let mut k = length - 1;
     while 0 < k {
-        let x = further(c, a, s, r, k);
+        let x = further(c, a, b, &at, r, k);
         r = x.state;
         k = x.k;
     }
     let d = plain(c, r);
     Multiple {
         divisor: d,
-        doublings: length - 1,
-        additions: ones - 1,
+        doublings: (length - 1) as u64,
+        additions: nonzeros - 1,
     }
 }

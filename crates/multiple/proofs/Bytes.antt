@@ -1,16 +1,15 @@
--- A scalar by its bytes, in order. Gives: the number with one byte more, and its ones; that bit k of the whole number is bit k % 8 of the byte
--- that is k / 8 bytes from the end.
+-- A scalar by its bytes, in order. Gives: bit k of the whole number is bit k % 8 of the byte that is k / 8 bytes from the end (`bit-is`), and 0 where there is no such byte (`bit-above`); how large the
+-- number can be (`below`).
 use Prim.Native.Nat.{ℕ, zero, suc, _+_, _-_, _*_, _/_, _%_, _^_, _≤_, _<_}
 use mathlib.Core.Path.{_≡_, sym, ap, _∙_}
 use mathlib.Core.List.{List, [], _∷_, foldl-append}
 use native.Mathlib.Numerals.{add-one}
 use native.Mathlib.Omega.{arith}
-use native.Mathlib.Nat.{mod-lt, div-one, div-add-mod}
+use native.Mathlib.Nat.{mod-lt, div-one, div-add-mod, zero-div, div-lt-iff-lt-mul}
 use lib.ListN.{length, take, getD}
 use lib.Seq.{take-suc, take-length}
-use lib.Pow.{shr-shr, high}
+use lib.Pow.{pow-pos, shr-shr, high}
 use lib.Bits.{block-half, block-odd}
-use lib.Count.{ones, ones-cat}
 use Rattle.rules.specs.Bytes.{number}
 use Rattle.rules.proofs.calls.Bytes.{AreBytes}
 
@@ -25,7 +24,7 @@ bit-below (suc w) (suc r) a b l = ap (λ n. n % 2) (lower (a * 2 ^ suc w + b) �
 
 module _ (s : List ℕ) where
   -- ---- one byte more
-  pub number-more : (i : ℕ) → i < length s → number (take (i + 1) s) ≡ 256 * number (take i s) + getD s i 0
+  number-more : (i : ℕ) → i < length s → number (take (i + 1) s) ≡ 256 * number (take i s) + getD s i 0
   unfolding number
   number-more i l = ap (λ n. number (take n s)) (add-one i) ∙ ap number (take-suc s i 0 l) ∙ foldl-append (λ n b. 256 * n + b) 0 (take i s) (getD s i 0 ∷ [])
 
@@ -33,13 +32,10 @@ module _ (s : List ℕ) where
   more-bits : (i : ℕ) → i < length s → number (take (i + 1) s) ≡ number (take i s) * 2 ^ 8 + getD s i 0
   more-bits i l = omega (arith, number-more i l)
 
-  pub number-all : number (take (length s) s) ≡ number s
+  number-all : number (take (length s) s) ≡ number s
   number-all = ap number (take-length s)
 
   module _ (bytes : AreBytes s) where
-    pub ones-more : (i : ℕ) → i < length s → ones (number (take (i + 1) s)) ≡ ones (number (take i s)) + ones (getD s i 0)
-    ones-more i l = ap ones (more-bits i l) ∙ ones-cat 8 (number (take i s)) (getD s i 0) (bytes i)
-
     -- ---- the last j bytes taken off
     front : (j : ℕ) → j ≤ length s → number s / 2 ^ (j * 8) ≡ number (take (length s - j) s)
     front zero l = div-one (number s) ∙ sym number-all ∙ ap (λ k. number (take k s)) {x = length s} {y = length s - 0} (omega arith)
@@ -55,3 +51,15 @@ module _ (s : List ℕ) where
 
         here : number s / 2 ^ (k / 8 * 8) ≡ number (take i s) * 2 ^ 8 + getD s i 0
         here = front (k / 8) (omega arith) ∙ ap (λ j. number (take j s)) {x = length s - k / 8} {y = i + 1} (omega arith) ∙ more-bits i (omega arith)
+
+    -- ---- above the highest byte
+    all-off : number s / 2 ^ (length s * 8) ≡ 0
+    unfolding number
+    all-off = front (length s) (omega arith) ∙ ap (λ k. number (take k s)) {x = length s - length s} {y = 0} (omega arith)
+
+    pub below : number s < 2 ^ (length s * 8)
+    below = let h = div-lt-iff-lt-mul {k = 2 ^ (length s * 8)} {x = number s} {y = 1} (pow-pos (length s * 8)) .0 (omega (arith, all-off)) in omega arith
+
+    pub bit-above : (k : ℕ) → length s ≤ k / 8 → number s / 2 ^ k % 2 ≡ 0
+    bit-above k l = ap (λ n. n % 2) (ap (λ j. number s / 2 ^ j) {x = k} {y = length s * 8 + (k - length s * 8)} (omega (arith, div-add-mod k 8)) ∙ sym (shr-shr (number s) (length s * 8) (k - length s * 8))
+        ∙ ap (λ n. n / 2 ^ (k - length s * 8)) all-off ∙ zero-div (2 ^ (k - length s * 8)))

@@ -1,16 +1,17 @@
 -- Multiples in code. Gives: that the neutral divisor is the 0-fold and a the 1-fold multiple of a; that a multiple doubled,
--- and with a added where a bit is 1, is the multiple with that bit more.
-use Prim.Native.Nat.{ℕ, _+_}
-use mathlib.Core.Path.{_≡_, sym, ap, ap₂, _∙_, subst}
-use native.Mathlib.Omega.{arith}
+-- and with a or its opposite added as a digit says, is the multiple with that digit more.
+use Prim.Native.Nat.{ℕ}
+use mathlib.Core.Path.{_≡_, refl, sym, ap, _∙_, subst}
+use lib.IntN.{ℤ, _+ℤ_}
 use Rattle.algebra.proofs.zmod.PrimeField.{modulo}
 use Rattle.rules.specs.Curve.{Curve as RuleCurve}
-use Rattle.rules.specs.Pair.{Pair}
+use Rattle.signed.specs.Digits.{Digit, value}
+use Rattle.signed.proofs.Signed.{with-digit}
+use Rattle.rules.specs.Pair.{Pair, neutral, opposite}
 use Rattle.rules.specs.Sum.{sum, double}
 use Rattle.rules.specs.Multiple.{multiple}
-use Rattle.rules.proofs.Quick.{double-is}
 use Rattle.rules.proofs.cantor.Group.{neutral-sum}
-use Rattle.rules.proofs.cantor.Totals.{multiple-add}
+use Rattle.rules.proofs.cantor.Signed.{wholes, digit-more}
 use Rattle.divisor.specs.declared.Divisor.{Divisor}
 use Rattle.divisor.specs.declared.Divisor.the-variants.{Neutral}
 use Rattle.divisor.specs.Divisors.{pair}
@@ -18,6 +19,7 @@ use Rattle.divisor.proofs.Laws.{neutral-is}
 use Rattle.curve.specs.declared.Curve.{Curve}
 use Rattle.curve.specs.Curves.{curveOf, Sound, Holds, Gives}
 use Rattle.curve.proofs.Contains.{accepted, neutral-holds}
+use Rattle.multiple.specs.Contracts.{digit}
 
 module _ (c : Curve) (h : Sound c) (a : Divisor) (ha : Holds c a) where
   abbrev E : RuleCurve
@@ -37,12 +39,17 @@ module _ (c : Curve) (h : Sound c) (a : Divisor) (ha : Holds c a) where
   pub itself : Gives c a (multiple E 1 A)
   itself = record { holds = ha; is = sym one-fold }
 
-  module _ (r t : Divisor) (ht : Gives c t (double E (pair (c .m) r))) (n : ℕ) (e : pair (c .m) r ≡ multiple E n A) where
-    doubled : double E (pair (c .m) r) ≡ multiple E (n + n) A
-    doubled = double-is E (pair (c .m) r) ∙ ap₂ (sum E) e e ∙ sym (multiple-add E (accepted c h) A (ha .valid) n n)
+  -- ---- r doubled is t; with a digit more it is u
+  module _ (r t : Divisor) (ht : Gives c t (double E (pair (c .m) r))) (k : ℤ) (e : pair (c .m) r ≡ wholes E k A) where
+    pub with-one : (b : ℕ) (d : Digit) → digit b ≡ d → (u : Divisor) → Gives c u (with-digit (sum E) (double E) opposite neutral A d (pair (c .m) t)) → Gives c u (wholes E (value (digit b) +ℤ (k +ℤ k)) A)
+    with-one b d q u hu = subst (Gives c u) (ap (with-digit (sum E) (double E) opposite neutral A d) (ht .is ∙ ap (double E) e) ∙ digit-more E (accepted c h) A (ha .valid) d k
+        ∙ ap (λ (i : Digit). wholes E (value i +ℤ (k +ℤ k)) A) (sym q)) hu
 
-    pub without : (bit : ℕ) → bit ≡ 0 → Gives c t (multiple E (n + n + bit) A)
-    without bit z = subst (Gives c t) (doubled ∙ ap (λ k. multiple E k A) {x = n + n} {y = n + n + bit} (omega arith)) ht
+-- ---- what is added
+-- the opposite
+pub taken : (c : Curve) (a b : Divisor) → Gives c b (opposite (pair (c .m) a)) → (t u : Divisor) → Gives c u (sum (curveOf c) (pair (c .m) t) (pair (c .m) b)) → Gives c u (sum (curveOf c) (pair (c .m) t) (opposite (pair (c .m) a)))
+taken c a b hb t u hu = subst (λ (x : Pair (modulo (c .m .p))). Gives c u (sum (curveOf c) (pair (c .m) t) x)) (hb .is) hu
 
-    pub with-one : (bit : ℕ) → bit ≡ 1 → (u : Divisor) → Gives c u (sum E (pair (c .m) t) A) → Gives c u (multiple E (n + n + bit) A)
-    with-one bit o u hu = subst (Gives c u) (ap₂ (sum E) (ht .is ∙ doubled) (sym one-fold) ∙ sym (multiple-add E (accepted c h) A (ha .valid) (n + n) 1) ∙ ap (λ k. multiple E k A) {x = n + n + 1} {y = n + n + bit} (omega arith)) hu
+-- nothing
+pub itself-given : (c : Curve) (t : Divisor) → Holds c t → Gives c t (pair (c .m) t)
+itself-given c t h = record { holds = h; is = refl }

@@ -1,5 +1,6 @@
 pub mod Bytes
-pub mod Lengths
-pub mod Counting
+pub mod Counted
+pub mod Recoding
+pub mod Upper
 pub mod Folds
 pub mod Multiplying

@@ -1,9 +1,10 @@
-// The n-fold multiple of a divisor by left-to-right double-and-add, with the counts of its steps.
+// The n-fold multiple of a divisor by left-to-right double-and-add over the scalar's signed digits, with the counts of its steps.
 ghost use mathlib.Core.Path.{_≡_};
 ghost use Prim.Native.Nat.{_*_, _/_, _%_, _^_, _≤_, _<_};
 ghost use lib.ListN.{length};
 ghost use Rattle.rules.specs.Bytes.{number};
-ghost use Rattle.multiple.specs.Contracts.{Grown, Counted, ToStep, Stepped, ToMultiply, Multiplied};
+ghost use Rattle.rules.proofs.calls.Bytes.{AreBytes};
+ghost use Rattle.multiple.specs.Contracts.{Raised, Recoded, ToStep, Stepped, ToMultiply, Multiplied};
 use curve::Curve;
 use divisor::Divisor;
 
@@ -13,74 +14,90 @@ pub struct Multiple {
     pub additions: u64,
 }
 
-// The bit length of a number, and its ones.
-pub struct Counts {
-    pub length: u64,
-    pub ones: u64,
+// The signed digits of a scalar of up to 32 bytes, the lowest first, each kept as the number one above it; how many there are, and how many of them are nonzero.
+pub struct Digits {
+    pub at: [u8; 257],
+    pub length: usize,
+    pub nonzeros: u64,
 }
 
-// The bit length with one byte more behind.
-fn grown(length: u64, b: u8) -> u64
-    requires { ⌜ length ≤ 256 ⌝ }
-    ensures { λ r. ⌜ Grown length b r ⌝ }
-{
-    if length == 0 {
-        return (8 - u8::leading_zeros(b)) as u64;
-    }
-    length + 8
-}
-
-impl Counts {
-    pub fn of(s: &[u8]) -> Counts
-        requires { ⌜ length (now s) ≤ 32 ⌝ }
-        ensures { λ r. ⌜ Counted (now (s .entry)) r ⌝ }
-    {
-        let mut length: u64 = 0;
-        let mut ones: u64 = 0;
-        let mut i: usize = 0;
-        while i < s.len() {
-            let b = s[i];
-            length = grown(length, b);
-            ones += u8::count_ones(b) as u64;
-            i += 1;
-        }
-        Counts {
-            length: length,
-            ones: ones,
-        }
-    }
-}
-
-// Bit k of a scalar, counted from the lowest.
-pub fn bit(s: &[u8], k: u64) -> u8
-    requires { ⌜ k < 8 * length (now s) ⌝ }
+// Bit k of a scalar, counted from the lowest; 0 above the highest.
+fn bit(s: &[u8], k: usize) -> u8
+    requires { ⌜ AreBytes (now s) ⌝ }
     ensures { λ r. ⌜ r ≡ number (now (s .entry)) / 2 ^ k % 2 ⌝ }
 {
-    let i = s.len() - 1 - (k / 8) as usize;
-    (s[i] >> (k % 8)) % 2
+    let j = k / 8;
+    if j < s.len() {
+        return (s[s.len() - 1 - j] >> (k % 8)) % 2;
+    }
+    0
 }
 
-// r doubled, and a added where the bit is 1.
-pub fn step(c: Curve, a: Divisor, r: Divisor, bit: u8) -> Divisor
-    requires { ⌜ ToStep c a r bit ⌝ }
-    ensures { λ t. ⌜ Stepped c a r bit t ⌝ }
+// The length with digit k, which is nonzero where its bit and carry come to 1.
+fn raised(length: usize, k: usize, t: u8) -> usize
+    requires { ⌜ k < 257 ⌝ }
+    ensures { λ r. ⌜ Raised length k t r ⌝ }
+{
+    if t == 1 {
+        return k + 1;
+    }
+    length
+}
+
+impl Digits {
+    // Digit k is bit k and its carry less twice the next carry, which is half of bit k, bit k + 1 and the carry together.
+    pub fn of(s: &[u8]) -> Digits
+        requires { ⌜ length (now s) ≤ 32 ⌝ }
+        ensures { λ r. ⌜ Recoded (number (now (s .entry))) r ⌝ }
+    {
+        let mut at: [u8; 257] = [1; 257];
+        let end = 8 * s.len() + 1;
+        let mut next = bit(s, 0);
+        let mut carry: u8 = 0;
+        let mut length: usize = 0;
+        let mut nonzeros: u64 = 0;
+        let mut k: usize = 0;
+        while k < end {
+            let t = next + carry;
+            next = bit(s, k + 1);
+            carry = (t + next) / 2;
+            at[k] = t + 1 - 2 * carry;
+            length = raised(length, k, t);
+            nonzeros += (t % 2) as u64;
+            k += 1;
+        }
+        Digits {
+            at: at,
+            length: length,
+            nonzeros: nonzeros,
+        }
+    }
+}
+
+// r doubled, and a or its opposite b added as the digit says.
+pub fn step(c: Curve, a: Divisor, b: Divisor, r: Divisor, digit: u8) -> Divisor
+    requires { ⌜ ToStep c a b r ⌝ }
+    ensures { λ t. ⌜ Stepped c a r digit t ⌝ }
 {
     let t = jacobian::double(c, r);
-    if bit == 1 {
-        return jacobian::sum(c, t, a);
+    if digit == 0 {
+        return jacobian::sum(c, t, b);
     }
-    t
+    if digit == 1 {
+        return t;
+    }
+    jacobian::sum(c, t, a)
 }
 
 impl Multiple {
-    // The leading 1 is a itself, so a doubling is made for each bit after it and an addition for each 1 among them.
+    // The highest digit is a itself, so a doubling is made for each digit below it and an addition for each of these that is nonzero.
     pub fn of(c: Curve, a: Divisor, s: &[u8]) -> Multiple
         requires { ⌜ ToMultiply c a (now s) ⌝ }
         ensures { λ r. ⌜ Multiplied c a (number (now (s .entry))) r ⌝ }
     {
-        let n = Counts::of(s);
+        let n = Digits::of(s);
         let length = n.length;
-        let ones = n.ones;
+        let nonzeros = n.nonzeros;
         if length == 0 {
             return Multiple {
                 divisor: Divisor::neutral(),
@@ -88,16 +105,18 @@ impl Multiple {
                 additions: 0,
             };
         }
+        let at = n.at;
+        let b = jacobian::opposite(c, a);
         let mut r = a;
         let mut k = length - 1;
         while 0 < k {
             k -= 1;
-            r = step(c, a, r, bit(s, k));
+            r = step(c, a, b, r, at[k]);
         }
         Multiple {
             divisor: r,
-            doublings: length - 1,
-            additions: ones - 1,
+            doublings: (length - 1) as u64,
+            additions: nonzeros - 1,
         }
     }
 }

@@ -5,7 +5,7 @@
 use Prim.Native.Nat.{ℕ, suc, _+_, _*_, _-_, _/_, _≤_, _<_}
 use mathlib.Core.Path.{_≡_, refl, _∙_}
 use mathlib.Core.List.{List, [], _∷_, map, flatten, Perm}
-use mathlib.Core.Bool.{Bool, true}
+use mathlib.Core.Bool.{true}
 use mathlib.Core.Logic.{_≢_, _↔_}
 use mathlib.Mathlib.Algebra.Group.Defs.{IsAddCommGroup}
 use native.Mathlib.Omega.{arith}
@@ -16,7 +16,8 @@ use Rattle.algebra.proofs.zmod.Zmod.{zmod, emb, zmod-dec}
 use Rattle.algebra.proofs.zmod.Prime.{Prime, is-prime, prime-by-test}
 use Rattle.algebra.proofs.zmod.PrimeField.{inv, prime-field}
 use Rattle.algebra.proofs.group.Group.{sum-zer}
-use Rattle.algebra.proofs.group.DoubleAdd.{number, double-and-add}
+use Rattle.signed.specs.Digits.{recode}
+use Rattle.signed.proofs.Signed.{signed-run}
 use Rattle.rules.specs.Curve.{Curve, Kx, SquareFree}
 use Rattle.rules.specs.Pair.{Pair, u-of, f-v², Valid, neutral, opposite}
 use Rattle.rules.specs.Sum.{composition, sum, double}
@@ -30,8 +31,8 @@ use Rattle.rules.proofs.cantor.Composition.{Composes, composition-is, c
 use Rattle.rules.proofs.cantor.Reduction.{Reduces}
 use Rattle.rules.proofs.cantor.Sum.{sum-loop, sum-valid}
 use Rattle.rules.proofs.cantor.Group.{Divisor, divisor-set, jacobian, sum-comm, sum-assoc, neutral-sum, sum-opposite}
-use Rattle.rules.proofs.cantor.Totals.{AllValid, total-valid, total-order, total-parts, multiple-valid, multiple-add, multiple-mul, bits-multiple}
-use Rattle.rules.proofs.cantor.Counts.{bits-doublings, bits-additions}
+use Rattle.rules.proofs.cantor.Totals.{AllValid, total-valid, total-order, total-parts, multiple-valid, multiple-add, multiple-mul}
+use Rattle.rules.proofs.cantor.Signed.{signed-multiple}
 
 pub record Demand3 (E : Curve) : Type 0 where
   -- the composed pair has deg v < deg u, and u divides f - v²
@@ -61,9 +62,9 @@ pub record Demand3 (E : Curve) : Type 0 where
   -- (m + n)-fold, mn-fold
   pub fold-add : (m n : ℕ) (a : Pair (E .K)) → Valid E a → multiple E (m + n) a ≡ sum E (multiple E m a) (multiple E n a)
   pub fold-mul : (m n : ℕ) (a : Pair (E .K)) → Valid E a → multiple E (m * n) a ≡ multiple E m (multiple E n a)
-  -- double-and-add over any bits, the highest first, is the multiple, and takes exactly the counts reported
-  pub by-bits : (a : Pair (E .K)) (l : List Bool) → Valid E a
-      → double-and-add (sum E) (double E) neutral a l ≡ record { value = multiple E (number l) a; doublings = doublings (number l); additions = additions (number l) }
+  -- double-and-add over the non-adjacent form of n is the n-fold multiple, and takes exactly the counts reported
+  pub by-digits : (n : ℕ) (a : Pair (E .K)) → Valid E a
+      → signed-run (sum E) (double E) opposite neutral a (recode n) ≡ record { result = multiple E n a; doublings = doublings n; additions = additions n }
 
 -- ---- shown of every accepted curve
 pub accepted : (E : Curve) → Accepted E → Demand3 E
@@ -87,11 +88,7 @@ accepted E h = record {
   any-split = total-parts E h;
   fold-add = λ m n a va. multiple-add E h a va m n;
   fold-mul = λ m n a va. multiple-mul E h a va m n;
-  by-bits = λ a l va i. record {
-    value = bits-multiple E h a va l i;
-    doublings = bits-doublings (sum E) (double E) neutral a l i;
-    additions = bits-additions (sum E) (double E) neutral a l i;
-  };
+  by-digits = λ n a va. signed-multiple E h a va n;
 }
   where
     loop : (a b : Pair (E .K)) → Valid E a → Valid E b → (n : ℕ) × Reduces E n (composition E a b) (sum E a b) × (n ≤ (E .g + 1) / 2) × (2 ≤ E .g → n ≤ E .g - 1)

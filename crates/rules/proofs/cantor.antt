@@ -16,5 +16,4 @@ pub mod Unique
 -- L7
 pub mod Group
 pub mod Totals
-pub mod Counts
 pub mod Signed

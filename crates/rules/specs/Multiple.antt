@@ -1,7 +1,8 @@
--- Document 01, "The sum": the n-fold multiple, the batch total, and the two counts of left-to-right double-and-add.
+-- Document 01, "The sum": the n-fold multiple, the batch total; W-208: the two counts of a multiple.
 use Prim.Native.Nat.{ℕ, zero, suc, _-_}
 use mathlib.Core.List.{List, foldl}
-use lib.Count.{ones, leadingZeros}
+use lib.ListN.{length}
+use Rattle.signed.specs.Digits.{recode, nonzeros}
 use Rattle.rules.specs.Curve.{Curve}
 use Rattle.rules.specs.Pair.{Pair, neutral}
 use Rattle.rules.specs.Sum.{sum}
@@ -18,14 +19,12 @@ module _ (E : Curve) where
   unfolding sum
   total l = foldl (sum E) neutral l
 
--- n digits are enough for n, so what isn't a leading zero among them is n's length
-unfoldable pub bit-length : ℕ → ℕ
-bit-length n = n - leadingZeros n n
-
+-- of left-to-right double-and-add over the non-adjacent form: the highest digit costs nothing
 -- (a difference of numbers is never below 0, so both are 0 for n = 0)
 unfoldable pub doublings : ℕ → ℕ
-unfolding bit-length
-doublings n = bit-length n - 1
+unfolding recode
+doublings n = length (recode n) - 1
 
 unfoldable pub additions : ℕ → ℕ
-additions n = ones n - 1
+unfolding recode
+additions n = nonzeros (recode n) - 1

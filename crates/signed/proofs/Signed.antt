@@ -1,50 +1,53 @@
--- Left-to-right double-and-add-or-subtract. Gives: `signed-run`, over a string of signed digits, with the doublings and the additions it makes
--- (a subtraction, the sum with the opposite, is one of these); that it yields the multiple by what the string weighs (`signed-run-is`), so over `recode n` the n-fold
--- (`signed-run-recode`); and that over a string with no leading zero the doublings are the digits less 1 and the additions
--- the nonzero digits less 1, both 0 for no digits. The method takes any operations, the law an abelian group.
+-- Left-to-right double-and-add over signed digits. Gives: `signed-run`, over a string, with the doublings and the additions it makes (a subtraction, the sum with the opposite, is one of these); that it
+-- yields the multiple by what the string weighs (`signed-run-is`), so over `recode n` the n-fold (`signed-run-recode`), and a digit more the multiple with that digit more (`one-more`); and that over a
+-- string with no leading zero the doublings are the digits less 1 and the additions the nonzero digits less 1, both 0 for no digits. The method takes any operations, the law an abelian group.
 -- Open: the method.
 use Prim.Native.Nat.{ℕ, suc, _-_}
-use mathlib.Core.Path.{_≡_, refl, sym, ap, ap₂, _∙_}
+use mathlib.Core.Path.{_≡_, refl, sym, ap, _∙_}
 use mathlib.Core.List.{List, [], _∷_}
-use mathlib.Core.Bool.{true, false}
 use native.Mathlib.Omega.{arith}
 use lib.ListN.{length}
-use lib.IntN.{ℤ, pos, negsuc, _+ℤ_, +ℤ-idl, +ℤ-comm}
+use lib.IntN.{ℤ, _+ℤ_, +ℤ-idl, +ℤ-comm}
 use Rattle.algebra.proofs.group.Group.{AbGroup}
 use Rattle.algebra.proofs.group.Multiple.{nfold}
 use Rattle.algebra.proofs.group.Whole.{whole, whole-more, whole-less, whole-add}
-use Rattle.algebra.proofs.group.DoubleAdd.{Run, step}
-use Rattle.signed.specs.Digits.{Digit, minus, null, plus, weight, Topped, nonzeros, recode}
+use Rattle.signed.specs.Digits.{Digit, minus, null, plus, value, weight, Topped, nonzeros, recode}
 use Rattle.signed.proofs.Recode.{recode-weight}
 
 -- ---- the method
+pub record Run (A : Type 0) : Type 0 where
+  pub result : A
+  pub doublings : ℕ
+  pub additions : ℕ
+
+abbrev counted : Digit → ℕ → ℕ
+counted minus n = suc n
+counted null n = n
+counted plus n = suc n
+
 module _ {A : Type 0} (sum : A → A → A) (double opposite : A → A) (zer a : A) where
+  -- a or its opposite added, or nothing
+  abbrev pub with-digit : Digit → A → A
+  with-digit minus x = sum x (opposite a)
+  with-digit null x = x
+  with-digit plus x = sum x a
+
   -- the highest digit costs nothing
-  abbrev pub begin : Digit → Run A
-  begin minus = record { value = opposite a; doublings = 0; additions = 0 }
-  begin null = record { value = zer; doublings = 0; additions = 0 }
-  begin plus = record { value = a; doublings = 0; additions = 0 }
+  abbrev highest : Digit → A
+  highest minus = opposite a
+  highest null = zer
+  highest plus = a
 
-  -- each lower one doubles, and adds a or its opposite
-  abbrev pub signed-step : Run A → Digit → Run A
-  signed-step r minus = step sum double zer (opposite a) r true
-  signed-step r null = step sum double zer a r false
-  signed-step r plus = step sum double zer a r true
-
-  -- (the lowest digit stands first, so it comes last)
+  -- each lower one doubles first (the lowest digit stands first, so it comes last)
   abbrev pub signed-run : List Digit → Run A
-  signed-run [] = begin null
-  signed-run (d ∷ []) = begin d
-  signed-run (d ∷ e ∷ l) = signed-step (signed-run (e ∷ l)) d
+  signed-run [] = record { result = zer; doublings = 0; additions = 0 }
+  signed-run (d ∷ []) = record { result = highest d; doublings = 0; additions = 0 }
+  signed-run (d ∷ e ∷ l) = let r = signed-run (e ∷ l) in record { result = with-digit d (double (r .result)); doublings = suc (r .doublings); additions = counted d (r .additions) }
 
   -- ---- its counts
   doublings-from : (d : Digit) (l : List Digit) → (signed-run (d ∷ l)) .doublings ≡ length l
-  doublings-from minus [] = refl
-  doublings-from null [] = refl
-  doublings-from plus [] = refl
-  doublings-from minus (e ∷ l) = ap suc (doublings-from e l)
-  doublings-from null (e ∷ l) = ap suc (doublings-from e l)
-  doublings-from plus (e ∷ l) = ap suc (doublings-from e l)
+  doublings-from d [] = refl
+  doublings-from d (e ∷ l) = ap suc (doublings-from e l)
 
   additions-from : (d : Digit) (l : List Digit) → Topped (d ∷ l) → suc ((signed-run (d ∷ l)) .additions) ≡ nonzeros (d ∷ l)
   additions-from minus [] t = refl
@@ -66,38 +69,37 @@ module _ {A : Type 0} (sum : A → A → A) (double opposite : A → A) (zer a :
 module _ {A B : Type 0} (f : A → B) (sum : A → A → A) (double opposite : A → A) (zer : A) (sum' : B → B → B) (double' opposite' : B → B) (zer' : B)
     (keeps-sum : (x y : A) → f (sum x y) ≡ sum' (f x) (f y)) (keeps-double : (x : A) → f (double x) ≡ double' (f x))
     (keeps-opposite : (x : A) → f (opposite x) ≡ opposite' (f x)) (keeps-zer : f zer ≡ zer') (a : A) where
-  pub signed-run-map : (l : List Digit) → f ((signed-run sum double opposite zer a l) .value) ≡ (signed-run sum' double' opposite' zer' (f a) l) .value
+  digit-map : (d : Digit) (x : A) → f (with-digit sum double opposite zer a d x) ≡ with-digit sum' double' opposite' zer' (f a) d (f x)
+  digit-map minus x = keeps-sum x (opposite a) ∙ ap (sum' (f x)) (keeps-opposite a)
+  digit-map null x = refl
+  digit-map plus x = keeps-sum x a
+
+  pub signed-run-map : (l : List Digit) → f ((signed-run sum double opposite zer a l) .result) ≡ (signed-run sum' double' opposite' zer' (f a) l) .result
   signed-run-map [] = keeps-zer
   signed-run-map (minus ∷ []) = keeps-opposite a
   signed-run-map (null ∷ []) = keeps-zer
   signed-run-map (plus ∷ []) = refl
-  signed-run-map (minus ∷ e ∷ l) = keeps-sum _ _ ∙ ap₂ sum' (keeps-double _ ∙ ap double' (signed-run-map (e ∷ l))) (keeps-opposite a)
-  signed-run-map (null ∷ e ∷ l) = keeps-double _ ∙ ap double' (signed-run-map (e ∷ l))
-  signed-run-map (plus ∷ e ∷ l) = keeps-sum _ _ ∙ ap (λ t. sum' t (f a)) (keeps-double _ ∙ ap double' (signed-run-map (e ∷ l)))
+  signed-run-map (d ∷ e ∷ l) = digit-map d _ ∙ ap (with-digit sum' double' opposite' zer' (f a) d) (keeps-double _ ∙ ap double' (signed-run-map (e ∷ l)))
 
 -- ---- it yields the multiple
 module _ (G : AbGroup) (a : G .El) where
   open AbGroup G using (El as A, sum as _⊕_, zer as 𝟘, opp, zer-sum)
 
   infixl 65 _⊕_
-  abbrev run : List Digit → Run A
-  run = signed-run _⊕_ (λ x. x ⊕ x) opp 𝟘 a
+  abbrev twice : A → A
+  twice x = x ⊕ x
 
-  -- one digit more
-  twice-and : (d w : ℤ) (v : A) → v ≡ whole G w a → whole G (d +ℤ (w +ℤ w)) a ≡ whole G (w +ℤ w +ℤ d) a × (v ⊕ v ≡ whole G (w +ℤ w) a)
-  twice-and d w v h = (ap (λ (k : ℤ). whole G k a) (+ℤ-comm d (w +ℤ w)), ap₂ _⊕_ h h ∙ sym (whole-add G w w a))
+  pub one-more : (d : Digit) (k : ℤ) → with-digit _⊕_ twice opp 𝟘 a d (twice (whole G k a)) ≡ whole G (value d +ℤ (k +ℤ k)) a
+  one-more minus k = ap (λ t. t ⊕ opp a) (sym (whole-add G k k a)) ∙ sym (whole-less G (k +ℤ k) a) ∙ ap (λ (i : ℤ). whole G i a) (+ℤ-comm (k +ℤ k) (value minus))
+  one-more null k = sym (whole-add G k k a) ∙ ap (λ (i : ℤ). whole G i a) (sym (+ℤ-idl (k +ℤ k)))
+  one-more plus k = ap (λ t. t ⊕ a) (sym (whole-add G k k a)) ∙ sym (whole-more G (k +ℤ k) a) ∙ ap (λ (i : ℤ). whole G i a) (+ℤ-comm (k +ℤ k) (value plus))
 
-  pub signed-run-is : (l : List Digit) → (run l) .value ≡ whole G (weight l) a
+  pub signed-run-is : (l : List Digit) → (signed-run _⊕_ twice opp 𝟘 a l) .result ≡ whole G (weight l) a
   signed-run-is [] = refl
   signed-run-is (minus ∷ []) = ap opp (sym (zer-sum a))
   signed-run-is (null ∷ []) = refl
   signed-run-is (plus ∷ []) = sym (zer-sum a)
-  signed-run-is (minus ∷ e ∷ l) = let w : ℤ = weight (e ∷ l) in let t = twice-and (negsuc 0) w ((run (e ∷ l)) .value) (signed-run-is (e ∷ l)) in
-      ap (λ s. s ⊕ opp a) (t .1) ∙ sym (whole-less G (w +ℤ w) a) ∙ sym (t .0)
-  signed-run-is (null ∷ e ∷ l) = let w : ℤ = weight (e ∷ l) in let t = twice-and (pos 0) w ((run (e ∷ l)) .value) (signed-run-is (e ∷ l)) in
-      t .1 ∙ ap (λ (k : ℤ). whole G k a) (sym (+ℤ-idl (w +ℤ w)))
-  signed-run-is (plus ∷ e ∷ l) = let w : ℤ = weight (e ∷ l) in let t = twice-and (pos 1) w ((run (e ∷ l)) .value) (signed-run-is (e ∷ l)) in
-      ap (λ s. s ⊕ a) (t .1) ∙ sym (whole-more G (w +ℤ w) a) ∙ sym (t .0)
+  signed-run-is (d ∷ e ∷ l) = ap (λ t. with-digit _⊕_ twice opp 𝟘 a d (twice t)) (signed-run-is (e ∷ l)) ∙ one-more d (weight (e ∷ l))
 
-  pub signed-run-recode : (n : ℕ) → (run (recode n)) .value ≡ nfold G n a
+  pub signed-run-recode : (n : ℕ) → (signed-run _⊕_ twice opp 𝟘 a (recode n)) .result ≡ nfold G n a
   signed-run-recode n = signed-run-is (recode n) ∙ ap (λ (k : ℤ). whole G k a) (recode-weight n)

@@ -1,13 +1,12 @@
 -- Weights without signs: what the digits 1 of a string weigh (`ups`) and what its digits -1 weigh (`downs`), each a natural number. Gives: the string weighs the one less the other
 -- (`weight-is`); so it weighs n exactly where `ups l` is n + `downs l` (`Weighs`).
 -- Open: all but the laws.
-use Prim.Native.Nat.{ℕ, zero, suc, _+_, _*_}
+use Prim.Native.Nat.{ℕ, _+_, _*_}
 use mathlib.Core.Path.{_≡_, refl, sym, ap, ap₂, _∙_}
-use mathlib.Core.Logic.{_↔_}
 use mathlib.Core.List.{List, [], _∷_}
 use native.Mathlib.Omega.{arith}
-use lib.IntN.{ℤ, pos, negsuc, negℤ, natAbs, _+ℤ_, +ℤ-idl, +ℤ-idr, +ℤ-assoc, +ℤ-comm, +ℤ-invl, pos-+ℤ-pos}
-use Rattle.signed.specs.Digits.{Digit, minus, null, plus, value, weight}
+use lib.IntN.{ℤ, pos, negsuc, negℤ, natAbs, _+ℤ_, +ℤ-idl, +ℤ-assoc, +ℤ-comm, +ℤ-invl, pos-+ℤ-pos}
+use Rattle.signed.specs.Digits.{Digit, minus, null, plus, weight}
 
 abbrev pub ups : List Digit → ℕ
 ups [] = 0

@@ -2,7 +2,7 @@
 -- Open: `whole`.
 use Prim.Native.Nat.{ℕ, zero, suc}
 use mathlib.Core.Path.{_≡_, refl, sym, ap, _∙_}
-use lib.IntN.{ℤ, pos, negsuc, sucℤ, predℤ, suc-pred, negℤ, _+ℤ_, +ℤ-idr, +ℤ-one, -ℤ-one, +ℤ-assoc, ℤ-ind}
+use lib.IntN.{ℤ, pos, negsuc, sucℤ, suc-pred, negℤ, _+ℤ_, +ℤ-idr, +ℤ-one, -ℤ-one, +ℤ-assoc, ℤ-ind}
 use Rattle.algebra.proofs.group.Group.{AbGroup, sum-zer, cancel}
 use Rattle.algebra.proofs.group.Multiple.{nfold}
 

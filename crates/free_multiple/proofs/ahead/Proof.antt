@@ -1,10 +1,9 @@
-use Rattle.free_multiple.proofs.Steps.{known}
-use borrow.Author.Needs.{needs}
 use mathlib.Core.Path.{sym, subst}
-use Rattle.rules.specs.Bytes.{number}
 use Rattle.divisor.specs.declared.Divisor.{Divisor}
 use Rattle.free_multiple.specs.States.{Ran}
+use Rattle.free_multiple.proofs.Steps.{known}
 use Rattle.free_multiple.proofs.Climbing.{stays, known-run}
+use borrow.Author.Needs.{needs}
 use Rattle.free_multiple.proofs.ahead.Statement.{statement}
 use Rattle.free_multiple.proofs.ahead.Tie as tie
 
@@ -20,8 +19,8 @@ enum-told-2 c = search needs
 enum-known-a : tie.Need-enum-known-a
 enum-known-a c = search needs
 
-on-tuples-requires : tie.Need-on-tuples-requires
-on-tuples-requires c κs = known-run (c .before .before .before .before .before .before .before .args .c) (c .before .before .before .before .before .before .before .args .s .now) (c .before .before .before .before .before .before .before .args .k) (c .before .before .before .before .before .before .before .args .a) _ (c .before .before .before .before .before .before .before .args .r) _ (c .before .a .given .1) (c .before .before .before .before .r .given .1) (c .before .before .before .before .before .before .before .pre)
+beside-requires : tie.Need-beside-requires
+beside-requires c κs = let s = c .before .before .before .before .before .before .before in known-run (s .args .c) (s .args .at .now) (s .args .k) (s .args .a) _ (s .args .b) (s .args .r) _ (c .before .a .given .1) (c .before .before .before .before .r .given .1) (s .pre)
 
 enum-told-3 : tie.Need-enum-told-3
 enum-told-3 c = search needs
@@ -30,19 +29,19 @@ enum-told-4 : tie.Need-enum-told-4
 enum-told-4 c = search needs
 
 returns : tie.Need-returns
-returns c = stays (c .before .before .before .before .before .before .args .c) (c .before .before .before .before .before .before .args .a) (number (c .before .before .before .before .before .before .args .s .now)) _ (c .before .before .before .before .before .before .args .k) (known (c .before .before .before .before .before .before .args .c) (c .before .before .before .before .before .before .args .r) _ (c .before .before .before .r .given .1) _ (c .before .before .before .before .before .before .pre .reaches))
+returns c = let s = c .before .before .before .before .before .before in stays (s .args .c) (s .args .a) (s .args .at .now) _ (s .args .k) (known (s .args .c) (s .args .r) _ (c .before .before .before .r .given .1) _ (s .pre .reaches))
 
 returns-2 : tie.Need-returns-2
-returns-2 c = stays (c .before .before .before .before .before .before .args .c) (c .before .before .before .before .before .before .args .a) (number (c .before .before .before .before .before .before .args .s .now)) _ (c .before .before .before .before .before .before .args .k) (known (c .before .before .before .before .before .before .args .c) (c .before .before .before .before .before .before .args .r) _ (c .before .before .before .r .given .1) _ (c .before .before .before .before .before .before .pre .reaches))
+returns-2 c = let s = c .before .before .before .before .before .before in stays (s .args .c) (s .args .a) (s .args .at .now) _ (s .args .k) (known (s .args .c) (s .args .r) _ (c .before .before .before .r .given .1) _ (s .pre .reaches))
 
 returns-3 : tie.Need-returns-3
-returns-3 c = subst (λ (d : Divisor). Ran (c .before .before .before .before .before .before .before .before .args .c) d (number (c .before .before .before .before .before .before .before .before .args .s .now)) (c .before .before .before .before .before .before .before .before .args .k) (c .on-tuples .result)) (sym (c .before .before .a .given .1)) (c .on-tuples .ensures)
+returns-3 c = let s = c .before .before .before .before .before .before .before .before in subst (λ (d : Divisor). Ran (s .args .c) d (s .args .at .now) (s .args .k) (c .beside .result)) (sym (c .before .before .a .given .1)) (c .beside .ensures)
 
 returns-4 : tie.Need-returns-4
-returns-4 c = stays (c .before .before .before .before .before .before .args .c) (c .before .before .before .before .before .before .args .a) (number (c .before .before .before .before .before .before .args .s .now)) _ (c .before .before .before .before .before .before .args .k) (known (c .before .before .before .before .before .before .args .c) (c .before .before .before .before .before .before .args .r) _ (c .before .before .before .r .given .1) _ (c .before .before .before .before .before .before .pre .reaches))
+returns-4 c = let s = c .before .before .before .before .before .before in stays (s .args .c) (s .args .a) (s .args .at .now) _ (s .args .k) (known (s .args .c) (s .args .r) _ (c .before .before .before .r .given .1) _ (s .pre .reaches))
 
 returns-5 : tie.Need-returns-5
-returns-5 c = stays (c .before .before .before .args .c) (c .before .before .before .args .a) (number (c .before .before .before .args .s .now)) (c .before .before .before .args .r) (c .before .before .before .args .k) (c .before .before .before .pre .reaches)
+returns-5 c = search needs
 
 pub ahead-spec : {M : Type 1} → statement M
 ahead-spec =
@@ -52,7 +51,7 @@ ahead-spec =
     enum-told
     enum-told-2
     enum-known-a
-    on-tuples-requires
+    beside-requires
     enum-told-3
     enum-told-4
     returns

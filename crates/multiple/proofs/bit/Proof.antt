@@ -1,14 +1,15 @@
-use Rattle.multiple.proofs.Bytes.{bit-is}
+use mathlib.Core.Path.{sym}
 use native.Mathlib.Omega.{arith}
 use borrow.Author.Needs.{needs}
+use Rattle.multiple.proofs.Bytes.{bit-is, bit-above}
 use Rattle.multiple.proofs.bit.Statement.{statement}
 use Rattle.multiple.proofs.bit.Tie as tie
 
-sub-i : tie.Need-sub-i
-sub-i c = search needs
+sub-result : tie.Need-sub-result
+sub-result c = search needs
 
-sub-i-2 : tie.Need-sub-i-2
-sub-i-2 c = search needs
+sub-result-2 : tie.Need-sub-result-2
+sub-result-2 c = search needs
 
 shared-slice-read-result : tie.Need-shared-slice-read-result
 shared-slice-read-result c = search needs
@@ -20,8 +21,19 @@ shr-result : tie.Need-shr-result
 shr-result c = search needs
 
 returns : tie.Need-returns
-returns c = bit-is (c .before .args .s .now) (λ i. c .shared-slice-known .given i .fits) (c .before .args .k) _ (omega arith)
+returns c = let s = c .before .before in bit-is (s .args .s .now) (s .pre) (s .args .k) _ (omega arith)
+
+returns-2 : tie.Need-returns-2
+returns-2 c = sym (bit-above (c .before .args .s .now) (c .before .pre) (c .before .args .k) (omega arith))
 
 pub bit-spec : {M : Type 1} → statement M
 bit-spec =
-    tie.close (tie.spec sub-i sub-i-2 shared-slice-read-result cast-result shr-result returns)
+    tie.close
+    (tie.spec
+    sub-result
+    sub-result-2
+    shared-slice-read-result
+    cast-result
+    shr-result
+    returns
+    returns-2)

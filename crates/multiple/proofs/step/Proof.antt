@@ -1,5 +1,8 @@
-use Rattle.multiple.proofs.Folds.{without, with-one}
-use native.Mathlib.Omega.{arith}
+use mathlib.Core.Path.{ap}
+use Rattle.signed.specs.Digits.{minus, null, plus}
+use Rattle.multiple.proofs.Folds.{with-one, taken, itself-given}
+use Rattle.multiple.proofs.Upper.{plus-else}
+use Rattle.multiple.specs.Contracts.{digit}
 use borrow.Author.Needs.{needs}
 use Rattle.multiple.proofs.step.Statement.{statement}
 use Rattle.multiple.proofs.step.Tie as tie
@@ -11,10 +14,17 @@ sum-requires : tie.Need-sum-requires
 sum-requires c κs = search needs
 
 returns : tie.Need-returns
-returns c = let s = c .before .before .before in λ n e. with-one (s .args .c) (s .pre .sound) (s .args .a) (s .pre .right) (s .args .r) (c .before .before .double .result) (c .before .before .double .ensures) n e (s .args .bit) (omega arith) (c .sum .result) (c .sum .ensures)
+returns c = let s = c .before .before .before in λ k e. with-one (s .args .c) (s .pre .sound) (s .args .a) (s .pre .right) (s .args .r) (c .before .before .double .result) (c .before .before .double .ensures) k e (s .args .digit) minus (ap digit (c .before .if1 .taken)) (c .sum .result) (taken (s .args .c) (s .args .a) (s .args .b) (s .pre .opposed) (c .before .before .double .result) (c .sum .result) (c .sum .ensures))
 
 returns-2 : tie.Need-returns-2
-returns-2 c = let s = c .before .before in λ n e. without (s .args .c) (s .pre .sound) (s .args .a) (s .pre .right) (s .args .r) (c .before .double .result) (c .before .double .ensures) n e (s .args .bit) (omega arith)
+returns-2 c = let s = c .before .before .before in λ k e. with-one (s .args .c) (s .pre .sound) (s .args .a) (s .pre .right) (s .args .r) (c .before .before .double .result) (c .before .before .double .ensures) k e (s .args .digit) null (ap digit (c .if2 .taken)) (c .before .before .double .result) (itself-given (s .args .c) (c .before .before .double .result) (c .before .before .double .ensures .holds))
+
+sum-requires-2 : tie.Need-sum-requires-2
+sum-requires-2 c κs = search needs
+
+returns-3 : tie.Need-returns-3
+returns-3 c = let s = c .before .before .before .before in λ k e. with-one (s .args .c) (s .pre .sound) (s .args .a) (s .pre .right) (s .args .r) (c .before .before .before .double .result) (c .before .before .before .double .ensures) k e (s .args .digit) plus (plus-else (s .args .digit) (c .before .before .if1 .left) (c .before .if2 .left)) (c .sum2 .result) (c .sum2 .ensures)
 
 pub step-spec : {M : Type 1} → statement M
-step-spec = tie.close (tie.spec double-requires sum-requires returns returns-2)
+step-spec =
+    tie.close (tie.spec double-requires sum-requires returns returns-2 sum-requires-2 returns-3)

@@ -1,18 +1,15 @@
 -- L7, totals and multiples of valid pairs: the laws of an abelian group (algebra, group/), said of the rules themselves. Gives: totals in any
--- order and by any parts; (m + n)-fold and mn-fold; that double-and-add yields the multiple; that all of them are valid.
+-- order and by any parts; (m + n)-fold and mn-fold; that all of them are valid.
 -- Open: `AllValid`.
 use Prim.Native.Nat.{ℕ, zero, suc, _+_, _*_}
 use mathlib.Core.Path.{_≡_, refl, sym, ap, ap₂, _∙_, subst}
 use mathlib.Core.List.{List, [], _∷_, _++_, map, foldl, flatten, Perm, List·Permᴰ, List·Permᴰ·nil, List·Permᴰ·cons, List·Permᴰ·swap, List·Permᴰ·trans}
 use mathlib.Core.Logic.{∥∥₁-elim}
-use mathlib.Core.Bool.{Bool, true, false}
-use Rattle.algebra.proofs.group.Group.{AbGroup}
 use Rattle.algebra.proofs.group.Total.{total-perm, total-append}
 use Rattle.algebra.proofs.group.Multiple.{nfold, nfold-add, nfold-mul}
-use Rattle.algebra.proofs.group.DoubleAdd.{number, Run, step, go-on, double-and-add, double-and-add-is}
 use Rattle.rules.specs.Curve.{Curve}
 use Rattle.rules.specs.Pair.{Pair, Valid, neutral}
-use Rattle.rules.specs.Sum.{sum, double}
+use Rattle.rules.specs.Sum.{sum}
 use Rattle.rules.specs.Multiple.{multiple, total}
 use Rattle.rules.proofs.cantor.Accepted.{Accepted}
 use Rattle.rules.proofs.cantor.Group.{Divisor, divisor-path, pair-set, neutral-sum, jacobian}
@@ -115,30 +112,3 @@ module _ (E : Curve) (h : Accepted E) where
     where
       same : nfold (jacobian E h) n (a, va) ≡ (multiple E n a, multiple-valid a va n)
       same = divisor-path E h (multiple-is a va n)
-
-  -- ---- double-and-add, by the rules' own sum and double
-  module _ (a : D) (va : Valid E a) where
-    abbrev G : AbGroup
-    G = jacobian E h
-
-    abbrev twice : Divisor E h → Divisor E h
-    twice x = G .sum x x
-
-    step-same : (r : Run (Divisor E h)) (s : Run D) (b : Bool) → r .value .0 ≡ s .value
-        → (step (G .sum) twice (G .zer) (a, va) r b) .value .0 ≡ (step (sum E) (double E) neutral a s b) .value
-    unfolding double
-    step-same r s true e = ap (λ (x : D). sum E (sum E x x) a) e
-    step-same r s false e = ap (λ (x : D). sum E x x) e
-
-    go-on-same : (r : Run (Divisor E h)) (s : Run D) (l : List Bool) → r .value .0 ≡ s .value
-        → (go-on (G .sum) twice (G .zer) (a, va) r l) .value .0 ≡ (go-on (sum E) (double E) neutral a s l) .value
-    go-on-same r s [] e = e
-    go-on-same r s (b ∷ l) e = go-on-same (step (G .sum) twice (G .zer) (a, va) r b) (step (sum E) (double E) neutral a s b) l (step-same r s b e)
-
-    run-same : (l : List Bool) → (double-and-add (G .sum) twice (G .zer) (a, va) l) .value .0 ≡ (double-and-add (sum E) (double E) neutral a l) .value
-    run-same [] = refl
-    run-same (false ∷ l) = run-same l
-    run-same (true ∷ l) = go-on-same (record { value = (a, va); doublings = 0; additions = 0 }) (record { value = a; doublings = 0; additions = 0 }) l refl
-
-    pub bits-multiple : (l : List Bool) → (double-and-add (sum E) (double E) neutral a l) .value ≡ multiple E (number l) a
-    bits-multiple l = sym (run-same l) ∙ ap (λ (x : Divisor E h). x .0) (double-and-add-is G (a, va) l) ∙ multiple-is a va (number l)
