@@ -21,8 +21,8 @@ module _ (m : Modulus) where
   infixl 65 _+P_
   infixl 70 _*P_
   -- ---- by 1
-  pub strip-none : {a d : Poly} → ToQuotient m a d → d .n ≡ 1 → Quotient m a d a
-  strip-none {a} {d} h e = record {
+  pub divide-out-none : {a d : Poly} → ToQuotient m a d → d .n ≡ 1 → Quotient m a d a
+  divide-out-none {a} {d} h e = record {
     ok = h .left;
     is = sym (ap (λ t. pol m a *P t) (monic-one m (h .right) e (h .monic)) ∙ mul-one (P m) (pol m a));
     short = omega arith;

@@ -15,8 +15,8 @@ use Rattle.poly.specs.Contracts.{IsMonic}
 use Rattle.poly.proofs.Lengths.{none-is}
 use Rattle.poly.proofs.Monic.{monic-ne, monic-one}
 use Rattle.euclid.specs.declared.Line.{Line}
-use Rattle.euclid.specs.declared.Half.{Half}
-use Rattle.euclid.specs.Euclid.{Xgcd, HalfXgcd}
+use Rattle.euclid.specs.declared.RightLine.{RightLine}
+use Rattle.euclid.specs.Euclid.{Xgcd, XgcdRight}
 use Rattle.cantor.specs.Composing.{ToCommon, Common}
 
 module _ (m : Modulus) where
@@ -33,7 +33,7 @@ module _ (m : Modulus) where
       go (no n) = omega arith
 
   module _ (u1 u2 w : Poly) (to : ToCommon m u1 u2 w) where
-    module _ (e : Half) (he : HalfXgcd m u1 u2 e) where
+    module _ (e : RightLine) (he : XgcdRight m u1 u2 e) where
       pub first-monic : IsMonic m (e .r)
       first-monic = he .gcd .lead (some-of (to .ok-1) (to .monic) (he .gcd .ok) (he .gcd .left))
 
@@ -77,7 +77,7 @@ module _ (m : Modulus) where
       common-fits h hh = omega (arith, hh .short-s, he .short-t, to .n-1, to .n-w)
 
   -- both pairs are one
-  pub twice-is : (u w : Poly) (h : Half) (z : Poly) → ToCommon m u u w → HalfXgcd m u w h → Is m z 0P 0 → Common m u u w (record { d = h .r; s2 = z; s3 = h .t })
+  pub twice-is : (u w : Poly) (h : RightLine) (z : Poly) → ToCommon m u u w → XgcdRight m u w h → Is m z 0P 0 → Common m u u w (record { d = h .r; s2 = z; s3 = h .t })
   twice-is u w h z to hh hz = record {
     ok-d = hh .gcd .ok;
     ok-2 = hz .ok;

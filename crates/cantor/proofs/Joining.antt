@@ -14,8 +14,8 @@ use Rattle.poly.specs.Contracts.{IsMonic, ToQuotient, Quotient, Divided}
 use Rattle.poly.proofs.Division.{monic-of}
 use Rattle.poly.proofs.Monic.{product-length, product-monic, quotient-length, quotient-monic}
 use Rattle.cantor.specs.declared.Mumford.{Mumford}
-use Rattle.cantor.specs.declared.Common3.{Common3}
-use Rattle.cantor.specs.Composing.{Slope, ToLift, Lift, ToJoin, Composed}
+use Rattle.cantor.specs.declared.Bezout3.{Bezout3}
+use Rattle.cantor.specs.Composing.{Slope, ToLift, Lift, ToComposeBy, Composed}
 use Rattle.cantor.proofs.Cofactors.{on-modulo}
 
 module _ (m : Modulus) where
@@ -23,7 +23,7 @@ module _ (m : Modulus) where
 
   infixl 65 _+P_
   infixl 70 _*P_
-  module _ (f : Poly) (a b : Mumford) (t : Common3) (h : ToJoin m f a b t) where
+  module _ (f : Poly) (a b : Mumford) (t : Bezout3) (h : ToComposeBy m f a b t) where
     to-quotient-1 : ToQuotient m (a .u) (t .d)
     to-quotient-1 = record { left = h .to .left .ok-u; right = h .common .ok-d; monic = h .common .monic; divides = h .common .of-1 }
 

@@ -11,7 +11,7 @@ use Rattle.poly.specs.Polys.{P, pol, Is}
 use Rattle.poly.specs.Contracts.{Divided}
 use Rattle.poly.proofs.Lengths.{none-is}
 use Rattle.cantor.specs.declared.Mumford.{Mumford}
-use Rattle.cantor.specs.declared.Common3.{Common3}
+use Rattle.cantor.specs.declared.Bezout3.{Bezout3}
 use Rattle.cantor.specs.Composing.{ToSlope, Slope, ToLift, Lift}
 use Rattle.cantor.specs.Reducing.{Cofactor}
 
@@ -20,7 +20,7 @@ module _ (m : Modulus) where
 
   infixl 65 _+P_
   infixl 70 _*P_
-  module _ (f v1 : Poly) (b : Mumford) (t : Common3) (to : ToSlope m f v1 b t) (y x : Poly)
+  module _ (f v1 : Poly) (b : Mumford) (t : Bezout3) (to : ToSlope m f v1 b t) (y x : Poly)
       (h-y : Is m y (pol m v1 +P negP (pol m (b .v))) (max (v1 .n) (b .v .n))) (h-x : Is m x (pol m (t .s2) *P pol m y) (t .s2 .n + y .n - 1)) where
     x-is : pol m x ≡ pol m (t .s2) *P (pol m v1 +P negP (pol m (b .v)))
     x-is = h-x .is ∙ ap (λ s. pol m (t .s2) *P s) (h-y .is)

@@ -17,7 +17,7 @@ use Rattle.poly.specs.Polys.{K, P, pol, Ok, Is}
 use Rattle.poly.specs.Contracts.{IsMonic, MadeMonic, Divided}
 use Rattle.poly.proofs.Lengths.{none-is, degree-of}
 use Rattle.cantor.specs.declared.Mumford.{Mumford}
-use Rattle.cantor.specs.Pairs.{Fine}
+use Rattle.cantor.specs.Pairs.{OnCurvePair}
 use Rattle.cantor.specs.Reducing.{Cofactor, ToStep, Stepped, Steps, ToReduce}
 use Rattle.cantor.proofs.Cofactors.{on-modulo}
 
@@ -76,7 +76,7 @@ module _ (m : Modulus) where
   -- ---- while deg u > g
   pub record Reducing (f : Poly) (x0 x : Mumford) (n : ℕ) : Type 0 where
     pub steps : Steps m f x0 x
-    pub fine : Fine m f x
+    pub fine : OnCurvePair m f x
     pub n-is : n ≡ x .u .n
     pub within : n ≤ 7
 

@@ -9,8 +9,8 @@ use Rattle.poly.specs.declared.Poly.{Poly}
 use Rattle.poly.specs.Polys.{P, pol, Ok}
 use Rattle.poly.specs.Contracts.{IsMonic}
 use Rattle.cantor.specs.declared.Mumford.{Mumford}
-use Rattle.cantor.specs.declared.Common3.{Common3}
-use Rattle.cantor.specs.Pairs.{Fine}
+use Rattle.cantor.specs.declared.Bezout3.{Bezout3}
+use Rattle.cantor.specs.Pairs.{OnCurvePair}
 
 module _ (m : Modulus) where
   open CRing (P m) using (El as Po, add as _+P_, mul as _*P_, neg as negP)
@@ -27,7 +27,7 @@ module _ (m : Modulus) where
     pub n-w : w .n ≤ 3
 
   -- d, monic, divides u1, u2 and w, and is s1 · u1 + s2 · u2 + s3 · w
-  pub record Common (u1 u2 w : Poly) (r : Common3) : Type 0 where
+  pub record Common (u1 u2 w : Poly) (r : Bezout3) : Type 0 where
     pub ok-d : Ok m (r .d)
     pub ok-2 : Ok m (r .s2)
     pub ok-3 : Ok m (r .s3)
@@ -40,10 +40,10 @@ module _ (m : Modulus) where
     pub n-2 : r .s2 .n ≤ 6
     pub n-3 : r .s3 .n ≤ 4
 
-  pub record ToSlope (f v1 : Poly) (b : Mumford) (t : Common3) : Type 0 where
+  pub record ToSlope (f v1 : Poly) (b : Mumford) (t : Bezout3) : Type 0 where
     pub ok-f : Ok m f
     pub ok-v : Ok m v1
-    pub fine : Fine m f b
+    pub fine : OnCurvePair m f b
     pub ok-2 : Ok m (t .s2)
     pub ok-3 : Ok m (t .s3)
     pub n-f : f .n ≤ 8
@@ -52,7 +52,7 @@ module _ (m : Modulus) where
     pub n-2 : t .s2 .n ≤ 6
     pub n-3 : t .s3 .n ≤ 4
 
-  pub record Slope (f v1 : Poly) (b : Mumford) (t : Common3) (r : Poly) : Type 0 where
+  pub record Slope (f v1 : Poly) (b : Mumford) (t : Bezout3) (r : Poly) : Type 0 where
     pub w2 : Po
     pub w2-is : pol m f ≡ pol m (b .v) *P pol m (b .v) +P pol m (b .u) *P w2
     pub ok : Ok m r
@@ -76,12 +76,12 @@ module _ (m : Modulus) where
   pub record ToCompose (f : Poly) (a b : Mumford) : Type 0 where
     pub ok-f : Ok m f
     pub n-f : f .n ≤ 8
-    pub left : Fine m f a
-    pub right : Fine m f b
+    pub left : OnCurvePair m f a
+    pub right : OnCurvePair m f b
     pub n-a : a .u .n ≤ 4
     pub n-b : b .u .n ≤ 4
 
-  pub record ToJoin (f : Poly) (a b : Mumford) (t : Common3) : Type 0 where
+  pub record ToComposeBy (f : Poly) (a b : Mumford) (t : Bezout3) : Type 0 where
     pub to : ToCompose f a b
     pub w : Poly
     pub w-is : pol m w ≡ pol m (a .v) +P pol m (b .v)
@@ -93,5 +93,5 @@ module _ (m : Modulus) where
     pub k : Po
     pub joined : Joined (P m) (pol m f) (pol m (a .u)) (pol m (a .v)) (pol m (b .u)) (pol m (b .v)) (pol m (r .u)) v0
     pub v-is : v0 ≡ k *P pol m (r .u) +P pol m (r .v)
-    pub fine : Fine m f r
+    pub fine : OnCurvePair m f r
     pub n-u : r .u .n + 1 ≤ a .u .n + b .u .n

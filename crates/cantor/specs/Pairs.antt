@@ -8,7 +8,7 @@ use Rattle.poly.specs.Contracts.{IsMonic}
 use Rattle.cantor.specs.declared.Mumford.{Mumford}
 
 -- u monic, v shorter than u, u divides f - v²
-pub record Fine (m : Modulus) (f : Poly) (x : Mumford) : Type 0 where
+pub record OnCurvePair (m : Modulus) (f : Poly) (x : Mumford) : Type 0 where
   pub ok-u : Ok m (x .u)
   pub ok-v : Ok m (x .v)
   pub monic : IsMonic m (x .u)

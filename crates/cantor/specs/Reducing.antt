@@ -7,7 +7,7 @@ use Rattle.field.specs.declared.Modulus.{Modulus}
 use Rattle.poly.specs.declared.Poly.{Poly}
 use Rattle.poly.specs.Polys.{K, P, pol, Ok}
 use Rattle.cantor.specs.declared.Mumford.{Mumford}
-use Rattle.cantor.specs.Pairs.{Fine}
+use Rattle.cantor.specs.Pairs.{OnCurvePair}
 use Rattle.cantor.specs.Composing.{Composed}
 
 module _ (m : Modulus) where
@@ -17,7 +17,7 @@ module _ (m : Modulus) where
   infixl 70 _*P_
   pub record ToCofactor (f : Poly) (x : Mumford) : Type 0 where
     pub ok-f : Ok m f
-    pub fine : Fine m f x
+    pub fine : OnCurvePair m f x
     pub n-f : f .n ≤ 8
     pub n-u : x .u .n ≤ 7
 
@@ -43,7 +43,7 @@ module _ (m : Modulus) where
     pub u-is : pol m (r .u) ≡ C (K m) up *P w
     pub k : Po
     pub v-is : negP (pol m (x .v)) ≡ k *P pol m (r .u) +P pol m (r .v)
-    pub fine : Fine m f r
+    pub fine : OnCurvePair m f r
     pub n-u : r .u .n ≤ max (f .n) (x .v .n + x .v .n - 1) + 1 - x .u .n
 
   -- any number of steps
@@ -57,15 +57,15 @@ module _ (m : Modulus) where
 
   pub record Reduced (f : Poly) (g : ℕ) (x r : Mumford) : Type 0 where
     pub steps : Steps f x r
-    pub fine : Fine m f r
+    pub fine : OnCurvePair m f r
     pub short : r .u .n ≤ g + 1
 
   pub record ToSum (f : Poly) (g : ℕ) (a b : Mumford) : Type 0 where
     pub ok-f : Ok m f
     pub genus : g ≤ 3
     pub odd : f .n ≡ g + g + 2
-    pub left : Fine m f a
-    pub right : Fine m f b
+    pub left : OnCurvePair m f a
+    pub right : OnCurvePair m f b
     pub n-a : a .u .n ≤ g + 1
     pub n-b : b .u .n ≤ g + 1
 

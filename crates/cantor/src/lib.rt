@@ -1,10 +1,10 @@
 // Cantor's composition and reduction, on pairs of polynomials (u, v) with u monic, v shorter than u, and u dividing f - v * v. Contracts
 // promise the equations that the theorem of `rules` takes; code need not follow the rules' own Euclid step by step.
-ghost use Rattle.cantor.specs.Composing.{ToCommon, Common, ToSlope, Slope, ToLift, Lift, ToJoin, Composed, ToCompose};
+ghost use Rattle.cantor.specs.Composing.{ToCommon, Common, ToSlope, Slope, ToLift, Lift, ToComposeBy, Composed, ToCompose};
 ghost use Rattle.cantor.specs.Reducing.{ToCofactor, Cofactor, ToStep, Stepped, ToReduce, Reduced, ToSum, Summed};
 ghost use Rattle.poly.specs.Contracts.{ToQuotient, Quotient};
-use euclid::half_xgcd;
 use euclid::xgcd;
+use euclid::xgcd_right;
 use field::Modulus;
 use poly::Poly;
 
@@ -14,14 +14,14 @@ pub struct Mumford {
 }
 
 // d = s1 * u1 + s2 * u2 + s3 * (v1 + v2) for some s1, which nothing needs.
-pub struct Common3 {
+pub struct Bezout3 {
     pub d: Poly,
     pub s2: Poly,
     pub s3: Poly,
 }
 
 // a / d, where d divides a; most often d is 1.
-fn strip(a: Poly, d: Poly, m: Modulus) -> Poly
+fn divide_out(a: Poly, d: Poly, m: Modulus) -> Poly
     requires { ⌜ ToQuotient m a d ⌝ }
     ensures { λ r. ⌜ Quotient m a d r ⌝ }
 {
@@ -41,16 +41,16 @@ fn cofactor(f: Poly, x: Mumford, m: Modulus) -> Poly
 }
 
 // The greatest common divisor of u1, u2 and v1 + v2. Where that of u1 and u2 is 1, v1 + v2 isn't looked at.
-fn common(u1: Poly, u2: Poly, w: Poly, m: Modulus) -> Common3
+fn gcd3(u1: Poly, u2: Poly, w: Poly, m: Modulus) -> Bezout3
     requires { ⌜ ToCommon m u1 u2 w ⌝ }
     ensures { λ r. ⌜ Common m u1 u2 w r ⌝ }
 {
-    let e = half_xgcd(u1, u2, m);
+    let e = xgcd_right(u1, u2, m);
     let first = e.r;
     let t = e.t;
     if first.n == 1 {
         let none = Poly::zero(m);
-        return Common3 {
+        return Bezout3 {
             d: first,
             s2: t,
             s3: none,
@@ -61,7 +61,7 @@ fn common(u1: Poly, u2: Poly, w: Poly, m: Modulus) -> Common3
     let s2 = k.mul(t, m);
     let d = h.r;
     let s3 = h.t;
-    Common3 {
+    Bezout3 {
         d: d,
         s2: s2,
         s3: s3,
@@ -69,15 +69,15 @@ fn common(u1: Poly, u2: Poly, w: Poly, m: Modulus) -> Common3
 }
 
 // Where both pairs are one, u1 is u2 and two ways are enough.
-fn common_twice(u: Poly, w: Poly, m: Modulus) -> Common3
+fn gcd3_twice(u: Poly, w: Poly, m: Modulus) -> Bezout3
     requires { ⌜ ToCommon m u u w ⌝ }
     ensures { λ r. ⌜ Common m u u w r ⌝ }
 {
-    let h = half_xgcd(u, w, m);
+    let h = xgcd_right(u, w, m);
     let d = h.r;
     let s3 = h.t;
     let none = Poly::zero(m);
-    Common3 {
+    Bezout3 {
         d: d,
         s2: none,
         s3: s3,
@@ -85,7 +85,7 @@ fn common_twice(u: Poly, w: Poly, m: Modulus) -> Common3
 }
 
 // s2 * (v1 - v2) + s3 * w2, where w2 = (f - v2 * v2) / u2.
-fn slope(f: Poly, v1: Poly, b: Mumford, t: Common3, m: Modulus) -> Poly
+fn slope(f: Poly, v1: Poly, b: Mumford, t: Bezout3, m: Modulus) -> Poly
     requires { ⌜ ToSlope m f v1 b t ⌝ }
     ensures { λ r. ⌜ Slope m f v1 b t r ⌝ }
 {
@@ -109,12 +109,12 @@ fn lift(v2: Poly, e1: Poly, e2: Poly, k: Poly, m: Modulus) -> Poly
 }
 
 // The composition, its greatest common divisor given.
-fn join(f: Poly, a: Mumford, b: Mumford, t: Common3, m: Modulus) -> Mumford
-    requires { ⌜ ToJoin m f a b t ⌝ }
+fn compose_by(f: Poly, a: Mumford, b: Mumford, t: Bezout3, m: Modulus) -> Mumford
+    requires { ⌜ ToComposeBy m f a b t ⌝ }
     ensures { λ r. ⌜ Composed m f a b r ⌝ }
 {
-    let e1 = strip(a.u, t.d, m);
-    let e2 = strip(b.u, t.d, m);
+    let e1 = divide_out(a.u, t.d, m);
+    let e2 = divide_out(b.u, t.d, m);
     let k = slope(f, a.v, b, t, m);
     let v = lift(b.v, e1, e2, k, m);
     let u = e1.mul(e2, m);
@@ -129,7 +129,7 @@ pub fn compose(f: Poly, a: Mumford, b: Mumford, m: Modulus) -> Mumford
 {
     let v1 = a.v;
     let w = v1.add(b.v, m);
-    join(f, a, b, common(a.u, b.u, w, m), m)
+    compose_by(f, a, b, gcd3(a.u, b.u, w, m), m)
 }
 
 pub fn compose_twice(f: Poly, a: Mumford, m: Modulus) -> Mumford
@@ -138,7 +138,7 @@ pub fn compose_twice(f: Poly, a: Mumford, m: Modulus) -> Mumford
 {
     let v = a.v;
     let w = v.add(v, m);
-    join(f, a, a, common_twice(a.u, w, m), m)
+    compose_by(f, a, a, gcd3_twice(a.u, w, m), m)
 }
 
 // One step of the reduction: u becomes (f - v * v) / u made monic, v becomes -v modulo the new u.

@@ -33,7 +33,6 @@ module _ (m : Modulus) where
 
   infixl 65 _⊕_
   infixl 70 _⊗_
-
   -- the division's step
   abbrev step : List A → A → List A → List A
   step b c r = addL (K m) ((slide (K m) c r) .0) (negL (K m) (scaleL (K m) ((slide (K m) c r) .1) b))

@@ -39,7 +39,7 @@ pub enum Divisor {
 }
 
 // The opposite of a residue, ready to be held.
-fn opposed(r: Residue, m: Modulus) -> Residue
+fn negate_settled(r: Residue, m: Modulus) -> Residue
     requires { ⌜ Settled m r ⌝ }
     ensures { λ s. ⌜ Settles m s (zmod (m .p) .neg (el m r)) ⌝ }
 {
@@ -142,7 +142,7 @@ impl Divisor {
         let mut r = self.row();
         let mut k = w;
         while k < n {
-            r[k] = opposed(r[k], m);
+            r[k] = negate_settled(r[k], m);
             k += 1;
         }
         Divisor::of_row(w, r)

@@ -14,8 +14,8 @@ use Rattle.poly.specs.declared.Poly.{Poly}
 use Rattle.poly.specs.Polys.{room, K, P, pol, Ok, Is}
 use Rattle.poly.specs.Contracts.{Divided}
 use Rattle.euclid.specs.declared.Line.{Line}
-use Rattle.euclid.specs.declared.Half.{Half}
-use Rattle.euclid.specs.Euclid.{OkL, OkH, Lessens, Taken, Less, Scaled, ScaledH, Gcd, Xgcd, HalfXgcd}
+use Rattle.euclid.specs.declared.RightLine.{RightLine}
+use Rattle.euclid.specs.Euclid.{OkL, OkH, Lessens, MinusMultiple, Less, Scaled, ScaledH, Gcd, Xgcd, XgcdRight}
 use Rattle.euclid.proofs.Common.{Euclid, euclid-begin, euclid-turn, euclid-end, euclid-stop}
 
 -- lengths: xr, yr of the two r, and xs, ys of their cofactors in one column
@@ -51,7 +51,7 @@ module _ (m : Modulus) where
   infixl 65 _+P_
   infixl 70 _*P_
   -- w takes the place of d, and d that of c
-  column-turn : {B xr yr er : ℕ} {c q d w : Poly} → Column B xr yr (c .n) (d .n) → Taken m c q d w → q .n ≤ xr + 1 - yr → er < yr → er ≤ xr → Column B yr er (d .n) (w .n)
+  column-turn : {B xr yr er : ℕ} {c q d w : Poly} → Column B xr yr (c .n) (d .n) → MinusMultiple m c q d w → q .n ≤ xr + 1 - yr → er < yr → er ≤ xr → Column B yr er (d .n) (w .n)
   column-turn {B} {xr} {yr} {er} {c} {q} {d} {w} v t hq he hx = record { x-short = wider B xr er (d .n) hx (v .y-short); y-short = next; x-end = v .y-end; y-end = at-end B yr er (w .n) he next }
     where
       go : Dec (q .n ≡ 0) → Dec (d .n ≡ 0) → w .n ≤ B + 1 - yr
@@ -63,7 +63,7 @@ module _ (m : Modulus) where
       next = go (ℕ-discrete (q .n) 0) (ℕ-discrete (d .n) 0)
 
   -- ---- lines without s, which stand for some xs and ys
-  pub record Halved (a b : Poly) (x y : Half) (xs ys : Po) : Type 0 where
+  pub record Halved (a b : Poly) (x y : RightLine) (xs ys : Po) : Type 0 where
     pub core : Euclid m a b (x .r) (y .r)
     pub ok-x : OkH m x
     pub ok-y : OkH m y
@@ -71,7 +71,7 @@ module _ (m : Modulus) where
     pub y-is : pol m (y .r) ≡ ys *P pol m a +P pol m (y .t) *P pol m b
     pub t : Column (a .n) (x .r .n) (y .r .n) (x .t .n) (y .t .n)
 
-  pub record Halving (a b : Poly) (x y : Half) : Type 0 where
+  pub record Halving (a b : Poly) (x y : RightLine) : Type 0 where
     pub xs : Po
     pub ys : Po
     pub lines : Halved a b x y xs ys
@@ -87,11 +87,11 @@ module _ (m : Modulus) where
   }
 
   -- one turn: the product of the quotient with a cofactor fits
-  module _ {a b : Poly} {x y : Half} {xs ys : Po} {q e : Poly} (ha : Ok m a) (v : Halved a b x y xs ys) (l : 0 < y .r .n) (d : Divided m (x .r) (y .r) q e) where
+  module _ {a b : Poly} {x y : RightLine} {xs ys : Po} {q e : Poly} (ha : Ok m a) (v : Halved a b x y xs ys) (l : 0 < y .r .n) (d : Divided m (x .r) (y .r) q e) where
     pub half-fits : q .n + y .t .n ≤ room + 1
     half-fits = omega (arith, d .short, v .t .y-short, v .ok-x .r .len, ha .len)
 
-    pub half-turn : {w : Poly} {zs : Po} → Taken m (x .t) q (y .t) w → zs ≡ xs +P negP (pol m q *P ys) → Halved a b y (record { r = e; t = w }) ys zs
+    pub half-turn : {w : Poly} {zs : Po} → MinusMultiple m (x .t) q (y .t) w → zs ≡ xs +P negP (pol m q *P ys) → Halved a b y (record { r = e; t = w }) ys zs
     half-turn {w} {zs} h ez = record {
       core = euclid-turn m (v .core) d;
       ok-x = v .ok-y;
@@ -104,22 +104,22 @@ module _ (m : Modulus) where
     }
 
   -- z, one of the two, made monic
-  combined : (a b : Poly) {z u : Half} (zs : Po) → pol m (z .r) ≡ zs *P pol m a +P pol m (z .t) *P pol m b → (h : ScaledH m z u) → pol m (u .r) ≡ C (K m) (h .up) *P zs *P pol m a +P pol m (u .t) *P pol m b
+  combined : (a b : Poly) {z u : RightLine} (zs : Po) → pol m (z .r) ≡ zs *P pol m a +P pol m (z .t) *P pol m b → (h : ScaledH m z u) → pol m (u .r) ≡ C (K m) (h .up) *P zs *P pol m a +P pol m (u .t) *P pol m b
   combined a b {z} {u} zs e h = let up : Po = C (K m) (h .up) in h .r .is ∙ ap (λ t. up *P t) e
       ∙ ring (P m) (up ∷ zs ∷ pol m a ∷ pol m (z .t) ∷ pol m b ∷ []) (search quote depth 40) refl
       ∙ ap (λ t. up *P zs *P pol m a +P t *P pol m b) (sym (h .t .is))
 
-  half-finish : {a b : Poly} {z u : Half} (zs : Po) → Gcd m a b (u .r) → pol m (z .r) ≡ zs *P pol m a +P pol m (z .t) *P pol m b → z .t .n ≤ max 1 (a .n - z .r .n) → ScaledH m z u → HalfXgcd m a b u
+  half-finish : {a b : Poly} {z u : RightLine} (zs : Po) → Gcd m a b (u .r) → pol m (z .r) ≡ zs *P pol m a +P pol m (z .t) *P pol m b → z .t .n ≤ max 1 (a .n - z .r .n) → ScaledH m z u → XgcdRight m a b u
   half-finish {a} {b} zs g e ht h = record { gcd = g; ok-t = h .t .ok; s = C (K m) (h .up) *P zs; is = combined a b zs e h; short-t = omega (arith, h .r .same, h .t .short, ht) }
 
-  pub half-end : {a b : Poly} {x y u : Half} {xs ys : Po} → Halved a b x y xs ys → y .r .n ≡ 0 → ScaledH m x u → HalfXgcd m a b u
+  pub half-end : {a b : Poly} {x y u : RightLine} {xs ys : Po} → Halved a b x y xs ys → y .r .n ≡ 0 → ScaledH m x u → XgcdRight m a b u
   half-end {xs = xs} v e h = half-finish xs (euclid-end m (v .core) e (h .r)) (v .x-is) (v .t .x-end) h
 
-  pub half-stop : {a b : Poly} {x y u : Half} {xs ys : Po} → Halved a b x y xs ys → y .r .n ≡ 1 → ScaledH m y u → HalfXgcd m a b u
+  pub half-stop : {a b : Poly} {x y u : RightLine} {xs ys : Po} → Halved a b x y xs ys → y .r .n ≡ 1 → ScaledH m y u → XgcdRight m a b u
   half-stop {ys = ys} v e h = half-finish ys (euclid-stop m (v .core) e (h .r)) (v .y-is) (v .t .y-end) h
 
   -- ---- whole lines: the same, with the s kept
-  abbrev upper : Line → Half
+  abbrev upper : Line → RightLine
   upper x = record { r = x .r; t = x .t }
 
   pub record Extended (a b : Poly) (x y : Line) : Type 0 where

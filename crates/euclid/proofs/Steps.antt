@@ -16,8 +16,8 @@ use Rattle.poly.specs.Contracts.{ToDivide, Divided, MonicBy}
 use Rattle.poly.proofs.Lengths.{none-is, is-none}
 use Rattle.poly.proofs.Monic.{made-zero, made-monic}
 use Rattle.euclid.specs.declared.Line.{Line}
-use Rattle.euclid.specs.declared.Half.{Half}
-use Rattle.euclid.specs.Euclid.{ToDivideBy, OkL, OkH, Taken, Scaled, ScaledH}
+use Rattle.euclid.specs.declared.RightLine.{RightLine}
+use Rattle.euclid.specs.Euclid.{ToDivideBy, OkL, OkH, MinusMultiple, Scaled, ScaledH}
 
 module _ (m : Modulus) where
   open CRing (K m) using (mul as _⊗_, one as 𝟙)
@@ -52,7 +52,7 @@ module _ (m : Modulus) where
     zero-p : pol m q *P pol m d ≡ 0P → p .n ≡ 0
     zero-p e = is-none m (hp .ok) (hp .is ∙ e)
 
-    pub taken : Taken m c q d w
+    pub taken : MinusMultiple m c q d w
     taken = record {
       ok = hw .ok;
       is = hw .is ∙ ap (λ t. pol m c +P negP t) (hp .is);
@@ -65,10 +65,10 @@ module _ (m : Modulus) where
   same : {a : Poly} → Ok m a → Is m a (C (K m) 𝟙 *P pol m a) (a .n)
   same {a} h = record { ok = h; is = sym (ap (λ t. t *P pol m a) (term-one (K m)) ∙ P m .one-mul (pol m a)); short = omega arith }
 
-  pub half-zero : {x : Half} → OkH m x → x .r .n ≡ 0 → ScaledH m x x
+  pub half-zero : {x : RightLine} → OkH m x → x .r .n ≡ 0 → ScaledH m x x
   half-zero h e = record { up = 𝟙; r = made-zero m (h .r) e; t = same (h .t) }
 
-  pub half-scaled : {x y : Half} (c : Residue) → OkH m x → 0 < x .r .n → coef (K m) (pol m (x .r)) (x .r .n - 1) ⊗ el m c ≡ 𝟙 → Is m (y .r) (co c *P pol m (x .r)) (x .r .n) → Is m (y .t) (co c *P pol m (x .t)) (x .t .n) → ScaledH m x y
+  pub half-scaled : {x y : RightLine} (c : Residue) → OkH m x → 0 < x .r .n → coef (K m) (pol m (x .r)) (x .r .n - 1) ⊗ el m c ≡ 𝟙 → Is m (y .r) (co c *P pol m (x .r)) (x .r .n) → Is m (y .t) (co c *P pol m (x .t)) (x .t .n) → ScaledH m x y
   half-scaled c h l e hr ht = record { up = el m c; r = made-monic m c (record { ok = h .r; some = l }) e hr; t = ht }
 
   pub scaled-zero : {x : Line} → OkL m x → x .r .n ≡ 0 → Scaled m x x

@@ -9,7 +9,7 @@ use Rattle.poly.specs.declared.Poly.{Poly}
 use Rattle.poly.specs.Polys.{room, K, P, pol, Ok, Is}
 use Rattle.poly.specs.Contracts.{IsMonic, MonicBy}
 use Rattle.euclid.specs.declared.Line.{Line}
-use Rattle.euclid.specs.declared.Half.{Half}
+use Rattle.euclid.specs.declared.RightLine.{RightLine}
 
 -- what division by any u but zero asks
 pub record ToDivideBy (m : Modulus) (a u : Poly) : Type 0 where
@@ -42,14 +42,14 @@ module _ (m : Modulus) where
     pub short-t : x .t .n ≤ max 1 (a .n - x .r .n)
 
   -- .. with t alone, for some s
-  pub record HalfXgcd (a b : Poly) (x : Half) : Type 0 where
+  pub record XgcdRight (a b : Poly) (x : RightLine) : Type 0 where
     pub gcd : Gcd a b (x .r)
     pub ok-t : Ok m (x .t)
     pub s : Po
     pub is : pol m (x .r) ≡ s *P pol m a +P pol m (x .t) *P pol m b
     pub short-t : x .t .n ≤ max 1 (a .n - x .r .n)
 
-  pub record OkH (x : Half) : Type 0 where
+  pub record OkH (x : RightLine) : Type 0 where
     pub r : Ok m (x .r)
     pub t : Ok m (x .t)
 
@@ -68,7 +68,7 @@ module _ (m : Modulus) where
     pub fits-t : q .n + u .t .n ≤ room + 1
 
   -- w is c less q times d; a factor of no coefficients takes nothing away
-  pub record Taken (c q d w : Poly) : Type 0 where
+  pub record MinusMultiple (c q d w : Poly) : Type 0 where
     pub ok : Ok m w
     pub is : pol m w ≡ pol m c +P negP (pol m q *P pol m d)
     pub short : w .n ≤ max (c .n) (q .n + d .n - 1)
@@ -77,8 +77,8 @@ module _ (m : Modulus) where
 
   pub record Less (x : Line) (q : Poly) (u : Line) (e : Poly) (z : Line) : Type 0 where
     pub r-is : z .r ≡ e
-    pub s : Taken (x .s) q (u .s) (z .s)
-    pub t : Taken (x .t) q (u .t) (z .t)
+    pub s : MinusMultiple (x .s) q (u .s) (z .s)
+    pub t : MinusMultiple (x .t) q (u .t) (z .t)
 
   -- y is x times a constant that has an inverse, and its r is monic, or zero
   pub record Scaled (x y : Line) : Type 0 where
@@ -87,7 +87,7 @@ module _ (m : Modulus) where
     pub s : Is m (y .s) (C (K m) up *P pol m (x .s)) (x .s .n)
     pub t : Is m (y .t) (C (K m) up *P pol m (x .t)) (x .t .n)
 
-  pub record ScaledH (x y : Half) : Type 0 where
+  pub record ScaledH (x y : RightLine) : Type 0 where
     pub up : A
     pub r : MonicBy m up (x .r) (y .r)
     pub t : Is m (y .t) (C (K m) up *P pol m (x .t)) (x .t .n)

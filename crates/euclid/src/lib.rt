@@ -6,7 +6,7 @@ ghost use Rattle.algebra.proofs.poly.Derivative.{derP};
 ghost use Rattle.field.specs.Primes.{Decides};
 ghost use Rattle.poly.specs.Polys.{K, pol, Ok};
 ghost use Rattle.poly.specs.Contracts.{Divided};
-ghost use Rattle.euclid.specs.Euclid.{ToDivideBy, OkL, OkH, Lessens, Less, Scaled, ScaledH, Gcd, Xgcd, HalfXgcd};
+ghost use Rattle.euclid.specs.Euclid.{ToDivideBy, OkL, OkH, Lessens, Less, Scaled, ScaledH, Gcd, Xgcd, XgcdRight};
 use field::Modulus;
 use poly::DivRem;
 use poly::Poly;
@@ -19,7 +19,7 @@ pub struct Line {
 }
 
 // A line whose s nobody asks for.
-pub struct Half {
+pub struct RightLine {
     pub r: Poly,
     pub t: Poly,
 }
@@ -29,7 +29,7 @@ pub fn divide(a: Poly, u: Poly, m: Modulus) -> DivRem
     requires { ⌜ ToDivideBy m a u ⌝ }
     ensures { λ d. ⌜ Divided m a u (d .quotient) (d .remainder) ⌝ }
 {
-    let x = u.unlead(m);
+    let x = u.lead_inverse(m);
     let d = a.div_rem(u.scale(x, m), m);
     let q = d.quotient;
     let q1 = q.scale(x, m);
@@ -59,7 +59,7 @@ pub fn gcd(a: Poly, b: Poly, m: Modulus) -> Poly
 
 impl Line {
     // This line less q times u, where that leaves e.
-    fn less(self, q: Poly, u: Line, e: Poly, m: Modulus) -> Line
+    fn minus_multiple(self, q: Poly, u: Line, e: Poly, m: Modulus) -> Line
         requires { ⌜ Lessens m self q u e ⌝ }
         ensures { λ z. ⌜ Less m self q u e z ⌝ }
     {
@@ -81,7 +81,7 @@ impl Line {
         }
         let s = self.s;
         let t = self.t;
-        let x = r.unlead(m);
+        let x = r.lead_inverse(m);
         let r1 = r.scale(x, m);
         let s1 = s.scale(x, m);
         let t1 = t.scale(x, m);
@@ -116,7 +116,7 @@ pub fn xgcd(a: Poly, b: Poly, m: Modulus) -> Line
         let d = divide(r, y.r, m);
         let q = d.quotient;
         let e = d.remainder;
-        let z = x.less(q, y, e, m);
+        let z = x.minus_multiple(q, y, e, m);
         x = y;
         y = z;
         n = e.n;
@@ -127,9 +127,9 @@ pub fn xgcd(a: Poly, b: Poly, m: Modulus) -> Line
     y.monic(m)
 }
 
-impl Half {
+impl RightLine {
     // The same with r monic; as it is where r is zero.
-    fn monic(self, m: Modulus) -> Half
+    fn monic(self, m: Modulus) -> RightLine
         requires { ⌜ OkH m self ⌝ }
         ensures { λ y. ⌜ ScaledH m self y ⌝ }
     {
@@ -138,22 +138,22 @@ impl Half {
             return self;
         }
         let t = self.t;
-        let x = g.unlead(m);
+        let x = g.lead_inverse(m);
         let r1 = g.scale(x, m);
         let t1 = t.scale(x, m);
-        Half { r: r1, t: t1 }
+        RightLine { r: r1, t: t1 }
     }
 }
 
 // The gcd r with the cofactor of b alone: r = s * a + t * b for some s. It goes as xgcd does.
-pub fn half_xgcd(a: Poly, b: Poly, m: Modulus) -> Half
+pub fn xgcd_right(a: Poly, b: Poly, m: Modulus) -> RightLine
     requires { ⌜ Ok m a × Ok m b ⌝ }
-    ensures { λ x. ⌜ HalfXgcd m a b x ⌝ }
+    ensures { λ x. ⌜ XgcdRight m a b x ⌝ }
 {
     let one = Poly::one(m);
     let zero = Poly::zero(m);
-    let mut x = Half { r: a, t: zero };
-    let mut y = Half { r: b, t: one };
+    let mut x = RightLine { r: a, t: zero };
+    let mut y = RightLine { r: b, t: one };
     let mut size = b.n;
     while 1 < size {
         let r = x.r;
@@ -163,7 +163,7 @@ pub fn half_xgcd(a: Poly, b: Poly, m: Modulus) -> Half
         let e = d.remainder;
         let w = t.sub(q.mul(y.t, m), m);
         x = y;
-        y = Half { r: e, t: w };
+        y = RightLine { r: e, t: w };
         size = e.n;
     }
     if size == 0 {

@@ -35,7 +35,9 @@ pub fn f_of(c: Curve) -> Poly
     let m = c.m;
     let g = c.g;
     let o = Residue::one(m);
-    let a = parabola(c.f0, c.f1, c.f2, m).put(3, c.f3, m).put(4, c.f4, m);
+    let a = parabola(c.f0, c.f1, c.f2, m)
+        .put(3, c.f3, m)
+        .put(4, c.f4, m);
     if g == 2 {
         return a.put(5, o, m);
     }

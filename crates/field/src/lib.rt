@@ -1,5 +1,5 @@
 // Residues modulo an odd number p up to 2^61 - 1, in Montgomery's form with R = 2^64: a residue holds a number below 2p and stands for an element
-// of Z/p, `el m r`. Above this crate the number inside is seen only through `number`, and of running totals through `kept` and `written`.
+// of Z/p, `el m r`. Above this crate the number inside is seen only through `number`, and of running totals through `from_raw` and `to_raw`.
 // A modulus is a `Ring`: odd, 3 ≤ p ≤ 2^61 - 1, its constants right, which is enough for all but the inverse; or `Good`: a `Ring` whose p is prime.
 // A residue is `Kept`: below 2p, so that sums and products need no last step; or `Settled`: below p, to be compared, tested for zero or written.
 ghost use mathlib.Core.Path.{_≡_};
@@ -143,13 +143,13 @@ impl Residue {
     }
 
     // A number kept from an earlier call, under whatever modulus, and back.
-    pub fn kept(n: u64) -> Residue
+    pub fn from_raw(n: u64) -> Residue
         ensures { λ r. ⌜ raw r ≡ n ⌝ }
     {
         Residue(n)
     }
 
-    pub fn written(self) -> u64
+    pub fn to_raw(self) -> u64
         ensures { λ r. ⌜ r ≡ raw self ⌝ }
     {
         self.0

@@ -61,7 +61,7 @@ fn print_powers(a: Residue, m: Modulus)
 fn print_one(a: Residue, m: Modulus)
     requires { ⌜ Kept m a ⌝ }
 {
-    crate::item(a.written());
+    crate::item(a.to_raw());
     crate::print_kept(a.neg(m), m);
     crate::print_kept(a.dbl(m), m);
     crate::print_kept(a.half(m), m);
@@ -91,8 +91,8 @@ fn print_thirds(a: Residue, b: Residue, n: u64, m: Modulus)
 fn print_two(a: Residue, b: Residue, n: u64, m: Modulus)
     requires { ⌜ Kept m a × Kept m b ⌝ }
 {
-    crate::item(a.written());
-    crate::item(b.written());
+    crate::item(a.to_raw());
+    crate::item(b.to_raw());
     print_thirds(a, b, n, m);
     crate::print_kept(a.add(b, m), m);
     crate::print_kept(a.sub(b, m), m);

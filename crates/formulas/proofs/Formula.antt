@@ -15,7 +15,7 @@ use Rattle.algebra.proofs.ideal.Composed.{Composed}
 use Rattle.rules.specs.Curve.{Curve, Kx, f}
 use Rattle.rules.specs.Pair.{Pair, Valid, u-of, v-of}
 use Rattle.rules.specs.Sum.{sum}
-use Rattle.rules.proofs.Quick.{Reached, reached-on, is-sum}
+use Rattle.rules.proofs.IsSum.{Reached, reached-on, is-sum}
 use Rattle.rules.proofs.cantor.Accepted.{Accepted}
 use Rattle.rules.proofs.cantor.Pairs.{valid-on, on-valid}
 use Rattle.rules.proofs.cantor.Composition.{composed-on}

@@ -14,7 +14,7 @@ use Rattle.algebra.proofs.poly.Term.{at, C, coef-C}
 use Rattle.algebra.proofs.poly.Divide.{short-multiple}
 use Rattle.algebra.proofs.ideal.Joined.{OnCurve}
 use Rattle.rules.specs.Curve.{Curve, Kx, f}
-use Rattle.rules.proofs.Quick.{Reached, turn, here}
+use Rattle.rules.proofs.IsSum.{Reached, turn, here}
 
 -- ---- bounds of polynomials
 module _ (F : CRing) where

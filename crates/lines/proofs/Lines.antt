@@ -11,7 +11,7 @@ use Rattle.rules.specs.Records.{choose, numbers}
 use Rattle.field.specs.declared.Modulus.{Modulus}
 use Rattle.divisor.specs.declared.Divisor.{Divisor}
 use Rattle.divisor.specs.Divisors.{weightOf, pair}
-use Rattle.writes.specs.Write.{NumbersOf}
+use Rattle.record_write.specs.Write.{NumbersOf}
 use Rattle.divisor.proofs.Laws.{weight-is}
 use Rattle.digits.specs.Digits.{letters, hex}
 use Rattle.lines.specs.Lines.{two, places, spaced, total-line}

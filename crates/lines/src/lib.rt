@@ -72,7 +72,7 @@ pub fn put_total(out: &mut [u8; 256], a: usize, t: Divisor, m: Modulus) -> usize
     ensures { λ r. ⌜ PutAt (now (out .entry)) a (total-line (m .p) (pair m t)) (now (out .exit)) r ⌝ }
 {
     let w = t.weight();
-    let x = writes::numbers_of(t, m);
+    let x = record_write::numbers_of(t, m);
     let b = digits::put_bytes(out, a, b"total ");
     let c = digits::put_hex(out, b, 2, w as u64);
     let d = put_numbers(out, c, x, 2 * w);

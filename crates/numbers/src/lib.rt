@@ -15,7 +15,7 @@ fn entered(r: Residue, m: Modulus) -> Residue
     requires { ⌜ Good m × InRange m r ⌝ }
     ensures { λ x. ⌜ Settles m x (emb (m .p) (raw r)) ⌝ }
 {
-    let read = Residue::read(r.written(), m);
+    let read = Residue::read(r.to_raw(), m);
     match read {
         ResidueRead::Below(x) => x,
         ResidueRead::TooLarge => r,
@@ -26,7 +26,7 @@ fn left(r: Residue, m: Modulus) -> Residue
     requires { ⌜ Settled m r ⌝ }
     ensures { λ x. ⌜ raw x ≡ num (m .p) (el m r) ⌝ }
 {
-    Residue::kept(r.number(m))
+    Residue::from_raw(r.number(m))
 }
 
 pub fn resumed(d: Divisor, m: Modulus) -> Divisor

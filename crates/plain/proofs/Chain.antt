@@ -8,7 +8,7 @@ use Rattle.algebra.proofs.poly.Term.{C, constants}
 use Rattle.algebra.proofs.ideal.Joined.{Joined}
 use Rattle.algebra.proofs.ideal.Composed.{Composed}
 use Rattle.rules.specs.Curve.{f}
-use Rattle.rules.proofs.Quick.{Reached, here, turn}
+use Rattle.rules.proofs.IsSum.{Reached, here, turn}
 use Rattle.field.specs.declared.Modulus.{Modulus}
 use Rattle.poly.specs.declared.Poly.{Poly}
 use Rattle.poly.specs.Polys.{K, P, pol}

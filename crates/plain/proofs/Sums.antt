@@ -9,7 +9,7 @@ use Rattle.algebra.proofs.ideal.Composed.{Composed}
 use Rattle.rules.specs.Curve.{Kx, f}
 use Rattle.rules.specs.Pair.{Valid, u-of, v-of}
 use Rattle.rules.specs.Sum.{sum, double}
-use Rattle.rules.proofs.Quick.{Reached, is-sum, double-is}
+use Rattle.rules.proofs.IsSum.{Reached, is-sum, double-is}
 use Rattle.rules.proofs.cantor.Pairs.{valid-on, on-valid}
 use Rattle.field.specs.declared.Modulus.{Modulus}
 use Rattle.poly.specs.declared.Poly.{Poly}
@@ -18,7 +18,7 @@ use Rattle.divisor.specs.declared.Divisor.{Divisor}
 use Rattle.divisor.specs.Divisors.{pair}
 use Rattle.divisor.proofs.Laws.{weight-is, weight-is-v}
 use Rattle.cantor.specs.declared.Mumford.{Mumford}
-use Rattle.cantor.specs.Pairs.{Fine}
+use Rattle.cantor.specs.Pairs.{OnCurvePair}
 use Rattle.cantor.specs.Reducing.{ToSum, Summed}
 use Rattle.curve.specs.declared.Curve.{Curve}
 use Rattle.curve.specs.Curves.{curveOf, Sound, Holds, Gives}
@@ -46,7 +46,7 @@ module _ (c : Curve) (h : Sound c) (q : Poly) (hq : OfCurve c q) where
   infixl 70 _*P_
   -- ---- a divisor and its polynomials
   module _ (d : Divisor) (x : Mumford) (hx : AsPair m d x) where
-    fine : Holds c d → Fine m q x
+    fine : Holds c d → OnCurvePair m q x
     fine hd = let o : OnCurve (Kx (curveOf c)) (f (curveOf c)) (u-of (curveOf c) (pair m d)) (v-of (curveOf c) (pair m d)) = valid-on (curveOf c) (hd .valid) .on in record {
       ok-u = hx .ok-u;
       ok-v = hx .ok-v;
@@ -58,7 +58,7 @@ module _ (c : Curve) (h : Sound c) (q : Poly) (hq : OfCurve c q) where
     small : Holds c d → x .u .n ≤ c .g + 1
     small hd = omega (arith, hx .n-u, hd .valid .small, weight-is m d)
 
-    valid : Fine m q x → x .u .n ≤ c .g + 1 → Valid (curveOf c) (pair m d)
+    valid : OnCurvePair m q x → x .u .n ≤ c .g + 1 → Valid (curveOf c) (pair m d)
     valid k l = on-valid (curveOf c) (record { fits = weight-is-v m d ∙ sym (weight-is m d); on = (k .on .0, sym (hq .is) ∙ k .on .1 ∙ sym (ap₂ (λ s t. t *P t +P s *P k .on .0) (u-is c d x hx) (v-is c d x hx))) }) (omega (arith, weight-is m d, hx .n-u))
 
   -- ---- the sum

@@ -16,7 +16,7 @@ use Rattle.field.specs.declared.Residue.{Residue}
 use Rattle.field.specs.declared.Modulus.{Modulus}
 use Rattle.field.specs.Residues.{Stands}
 use Rattle.poly.specs.Polys.{room, K, P, polL, Filled, Is}
-use Rattle.poly.specs.Contracts.{Held, Size}
+use Rattle.poly.specs.Contracts.{FilledTo, Size}
 use Rattle.poly.proofs.Stored.{set-is, filled-set}
 
 module _ (m : Modulus) (a T : P m .El) (s n : ℕ) where
@@ -75,7 +75,7 @@ module _ (m : Modulus) (a T : P m .El) (s n : ℕ) where
           ∙ K m .zer-add 𝟘
 
       module _ {l : List Residue} {k top : ℕ} (b : Built l k) (over : n ≤ k) (et : top ≡ max i (s + n)) where
-        pub build-held : i ≤ room → s + n ≤ room → Held m l top
+        pub build-held : i ≤ room → s + n ≤ room → FilledTo m l top
         build-held hi hs = record { len = omega arith; fill = b .fill; end = λ j h. ap (λ u. cf u j) (build-is b over) ∙ sum-below j (omega arith) }
 
         pub build-end : {w : Po} {r : ℕ} → top ≤ room → Size m l top r → a +P xs *P T ≡ w → Is m (record { c = l; n = r }) w (max i (s + n))

@@ -16,7 +16,7 @@ use Rattle.field.specs.Residues.{el, Stands, Settles, Everywhere}
 use Rattle.field.proofs.Laws.{zero-settles, settles-stands}
 use Rattle.poly.specs.declared.Poly.{Poly}
 use Rattle.poly.specs.Polys.{room, K, P, polL, pol, Ok, Is}
-use Rattle.poly.specs.Contracts.{Held, Size}
+use Rattle.poly.specs.Contracts.{FilledTo, Size}
 use Rattle.poly.proofs.Build.{Built, build-begin, build-turn, build-next, build-held, build-end}
 use Rattle.poly.proofs.Lengths.{recast}
 
@@ -63,7 +63,7 @@ module _ (m : Modulus) (a : Poly) where
         next = hj .is ∙ ap₂ _⊕_ (v .counted .is) (ho .is)
 
     module _ {l : List Residue} {i : Residue} {k : ℕ} (v : Deriving l i k) (over : a .n ≤ k + 1) where
-      pub derive-held : Held m l k
+      pub derive-held : FilledTo m l k
       derive-held = build-held m 0P D 0 (a .n - 1) der-below 0 (λ j g. at (K m) (coef-zer (K m)) j) (v .built) (omega arith) (omega (arith, v .built .within)) (omega arith) (omega (arith, h .len))
 
       pub derive-end : {r : ℕ} → Size m l k r → Is m (record { c = l; n = r }) D (a .n - 1)

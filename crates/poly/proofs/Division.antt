@@ -17,7 +17,7 @@ use Rattle.field.specs.Residues.{el, Kept, Stands, Everywhere}
 use Rattle.field.proofs.Laws.{zero-settles, settles-stands}
 use Rattle.poly.specs.declared.Poly.{Poly}
 use Rattle.poly.specs.Polys.{room, K, P, polL, pol, Filled, Ok, Is}
-use Rattle.poly.specs.Contracts.{Held, Size, IsMonic, ToDivide, Divided, ToQuotient, Quotient}
+use Rattle.poly.specs.Contracts.{FilledTo, Size, IsMonic, ToDivide, Divided, ToQuotient, Quotient}
 use Rattle.poly.proofs.Stored.{read, set-is, filled-set}
 use Rattle.poly.proofs.Build.{build-next}
 use Rattle.poly.proofs.Rows.{Rowing, row-turn, row-is, row-sum-below}
@@ -116,7 +116,7 @@ module _ (m : Modulus) where
           end = less m (polL m (set j top z)) (s + u .n) (λ n g. ap (λ t. cf t n) rest-is ∙ row-sum-below m (polL m r) (ng (el m x)) s u (h .right) fits (k + u .n - 1) (v .end) n (omega arith)) lead-gone;
         }
 
-    pub reduce-held : {w : Po} {r : List Residue} {k : ℕ} → Reducing a u w r k → k ≤ 0 → Held m r (u .n - 1)
+    pub reduce-held : {w : Po} {r : List Residue} {k : ℕ} → Reducing a u w r k → k ≤ 0 → FilledTo m r (u .n - 1)
     reduce-held v l = record { len = omega (arith, h .right .len); fill = v .fill; end = λ j g. v .end j (omega arith) }
 
     -- ---- the residues of the quotient

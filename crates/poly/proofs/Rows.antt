@@ -15,7 +15,7 @@ use Rattle.field.specs.declared.Modulus.{Modulus}
 use Rattle.field.specs.Residues.{el, Stands}
 use Rattle.poly.specs.declared.Poly.{Poly}
 use Rattle.poly.specs.Polys.{room, K, P, polL, pol, Filled, Ok, Is}
-use Rattle.poly.specs.Contracts.{Held, Size, Put}
+use Rattle.poly.specs.Contracts.{FilledTo, Size, Put}
 use Rattle.poly.proofs.Lengths.{recast}
 use Rattle.poly.proofs.Build.{Built, build-begin, build-turn, build-next, build-is, sum-below, build-held, build-end}
 
@@ -43,7 +43,7 @@ module _ (m : Modulus) where
         (record { kept = hy .kept; is = hy .is ∙ ap₂ _⊕_ (hg .is) (sym (at (K m) (coef-term (K m) (el m x) 0) 0 ∙ termS-at (K m) (el m x) 0)) })
 
     module _ {g y : Residue} {top : ℕ} (e : length (a .c) ≡ room) (hg : Stands m g (cf (pol m a) k)) (hy : Stands m y (el m g ⊕ el m x)) (et : top ≡ max (a .n) (k + 1)) where
-      pub put-held : Held m (set (a .c) k y) top
+      pub put-held : FilledTo m (set (a .c) k y) top
       put-held = build-held m (pol m a) (C (K m) (el m x)) k 1 term-below (a .n) (h .left .size .end) (put-built e hg hy) (omega arith) et (h .left .len) (omega (arith, h .fits))
 
       pub put-end : {r : ℕ} → Size m (set (a .c) k y) top r → Is m (record { c = set (a .c) k y; n = r }) (pol m a +P te (el m x) k) (max (a .n) (k + 1))
@@ -104,7 +104,7 @@ module _ (m : Modulus) where
         (record { kept = hy .kept; is = hy .is ∙ ap (λ t. el m x ⊗ t) (ho .is) ∙ sym (ap (λ t. t ⊕ el m x ⊗ cf (pol m b) k) (ap (cf (polL m l)) {x = k} {y = 0 + k} (omega arith) ∙ build-next m 0P multiple 0 (b .n) v ∙ nothing (0 + k) zero-le) ∙ K m .zer-add (el m x ⊗ cf (pol m b) k)) })
 
     module _ {l : List Residue} {k : ℕ} (v : Rowing 0P (el m x) 0 b l k) (over : b .n ≤ k) where
-      pub scale-held : Held m l (b .n)
+      pub scale-held : FilledTo m l (b .n)
       scale-held = build-held m 0P multiple 0 (b .n) (row-below 0P (el m x) 0 b hb (omega (arith, hb .len))) 0 nothing v over (omega arith) zero-le (omega (arith, hb .len))
 
       pub scale-end : {r : ℕ} → Size m l (b .n) r → Is m (record { c = l; n = r }) multiple (b .n)
@@ -120,7 +120,7 @@ module _ (m : Modulus) where
     sum-turn v lt hy = build-turn m (pol m a) T 0 (b .n) v lt (omega (arith, hb .len)) (omega arith) hy
 
     module _ {l : List Residue} {k top : ℕ} (v : Built m (pol m a) T 0 (b .n) l k) (over : b .n ≤ k) (et : top ≡ max (a .n) (b .n)) where
-      pub sum-held : Held m l top
+      pub sum-held : FilledTo m l top
       sum-held = build-held m (pol m a) T 0 (b .n) hT (a .n) (ha .size .end) v over (omega arith) (ha .len) (omega (arith, hb .len))
 
       pub sum-end : {r : ℕ} → Size m l top r → Is m (record { c = l; n = r }) (pol m a +P T) (max (a .n) (b .n))

@@ -19,7 +19,7 @@ abbrev pub Gets : Poly → ℕ → Residue → Type 0
 Gets x k r = (m : Modulus) → Filled m (x .c) → Stands m r (coef (K m) (pol m x) k)
 
 -- coefficients from n on are zero
-pub record Held (m : Modulus) (l : List Residue) (n : ℕ) : Type 0 where
+pub record FilledTo (m : Modulus) (l : List Residue) (n : ℕ) : Type 0 where
   pub len : n ≤ room
   pub fill : Filled m l
   pub end : Below (K m) n (coef (K m) (polL m l))

@@ -8,7 +8,7 @@ ghost use Rattle.algebra.proofs.poly.Term.{term, C};
 ghost use Rattle.algebra.proofs.poly.Derivative.{derP};
 ghost use Rattle.field.specs.Residues.{el, Good, Kept, Stands};
 ghost use Rattle.poly.specs.Polys.{K, P, pol, Ok, Is};
-ghost use Rattle.poly.specs.Contracts.{Gets, Held, Size, Put, Product, Led, IsDegree, ToDivide, Divided, ToQuotient, Quotient, MadeMonic};
+ghost use Rattle.poly.specs.Contracts.{Gets, FilledTo, Size, Put, Product, Led, IsDegree, ToDivide, Divided, ToQuotient, Quotient, MadeMonic};
 use field::Modulus;
 use field::Residue;
 
@@ -55,7 +55,7 @@ impl Poly {
 
     // One more than the degree, which is below top.
     fn size(self, top: usize, m: Modulus) -> usize
-        requires { ⌜ Held m (self .c) top ⌝ }
+        requires { ⌜ FilledTo m (self .c) top ⌝ }
         ensures { λ r. ⌜ Size m (self .c) top r ⌝ }
     {
         let mut n = top;
@@ -256,7 +256,7 @@ impl Poly {
     }
 
     // The inverse of the leading coefficient.
-    pub fn unlead(self, m: Modulus) -> Residue
+    pub fn lead_inverse(self, m: Modulus) -> Residue
         requires { ⌜ Led m self ⌝ }
         ensures { λ r. ⌜ Kept m r × (K m .mul (coef (K m) (pol m self) (self .n - 1)) (el m r) ≡ K m .one) ⌝ }
     {
@@ -271,7 +271,7 @@ impl Poly {
         if self.n == 0 {
             return self;
         }
-        self.scale(self.unlead(m), m)
+        self.scale(self.lead_inverse(m), m)
     }
 
     // Its coefficient at k is k + 1 times the one at k + 1, and i runs through the residues of 1, 2, ..

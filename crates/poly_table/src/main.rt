@@ -23,7 +23,7 @@ fn number(s: &[u8], at: usize) -> u64 {
     if s.len() - 4 < at {
         return 0;
     }
-    words::read32(s, at)
+    big_endian::read32(s, at)
 }
 
 fn length(s: &[u8], at: usize) -> usize

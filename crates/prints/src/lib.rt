@@ -42,7 +42,7 @@ fn hex_digit(text: &mut [u8], at: usize, d: u64) -> usize
 // A byte as two digits, or as it is.
 fn byte(text: &mut [u8], at: usize, b: u8, in_hex: bool) -> usize {
     if in_hex {
-        let x = words::wide(b);
+        let x = big_endian::wide(b);
         let next = hex_digit(text, at, x / 16);
         return hex_digit(text, next, x % 16);
     }

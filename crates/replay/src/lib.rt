@@ -2,12 +2,12 @@
 // say no more than safety asks.
 ghost use mathlib.Core.Path.{_≡_};
 ghost use lib.ListN.{length};
-use flats::YubiRunning;
-use flats::YubiScanned;
-use structs::YubiAnswer;
-use structs::YubiMultiple;
-use structs::YubiRepeat;
-use structs::YubiTotal;
+use c_answers::YubiAnswer;
+use c_answers::YubiMultiple;
+use c_answers::YubiRepeat;
+use c_answers::YubiTotal;
+use scan_flat::YubiRunning;
+use scan_flat::YubiScanned;
 
 fn checked(text: &mut [u8], a: YubiAnswer) -> usize {
     let values = [a.number, a.place, a.length];
@@ -56,14 +56,14 @@ fn running(s: &[u8]) -> YubiRunning
     requires { ⌜ length (now s) ≡ 64 ⌝ }
 {
     YubiRunning {
-        weight: words::read64(s, 0),
-        u0: words::read64(s, 8),
-        u1: words::read64(s, 16),
-        u2: words::read64(s, 24),
-        v0: words::read64(s, 32),
-        v1: words::read64(s, 40),
-        v2: words::read64(s, 48),
-        count: words::read64(s, 56),
+        weight: big_endian::read64(s, 0),
+        u0: big_endian::read64(s, 8),
+        u1: big_endian::read64(s, 16),
+        u2: big_endian::read64(s, 24),
+        v0: big_endian::read64(s, 32),
+        v1: big_endian::read64(s, 40),
+        v2: big_endian::read64(s, 48),
+        count: big_endian::read64(s, 56),
     }
 }
 

@@ -2,5 +2,5 @@ pub mod cantor
 pub mod calls
 pub mod Demand3
 pub mod CallLaws
-pub mod Quick
+pub mod IsSum
 pub mod Corners

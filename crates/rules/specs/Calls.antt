@@ -14,7 +14,7 @@ use Rattle.rules.specs.Multiple.{multiple, doublings, additions}
 use Rattle.rules.specs.Tests.{weighs?, on-curve?}
 use Rattle.rules.specs.Checks.{Checked, refused, taken, choose, Check, first-failed, go-on}
 use Rattle.rules.specs.Records.{both, CurveRecord, curve, PairOf, made-of, below?, elements, numbers, read-curve, read-divisor, curve-bytes, divisor-bytes}
-use Rattle.rules.specs.Lists.{batch, most, Repeat, first-repeat}
+use Rattle.rules.specs.Lists.{batch, most-records, Repeat, first-repeat}
 
 pub record Answer : Type 0 where
   pub number : ℕ
@@ -137,8 +137,8 @@ resume-checks c t =
     (eqb (length (t .v)) (length (t .u)), 15, 0) ∷
     (both (below? (c .p) (t .u)) (below? (c .p) (t .v)), 15, 0) ∷
     (on-curve? (curve c) (made-of c (t .u) (t .v)), 15, 0) ∷
-    (leb (t .count) most, 15, 0) ∷
-    (ltb (t .count) most, 14, 0) ∷
+    (leb (t .count) most-records, 15, 0) ∷
+    (ltb (t .count) most-records, 14, 0) ∷
     []
 
 unfoldable pub resume : (c : CurveRecord) → Running → Checked (PairOf c)

@@ -15,8 +15,8 @@ pub use Rattle.rules.specs.First.{Repeat}
 use Rattle.rules.specs.Checks.{Checked, refused, taken, choose, first-failed, go-on}
 use Rattle.rules.specs.Records.{both, either, CurveRecord, PairOf, divisor-at}
 
-abbrev pub most : ℕ
-most = 4096
+abbrev pub most-records : ℕ
+most-records = 4096
 
 -- what a batch comes to, and how many records it has: from `from`, each record goes in by `step`
 pub record Batch (A : Type 0) : Type 0 where
@@ -33,7 +33,7 @@ module _ {A : Type 0} (c : CurveRecord) (step : A → PairOf c → A) (s : List 
       (go-on (divisor-at c (k + 1) false s a) (λ d. batch-from left (a + 1 + 16 * getD s a 0) (k + 1) (step from d)))
 
   abbrev pub batch : A → Checked (Batch A)
-  batch from = batch-from most 0 0 from
+  batch from = batch-from most-records 0 0 from
 
 -- ---- two meters are the same when their divisors are equal or opposite (document 02, W-205)
 abbrev pub Same : {K : Arith} → Pair K → Pair K → Type 0

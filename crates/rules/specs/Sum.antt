@@ -72,15 +72,15 @@ module _ (E : Curve) where
   step a = let u : Monic = monic K (f-v²-list a /M a .u) in record { u = u; v = negL F (a .v) %M u }
 
   -- while deg u > g, for at most n turns
-  unfoldable pub while : ℕ → Pair K → Pair K
+  unfoldable pub reduce-at-most : ℕ → Pair K → Pair K
   unfolding step decLe
-  while zero a = a
-  while (suc n) a = elim (decLe (length (a .u)) (E .g)) [ yes l ↦ a | no l ↦ while n (step a) ]
+  reduce-at-most zero a = a
+  reduce-at-most (suc n) a = elim (decLe (length (a .u)) (E .g)) [ yes l ↦ a | no l ↦ reduce-at-most n (step a) ]
 
   -- each turn lowers the degree, so deg u turns are enough
   unfoldable pub reduction : Pair K → Pair K
-  unfolding while
-  reduction a = while (length (a .u)) a
+  unfolding reduce-at-most
+  reduction a = reduce-at-most (length (a .u)) a
 
   unfoldable pub sum : Pair K → Pair K → Pair K
   unfolding composition reduction

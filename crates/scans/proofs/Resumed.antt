@@ -9,7 +9,7 @@ use lib.Dec.{ltb, leb, eqb}
 use lib.ListN.{length}
 use Rattle.rules.specs.Tests.{on-curve?}
 use Rattle.rules.specs.Records.{Checked, refused, taken, choose, PairOf}
-use Rattle.rules.specs.Lists.{most}
+use Rattle.rules.specs.Lists.{most-records}
 use Rattle.rules.specs.Calls.{resume}
 use Rattle.rules.proofs.Demand3.{on-curve-test}
 use Rattle.field.specs.Residues.{raw}
@@ -36,8 +36,8 @@ module _ (c : Curve) (t : Running) where
   abbrev last : PairOf (recordOf c) → Checked (PairOf (recordOf c))
   last x =
       choose (on-curve? (curveOf c) x)
-      (choose (leb (t .count) most)
-      (choose (ltb (t .count) most) (taken x)
+      (choose (leb (t .count) most-records)
+      (choose (ltb (t .count) most-records) (taken x)
       (refused 14 0))
       (refused 15 0))
       (refused 15 0)
@@ -69,19 +69,19 @@ module _ (c : Curve) (t : Running) where
         off-curve n = stops 15 d (omega arith) (rule-is ∙ rw (otherwise (on-curve? (curveOf c) (pair (c .m) x)) (λ e. n (on-curve-test (curveOf c) (pair (c .m) x) .0 e))))
 
         module _ (on : Divided c x) where
-          counted : resume (recordOf c) (runningOf t) ≡ choose (leb (t .count) most) (choose (ltb (t .count) most) (taken (pair (c .m) x)) (refused 14 0)) (refused 15 0)
+          counted : resume (recordOf c) (runningOf t) ≡ choose (leb (t .count) most-records) (choose (ltb (t .count) most-records) (taken (pair (c .m) x)) (refused 14 0)) (refused 15 0)
           counted = rule-is ∙ rw (on-curve-test (curveOf c) (pair (c .m) x) .1 on)
 
-          pub overfull : most < t .count → ResumeIs c t (record { number = 15; divisor = d })
-          overfull l = stops 15 d (omega arith) (counted ∙ rw (lt-leb (t .count) most l))
+          pub overfull : most-records < t .count → ResumeIs c t (record { number = 15; divisor = d })
+          overfull l = stops 15 d (omega arith) (counted ∙ rw (lt-leb (t .count) most-records l))
 
-          pub full : t .count ≡ most → ResumeIs c t (record { number = 14; divisor = d })
-          full e = stops 14 d (omega arith) (counted ∙ rw (le-leb (t .count) most (omega arith), le-ltb (t .count) most (omega arith)))
+          pub full : t .count ≡ most-records → ResumeIs c t (record { number = 14; divisor = d })
+          full e = stops 14 d (omega arith) (counted ∙ rw (le-leb (t .count) most-records (omega arith), le-ltb (t .count) most-records (omega arith)))
 
-          pub goes-on : t .count < most → ResumeIs c t (record { number = 0; divisor = x })
+          pub goes-on : t .count < most-records → ResumeIs c t (record { number = 0; divisor = x })
           goes-on l = record {
             holds = λ z. record { held = hx .held; valid = record { fits = omega (arith, weight-is (c .m) x, weight-is-v (c .m) x); small = omega (arith, weight-is (c .m) x, hx .weight); divides = on } };
             room = λ z. l;
-            takes = λ z. counted ∙ rw (le-leb (t .count) most (omega arith), lt-ltb (t .count) most l);
+            takes = λ z. counted ∙ rw (le-leb (t .count) most-records (omega arith), lt-ltb (t .count) most-records l);
             refuses = λ z. absurd (z refl);
           }

@@ -15,12 +15,12 @@ use Rattle.curve.specs.declared.Curve.{Curve}
 use Rattle.curve.specs.Curves.{curveOf, Sound}
 use Rattle.running.specs.declared.Running.{Running}
 use Rattle.running.specs.Totals.{ToTake, Taken}
-use Rattle.curve_read.specs.declared.CurveRead.{CurveRead}
-use Rattle.divisor_read.specs.declared.DivisorRead.{DivisorRead}
-use Rattle.divisor_read.specs.declared.DivisorRead.the-variants.{Taken as Read, Refused as NotRead}
+use Rattle.record_curve.specs.declared.CurveRead.{CurveRead}
+use Rattle.record_divisor.specs.declared.DivisorRead.{DivisorRead}
+use Rattle.record_divisor.specs.declared.DivisorRead.the-variants.{Taken as Read, Refused as NotRead}
 use Rattle.curve.specs.Record.{recordOf}
-use Rattle.curve_read.specs.Read.{CurveIs}
-use Rattle.divisor_read.specs.Read.{DivisorIs}
+use Rattle.record_curve.specs.Read.{CurveIs}
+use Rattle.record_divisor.specs.Read.{DivisorIs}
 use Rattle.scans.specs.declared.TakenUp.{TakenUp}
 use Rattle.scans.specs.declared.ScanAnswer.{ScanAnswer}
 use Rattle.scans.specs.declared.ScanAnswer.the-variants.{Done, Refused}

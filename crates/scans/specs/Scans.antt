@@ -3,7 +3,7 @@ use Prim.Native.Nat.{_<_}
 use mathlib.Core.Path.{_≡_}
 use mathlib.Core.List.{[], map}
 use Rattle.rules.specs.Records.{refused, taken}
-use Rattle.rules.specs.Lists.{most}
+use Rattle.rules.specs.Lists.{most-records}
 use Rattle.rules.specs.Calls.{Running as RuleRunning, Reply, done, stop, resume}
 use Rattle.field.specs.Residues.{raw}
 use Rattle.divisor.specs.Divisors.{us, vs, pair}
@@ -25,6 +25,6 @@ scannedOf t (Refused n k) = stop (runningOf t) [] n k
 
 pub record ResumeIs (c : Curve) (t : Running) (r : TakenUp) : Type 0 where
   pub holds : r .number ≡ 0 → Holds c (r .divisor)
-  pub room : r .number ≡ 0 → t .count < most
+  pub room : r .number ≡ 0 → t .count < most-records
   pub takes : r .number ≡ 0 → resume (recordOf c) (runningOf t) ≡ taken (pair (c .m) (r .divisor))
   pub refuses : (r .number ≡ 0 → ⊥) → resume (recordOf c) (runningOf t) ≡ refused (r .number) 0

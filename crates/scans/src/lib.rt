@@ -8,8 +8,8 @@ ghost use Rattle.numbers.specs.Plain.{AllIn};
 ghost use Rattle.scans.specs.Scans.{ResumeIs, runningOf, scannedOf};
 use curve::Curve;
 use divisor::Divisor;
-use divisor_read::DivisorRead;
 use field::Modulus;
+use record_divisor::DivisorRead;
 use running::Running;
 
 pub enum ScanAnswer {
@@ -91,7 +91,7 @@ pub fn scan_on(c: Curve, t: Running, record: &[u8]) -> ScanAnswer
     if number != 0 {
         return ScanAnswer::Refused(number, 0);
     }
-    match divisor_read::divisor_at(c, true, record, 0) {
+    match record_divisor::divisor_at(c, true, record, 0) {
         DivisorRead::Taken(d) => ScanAnswer::Done(t.take(c, total, d)),
         DivisorRead::Refused(n) => ScanAnswer::Refused(n, 1),
     }
@@ -100,7 +100,7 @@ pub fn scan_on(c: Curve, t: Running, record: &[u8]) -> ScanAnswer
 pub fn scan(t: Running, curve: &[u8], record: &[u8]) -> ScanAnswer
     ensures { λ r. ⌜ scannedOf t r ≡ scan-call (runningOf t) (now (curve .entry)) (now («record» .entry)) ⌝ }
 {
-    let read = curve_read::read_curve(curve);
+    let read = record_curve::read_curve(curve);
     let c = read.curve;
     let number = read.number;
     if number != 0 {

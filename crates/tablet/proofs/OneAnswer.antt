@@ -4,8 +4,8 @@ use mathlib.Core.Path.{_≡_}
 use mathlib.Core.List.{List}
 use Rattle.rules.specs.Calls.{multiply-call}
 use Rattle.rules.proofs.CallLaws.{one-answer}
-use Rattle.structs.specs.declared.YubiMultiple.{YubiMultiple}
-use Rattle.structs.specs.Flat.{flat-multiple}
+use Rattle.c_answers.specs.declared.YubiMultiple.{YubiMultiple}
+use Rattle.c_answers.specs.Flat.{flat-multiple}
 
 -- what `yubi_multiply` and `yubi_multiply_inversion_free` both promise of an answer r and an output o
 pub record Multiplies (s a scalar out : List ℕ) (r : YubiMultiple) (o : List ℕ) : Type 0 where

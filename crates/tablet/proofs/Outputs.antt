@@ -2,20 +2,20 @@
 use Prim.Native.Nat.{ℕ}
 use mathlib.Core.Path.{_≡_, refl, sym, ap, ap₂, _∙_}
 use mathlib.Core.List.{List}
-use Rattle.sums.specs.declared.MultipleAnswer.{MultipleAnswer}
-use Rattle.sums.specs.declared.MultipleAnswer.the-variants.{Done, Refused}
-use Rattle.sums.specs.Multiples.{multipleOf, MultipleIs}
-use Rattle.totals.specs.declared.TotalAnswer.{TotalAnswer}
-use Rattle.totals.specs.declared.TotalAnswer.the-variants.{Done as DoneTotal, Refused as RefusedTotal}
-use Rattle.totals.specs.Totals.{totalOf}
+use Rattle.call_group.specs.declared.MultipleAnswer.{MultipleAnswer}
+use Rattle.call_group.specs.declared.MultipleAnswer.the-variants.{Done, Refused}
+use Rattle.call_group.specs.Multiples.{multipleOf, MultipleIs}
+use Rattle.call_total.specs.declared.TotalAnswer.{TotalAnswer}
+use Rattle.call_total.specs.declared.TotalAnswer.the-variants.{Done as DoneTotal, Refused as RefusedTotal}
+use Rattle.call_total.specs.Totals.{totalOf}
 use Rattle.rules.specs.Calls.{Reply, fresh}
 use Rattle.divisor.specs.declared.Divisor.{Divisor}
 use Rattle.running.specs.declared.Running.{Running}
 use Rattle.running.specs.Totals.{Fresh}
 use Rattle.scans.specs.Scans.{runningOf}
-use Rattle.flats.specs.Flats.{flat-running}
-use Rattle.structs.specs.declared.YubiMultiple.{YubiMultiple}
-use Rattle.structs.specs.Flat.{flat-multiple, FlatMultiple}
+use Rattle.scan_flat.specs.Flats.{flat-running}
+use Rattle.c_answers.specs.declared.YubiMultiple.{YubiMultiple}
+use Rattle.c_answers.specs.Flat.{flat-multiple, FlatMultiple}
 
 multiple-out : (a : MultipleAnswer) (out : List ℕ) → multipleOf a out .out ≡ out
 multiple-out (Done n d s) out = refl

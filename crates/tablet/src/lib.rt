@@ -3,28 +3,28 @@
 ghost use mathlib.Core.Path.{_≡_};
 ghost use Rattle.rules.specs.Calls.{check-curve, check-divisor, rewrite-curve, rewrite-divisor, add-call, double-call, opposite-call, multiply-call, total-call, repeat-call};
 ghost use Rattle.rules.specs.Calls.{fresh};
-ghost use Rattle.flats.specs.Flats.{flat-running, scanned-as, FlatScanIs};
-ghost use Rattle.structs.specs.Flat.{flat, flat-multiple, flat-total, flat-repeat};
-use flats::YubiRunning;
-use flats::YubiScanned;
+ghost use Rattle.scan_flat.specs.Flats.{flat-running, scanned-as, FlatScanIs};
+ghost use Rattle.c_answers.specs.Flat.{flat, flat-multiple, flat-total, flat-repeat};
+use c_answers::YubiAnswer;
+use c_answers::YubiMultiple;
+use c_answers::YubiRepeat;
+use c_answers::YubiTotal;
 use running::Running;
-use structs::YubiAnswer;
-use structs::YubiMultiple;
-use structs::YubiRepeat;
-use structs::YubiTotal;
+use scan_flat::YubiRunning;
+use scan_flat::YubiScanned;
 
 #[no_mangle]
 pub extern "C" fn yubi_check_curve(curve: &[u8]) -> YubiAnswer
     ensures { λ r. ⌜ r ≡ flat (check-curve (now (curve .entry))) ⌝ }
 {
-    structs::flatten(answers::check_curve(curve))
+    c_answers::flatten(call_one::check_curve(curve))
 }
 
 #[no_mangle]
 pub extern "C" fn yubi_check_divisor(curve: &[u8], divisor: &[u8]) -> YubiAnswer
     ensures { λ r. ⌜ r ≡ flat (check-divisor (now (curve .entry)) (now (divisor .entry))) ⌝ }
 {
-    structs::flatten(answers::check_divisor(curve, divisor))
+    c_answers::flatten(call_one::check_divisor(curve, divisor))
 }
 
 #[no_mangle]
@@ -32,7 +32,7 @@ pub extern "C" fn yubi_rewrite_curve(curve: &[u8], out: &mut [u8]) -> YubiAnswer
     ensures answer { λ r. ⌜ r ≡ flat (rewrite-curve (now (curve .entry)) (now (out .entry)) .answer) ⌝ }
     ensures output { λ r. ⌜ now (out .exit) ≡ rewrite-curve (now (curve .entry)) (now (out .entry)) .out ⌝ }
 {
-    structs::flatten(answers::rewrite_curve(curve, out))
+    c_answers::flatten(call_one::rewrite_curve(curve, out))
 }
 
 #[no_mangle]
@@ -40,7 +40,7 @@ pub extern "C" fn yubi_rewrite_divisor(curve: &[u8], divisor: &[u8], out: &mut [
     ensures answer { λ r. ⌜ r ≡ flat (rewrite-divisor (now (curve .entry)) (now (divisor .entry)) (now (out .entry)) .answer) ⌝ }
     ensures output { λ r. ⌜ now (out .exit) ≡ rewrite-divisor (now (curve .entry)) (now (divisor .entry)) (now (out .entry)) .out ⌝ }
 {
-    structs::flatten(answers::rewrite_divisor(curve, divisor, out))
+    c_answers::flatten(call_one::rewrite_divisor(curve, divisor, out))
 }
 
 #[no_mangle]
@@ -48,7 +48,7 @@ pub extern "C" fn yubi_add(curve: &[u8], a: &[u8], b: &[u8], out: &mut [u8]) -> 
     ensures answer { λ r. ⌜ r ≡ flat (add-call (now (curve .entry)) (now (a .entry)) (now (b .entry)) (now (out .entry)) .answer) ⌝ }
     ensures output { λ r. ⌜ now (out .exit) ≡ add-call (now (curve .entry)) (now (a .entry)) (now (b .entry)) (now (out .entry)) .out ⌝ }
 {
-    structs::flatten(sums::add(curve, a, b, out))
+    c_answers::flatten(call_group::add(curve, a, b, out))
 }
 
 #[no_mangle]
@@ -56,7 +56,7 @@ pub extern "C" fn yubi_double(curve: &[u8], a: &[u8], out: &mut [u8]) -> YubiAns
     ensures answer { λ r. ⌜ r ≡ flat (double-call (now (curve .entry)) (now (a .entry)) (now (out .entry)) .answer) ⌝ }
     ensures output { λ r. ⌜ now (out .exit) ≡ double-call (now (curve .entry)) (now (a .entry)) (now (out .entry)) .out ⌝ }
 {
-    structs::flatten(sums::double(curve, a, out))
+    c_answers::flatten(call_group::double(curve, a, out))
 }
 
 #[no_mangle]
@@ -64,7 +64,7 @@ pub extern "C" fn yubi_opposite(curve: &[u8], a: &[u8], out: &mut [u8]) -> YubiA
     ensures answer { λ r. ⌜ r ≡ flat (opposite-call (now (curve .entry)) (now (a .entry)) (now (out .entry)) .answer) ⌝ }
     ensures output { λ r. ⌜ now (out .exit) ≡ opposite-call (now (curve .entry)) (now (a .entry)) (now (out .entry)) .out ⌝ }
 {
-    structs::flatten(sums::opposite(curve, a, out))
+    c_answers::flatten(call_group::opposite(curve, a, out))
 }
 
 #[no_mangle]
@@ -77,7 +77,7 @@ pub extern "C" fn yubi_multiply(
     ensures answer { λ r. ⌜ r ≡ flat-multiple (multiply-call (now (curve .entry)) (now (a .entry)) (now (scalar .entry)) (now (out .entry))) ⌝ }
     ensures output { λ r. ⌜ now (out .exit) ≡ multiply-call (now (curve .entry)) (now (a .entry)) (now (scalar .entry)) (now (out .entry)) .out ⌝ }
 {
-    structs::flatten_multiple(sums::multiply(curve, a, scalar, out))
+    c_answers::flatten_multiple(call_group::multiply(curve, a, scalar, out))
 }
 
 // The same words, kept by the second engine.
@@ -91,7 +91,7 @@ pub extern "C" fn yubi_multiply_inversion_free(
     ensures answer { λ r. ⌜ r ≡ flat-multiple (multiply-call (now (curve .entry)) (now (a .entry)) (now (scalar .entry)) (now (out .entry))) ⌝ }
     ensures output { λ r. ⌜ now (out .exit) ≡ multiply-call (now (curve .entry)) (now (a .entry)) (now (scalar .entry)) (now (out .entry)) .out ⌝ }
 {
-    structs::flatten_multiple(sums::multiply_inversion_free(curve, a, scalar, out))
+    c_answers::flatten_multiple(call_group::multiply_inversion_free(curve, a, scalar, out))
 }
 
 #[no_mangle]
@@ -99,28 +99,28 @@ pub extern "C" fn yubi_total_batch(curve: &[u8], batch: &[u8], out: &mut [u8]) -
     ensures answer { λ r. ⌜ r ≡ flat-total (total-call (now (curve .entry)) (now (batch .entry)) (now (out .entry))) ⌝ }
     ensures output { λ r. ⌜ now (out .exit) ≡ total-call (now (curve .entry)) (now (batch .entry)) (now (out .entry)) .out ⌝ }
 {
-    structs::flatten_total(totals::total_batch(curve, batch, out))
+    c_answers::flatten_total(call_total::total_batch(curve, batch, out))
 }
 
 #[no_mangle]
 pub extern "C" fn yubi_first_repeat(curve: &[u8], batch: &[u8]) -> YubiRepeat
     ensures { λ r. ⌜ r ≡ flat-repeat (repeat-call (now (curve .entry)) (now (batch .entry))) ⌝ }
 {
-    structs::flatten_repeat(repeats::first_repeat(curve, batch))
+    c_answers::flatten_repeat(call_repeat::first_repeat(curve, batch))
 }
 
 #[no_mangle]
 pub extern "C" fn yubi_fresh_total() -> YubiRunning
     ensures { λ r. ⌜ r ≡ flat-running fresh ⌝ }
 {
-    flats::flatten_running(Running::fresh())
+    scan_flat::flatten_running(Running::fresh())
 }
 
 #[no_mangle]
 pub extern "C" fn yubi_scan(total: YubiRunning, curve: &[u8], record: &[u8]) -> YubiScanned
     ensures { λ r. ⌜ FlatScanIs total (now (curve .entry)) (now («record» .entry)) r ⌝ }
 {
-    flats::scan(total, curve, record)
+    scan_flat::scan(total, curve, record)
 }
 
 // What a scan left of the total, beside its answer.
@@ -133,7 +133,7 @@ struct LentStep {
 fn lent_by_value(total: YubiRunning, curve: &[u8], record: &[u8]) -> LentStep
     ensures { λ r. ⌜ FlatScanIs total (now (curve .entry)) (now («record» .entry)) (scanned-as (r .answer .number) (r .answer .place) (r .answer .length) (r .total)) ⌝ }
 {
-    let s = flats::scan(total, curve, record);
+    let s = scan_flat::scan(total, curve, record);
     let after = s.total;
     LentStep {
         total: after,

@@ -18,15 +18,15 @@ use Rattle.divisor.specs.declared.Divisor.{Divisor}
 use Rattle.divisor.specs.Divisors.{pair}
 use Rattle.divisor.proofs.Laws.{weight-le}
 use Rattle.curve.specs.Curves.{Holds as OnCurve}
-use Rattle.curve_read.specs.declared.CurveRead.{CurveRead}
+use Rattle.record_curve.specs.declared.CurveRead.{CurveRead}
 use Rattle.curve.specs.Record.{recordOf}
-use Rattle.curve_read.specs.Read.{CurveIs}
+use Rattle.record_curve.specs.Read.{CurveIs}
 use Rattle.divisor.proofs.Laws.{weight-is, weight-is-v}
-use Rattle.totals.specs.declared.TotalRead.{TotalRead}
-use Rattle.totals.specs.declared.TotalRead.the-variants.{Done, Refused}
-use Rattle.repeats.specs.declared.RepeatAnswer.{RepeatAnswer}
-use Rattle.totals.specs.Totals.{TotalIs}
-use Rattle.repeats.specs.Repeats.{repeatOf}
+use Rattle.call_total.specs.declared.TotalRead.{TotalRead}
+use Rattle.call_total.specs.declared.TotalRead.the-variants.{Done, Refused}
+use Rattle.call_repeat.specs.declared.RepeatAnswer.{RepeatAnswer}
+use Rattle.call_total.specs.Totals.{TotalIs}
+use Rattle.call_repeat.specs.Repeats.{repeatOf}
 use Rattle.texts.specs.declared.FileRead.{FileRead}
 use Rattle.texts.specs.declared.FileRead.the-variants.{Holds, Unreadable}
 use Rattle.lines.specs.declared.Places.{Places}

@@ -1,13 +1,13 @@
 // What the program prints, made on slices: each function's promise fixes every byte. Nothing here opens, reads or writes a file.
 ghost use mathlib.Core.Path.{_≡_};
 ghost use lib.ListN.{take};
-ghost use Rattle.repeats.specs.Repeats.{repeatOf};
+ghost use Rattle.call_repeat.specs.Repeats.{repeatOf};
 ghost use Rattle.lines.specs.Printed.{Printed, placesOf};
 ghost use Rattle.texts.specs.Text.{text, with-file, text-of};
 ghost use Rattle.texts.specs.Read.{fileOf};
+use call_repeat::RepeatAnswer;
+use call_total::TotalRead;
 use lines::Places;
-use repeats::RepeatAnswer;
-use totals::TotalRead;
 
 // What was read of a file: how many bytes, or that it can't be opened or read.
 pub enum FileRead {
@@ -49,15 +49,15 @@ fn front(s: &[u8], n: usize) -> &[u8]
 pub fn tally(curve: &[u8], batch: &[u8], out: &mut [u8; 256]) -> usize
     ensures { λ r. ⌜ Printed (now (out .entry)) (text-of (now (curve .entry)) (now (batch .entry))) (now (out .exit)) r ⌝ }
 {
-    let read = curve_read::read_curve(curve);
+    let read = record_curve::read_curve(curve);
     let c = read.curve;
     let number = read.number;
     if number != 0 {
         return lines::refusal(number, 0, out);
     }
-    match totals::total_of(c, batch) {
+    match call_total::total_of(c, batch) {
         TotalRead::Done(t, n) => {
-            let r = places_of(repeats::first_repeat(curve, batch));
+            let r = places_of(call_repeat::first_repeat(curve, batch));
             let a = lines::put_count(out, 0, n);
             let b = lines::put_repeat(out, a, r);
             lines::put_total(out, b, t, c.m)

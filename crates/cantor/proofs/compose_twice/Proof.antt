@@ -5,14 +5,14 @@ use Rattle.cantor.proofs.compose_twice.Tie as tie
 add-requires : tie.Need-add-requires
 add-requires c κs = search needs
 
-common-twice-requires : tie.Need-common-twice-requires
-common-twice-requires c κs = search needs
+gcd3-twice-requires : tie.Need-gcd3-twice-requires
+gcd3-twice-requires c κs = search needs
 
-join-requires : tie.Need-join-requires
-join-requires c κs = let s = c .before .before .before in record { to = s .pre; w = c .before .add .result; w-is = c .before .add .ensures .is; common = c .common-twice .ensures }
+compose-by-requires : tie.Need-compose-by-requires
+compose-by-requires c κs = let s = c .before .before .before in record { to = s .pre; w = c .before .add .result; w-is = c .before .add .ensures .is; common = c .gcd3-twice .ensures }
 
 returns : tie.Need-returns
 returns c = search needs
 
 pub compose-twice-spec : {M : Type 1} → statement M
-compose-twice-spec = tie.close (tie.spec add-requires common-twice-requires join-requires returns)
+compose-twice-spec = tie.close (tie.spec add-requires gcd3-twice-requires compose-by-requires returns)

@@ -24,8 +24,8 @@ loop-holds c = (extended-begin (c .before .before .args .m) (c .before .before .
 divide-requires : tie.Need-divide-requires Inv-loop μ-loop
 divide-requires c κs = to-divide-by (c .before .before .before .before .before .args .m) (c .before .before .loop .inv .0 .half .core) (omega (arith, c .before .loop-test .taken, c .before .before .loop .inv .1))
 
-less-requires : tie.Need-less-requires Inv-loop μ-loop
-less-requires c κs = turn-fits (c .before .before .before .before .before .before .before .before .args .m) (c .before .before .before .before .before .before .before .before .pre .0) (c .before .before .before .before .before .before .before .before .pre .1) (c .before .before .before .before .before .loop .inv .0) (omega (arith, c .before .before .before .before .loop-test .taken, c .before .before .before .before .before .loop .inv .1)) (c .before .before .divide .ensures)
+minus-multiple-requires : tie.Need-minus-multiple-requires Inv-loop μ-loop
+minus-multiple-requires c κs = turn-fits (c .before .before .before .before .before .before .before .before .args .m) (c .before .before .before .before .before .before .before .before .pre .0) (c .before .before .before .before .before .before .before .before .pre .1) (c .before .before .before .before .before .loop .inv .0) (omega (arith, c .before .before .before .before .loop-test .taken, c .before .before .before .before .before .loop .inv .1)) (c .before .before .divide .ensures)
 
 loop-less : tie.Need-loop-less Inv-loop μ-loop
 loop-less c = omega (arith, c .before .before .before .before .before .before .loop .inv .1, c .before .before .before .divide .ensures .rest)
@@ -33,7 +33,7 @@ loop-less c = omega (arith, c .before .before .before .before .before .before .l
 loop-again : tie.Need-loop-again Inv-loop μ-loop
 loop-again c =
     let s = c .before .before .before .before .before .before .before .before .before in
-    (turn-is (s .args .m) (s .pre .0) (s .pre .1) (c .before .before .before .before .before .before .loop .inv .0) (omega (arith, c .before .before .before .before .before .loop-test .taken, c .before .before .before .before .before .before .loop .inv .1)) (c .before .before .before .divide .ensures) (c .less .ensures), ap (λ (e : Poly). e .n) (sym (c .less .ensures .r-is)))
+    (turn-is (s .args .m) (s .pre .0) (s .pre .1) (c .before .before .before .before .before .before .loop .inv .0) (omega (arith, c .before .before .before .before .before .loop-test .taken, c .before .before .before .before .before .before .loop .inv .1)) (c .before .before .before .divide .ensures) (c .minus-multiple .ensures), ap (λ (e : Poly). e .n) (sym (c .minus-multiple .ensures .r-is)))
 
 monic-requires : tie.Need-monic-requires Inv-loop μ-loop
 monic-requires c κs = first-ok (c .before .before .before .before .before .args .m) (c .before .before .loop .inv .0)
@@ -57,7 +57,7 @@ xgcd-spec =
     zero-requires
     loop-holds
     divide-requires
-    less-requires
+    minus-multiple-requires
     loop-less
     loop-again
     monic-requires

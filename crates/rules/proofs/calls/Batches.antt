@@ -13,7 +13,7 @@ use lib.ListN.{getD, length, drop, length-append, drop-of-length-le}
 use borrow.Author.Tests.{leb-true, leb-false}
 use Rattle.rules.specs.Pair.{Valid}
 use Rattle.rules.specs.Records.{Checked, refused, taken, choose, CurveRecord, curve, PairOf, divisor-at, read-divisor}
-use Rattle.rules.specs.Lists.{Batch, batch-from, batch, most}
+use Rattle.rules.specs.Lists.{Batch, batch-from, batch, most-records}
 use Rattle.rules.proofs.cantor.Totals.{AllValid}
 use Rattle.rules.proofs.calls.Tests.{refused-taken, taken?, is-taken}
 use Rattle.rules.proofs.calls.Steps.{at-end, too-many, goes-on}
@@ -125,15 +125,15 @@ module _ (c : CurveRecord) where
     -- at most 4,096 good records
     pub batch-records : (rs : List (List ℕ)) (from : A) → AllRecords rs → length rs ≤ 4096
         → batch c step (flatten rs) from ≡ taken (record { result = foldl step from (map pair-of rs); count = length rs })
-    batch-records rs from h l = batch-go (flatten rs) rs [] [] most (most - length rs) 0 0 from h (sym (append-nil (flatten rs))) refl (omega arith)
-        ∙ at-end c step (flatten rs) (0 + length (flatten rs)) (0 + length rs) (foldl step from (map pair-of rs)) (most - length rs) (omega arith) ∙ ap counted (omega arith)
+    batch-records rs from h l = batch-go (flatten rs) rs [] [] most-records (most-records - length rs) 0 0 from h (sym (append-nil (flatten rs))) refl (omega arith)
+        ∙ at-end c step (flatten rs) (0 + length (flatten rs)) (0 + length rs) (foldl step from (map pair-of rs)) (most-records - length rs) (omega arith) ∙ ap counted (omega arith)
       where
         counted : ℕ → Checked (Batch A)
         counted n = taken (record { result = foldl step from (map pair-of rs); count = n })
 
     -- and bytes behind 4,096 of them
     pub batch-over : (rs : List (List ℕ)) (rest : List ℕ) (from : A) → AllRecords rs → length rs ≡ 4096 → 0 < length rest → batch c step (flatten rs ++ rest) from ≡ refused 14 0
-    batch-over rs rest from h e l = batch-go (flatten rs ++ rest) rs [] rest most 0 0 0 from h refl refl (omega arith)
+    batch-over rs rest from h e l = batch-go (flatten rs ++ rest) rs [] rest most-records 0 0 0 from h refl refl (omega arith)
         ∙ too-many c step (flatten rs ++ rest) (0 + length (flatten rs)) (0 + length rs) (foldl step from (map pair-of rs)) (omega (arith, length-append (flatten rs) rest))
 
     -- ---- whatever batch is taken is made of at most 4,096 good records
@@ -160,7 +160,7 @@ module _ (c : CurveRecord) where
 
       pub batch-made : (from : A) {b : Batch A} → batch c step s from ≡ taken b → MadeOf s
       unfolding Parts
-      batch-made from e = let r = parts (reading s most 0 0 from) e in record { records = r .0; good = r .1; few = r .2; bytes = r .3 }
+      batch-made from e = let r = parts (reading s most-records 0 0 from) e in record { records = r .0; good = r .1; few = r .2; bytes = r .3 }
 
       pub batch-is : (from : A) (m : MadeOf s) → batch c step s from ≡ taken (record { result = foldl step from (map pair-of (m .records)); count = length (m .records) })
       batch-is from m = ap (λ (z : List ℕ). batch c step z from) (sym (m .bytes)) ∙ batch-records (m .records) from (m .good) (m .few)

@@ -10,7 +10,7 @@ use native.Mathlib.Omega.{arith}
 use lib.ListN.{getD, length, drop, length-append}
 use Rattle.rules.specs.Records.{CurveRecord, PairOf, read-curve, divisor-at}
 use Rattle.rules.specs.Checks.{Checked, refused, taken, go-on}
-use Rattle.rules.specs.Lists.{Batch, batch, most}
+use Rattle.rules.specs.Lists.{Batch, batch, most-records}
 use Rattle.rules.specs.Calls.{Running, resume}
 use Rattle.rules.proofs.calls.Tests.{refused-taken}
 use Rattle.rules.proofs.calls.DivisorRecords.{divisor-read, divisor-taken, record-out, alone-out, split-out, length-out}
@@ -124,9 +124,9 @@ module _ (c : CurveRecord) where
 
     -- a batch refuses with its first record that is at fault, or with 14
     pub batch-refused : (from : A) {n j : ℕ} → batch c step s from ≡ refused n j → Faulty s n j ⊎ Over n j
-    batch-refused from {n} {j} e = go (behind (reading c step s most 0 0 from) e)
+    batch-refused from {n} {j} e = go (behind (reading c step s most-records 0 0 from) e)
       where
-        go : Behind most 0 0 n j ⊎ Over n j → Faulty s n j ⊎ Over n j
+        go : Behind most-records 0 0 n j ⊎ Over n j → Faulty s n j ⊎ Over n j
         go (inl b) = inl (record {
           before = b .before;
           good = b .good;

@@ -14,7 +14,7 @@ use Rattle.rules.specs.Sum.{sum}
 use Rattle.rules.specs.Multiple.{total}
 use Rattle.rules.specs.Tests.{on-curve?}
 use Rattle.rules.specs.Records.{taken, go-on, both, below?, numbers, CurveRecord, curve, PairOf, made-of, read-curve, read-divisor, divisor-bytes}
-use Rattle.rules.specs.Lists.{most}
+use Rattle.rules.specs.Lists.{most-records}
 use Rattle.rules.specs.Calls.{done, Result, Reply, put, deliver, total-call, Running, fresh, resume-checks, resume, scanned, scan-on, scan-call}
 use Rattle.rules.proofs.cantor.OnCurve.{on-curve-decides}
 use Rattle.rules.proofs.cantor.Pairs.{neutral-valid}
@@ -79,7 +79,7 @@ module _ (c : CurveRecord) where
   pub resume-taken : (t : Running) → Resumes t → resume c t ≡ taken (made-of c (t .u) (t .v))
   unfolding resume
   resume-taken t h = passed-all (made-of c (t .u) (t .v)) (resume-checks c t)
-      (le-leb (length (t .u)) (c .g) (h .small), (eq-eqb (length (t .v)) (length (t .u)) (h .same), (h .below, (h .on, (le-leb (t .count) most (omega (arith, h .room)), (lt-ltb (t .count) most (h .room), tt))))))
+      (le-leb (length (t .u)) (c .g) (h .small), (eq-eqb (length (t .v)) (length (t .u)) (h .same), (h .below, (h .on, (le-leb (t .count) most-records (omega (arith, h .room)), (lt-ltb (t .count) most-records (h .room), tt))))))
 
   pub resume-is : Accepts c → (d : PairOf c) → Valid (curve c) d → (n : ℕ) → n < 4096 → resume c (running-of c d n) ≡ taken d
   resume-is ok d v n l = resume-taken (running-of c d n) (record {

@@ -9,7 +9,7 @@ use lib.ListN.{length}
 use Rattle.algebra.proofs.ideal.Class.{Same, same-of, same-trans}
 use Rattle.rules.specs.Curve.{Curve}
 use Rattle.rules.specs.Pair.{Pair}
-use Rattle.rules.specs.Sum.{step, while, reduction}
+use Rattle.rules.specs.Sum.{step, reduce-at-most, reduction}
 use Rattle.rules.proofs.cantor.Accepted.{OverField}
 use Rattle.rules.proofs.cantor.Pairs.{On}
 use Rattle.rules.proofs.cantor.Step.{Kxy, ideal-of, step-on, step-class, step-small}
@@ -31,21 +31,21 @@ module _ (E : Curve) (o : OverField E) (odd : length (E .low) ≡ suc (E .g + E 
   done : (t : ℕ) (a : Pair (E .K)) → On E a → length (a .u) ≤ E .g → Reduced t a a
   done t a h l = record { turns = 0; loop = stop l; at-most = zero-le; on-curve = h; short = l; same = same-of (Kxy E) (λ x i. i) (λ x i. i) }
 
-  while-is : (n t : ℕ) (a : Pair (E .K)) → On E a → length (a .u) ≤ E .g + (n + n) → length (a .u) ≤ E .g + (t + t) → Reduced t a (while E n a)
-  unfolding while
-  while-is zero t a h ln lt = done t a h (omega arith)
-  while-is (suc n) zero a h ln lt = go (decLe (length (a .u)) (E .g))
+  reduce-at-most-is : (n t : ℕ) (a : Pair (E .K)) → On E a → length (a .u) ≤ E .g + (n + n) → length (a .u) ≤ E .g + (t + t) → Reduced t a (reduce-at-most E n a)
+  unfolding reduce-at-most
+  reduce-at-most-is zero t a h ln lt = done t a h (omega arith)
+  reduce-at-most-is (suc n) zero a h ln lt = go (decLe (length (a .u)) (E .g))
     where
-      go : (d : Dec (length (a .u) ≤ E .g)) → Reduced zero a (elim d [ yes l ↦ a | no l ↦ while E n (step E a) ])
+      go : (d : Dec (length (a .u) ≤ E .g)) → Reduced zero a (elim d [ yes l ↦ a | no l ↦ reduce-at-most E n (step E a) ])
       go (yes s) = done zero a h s
       go (no s) = absurd (omega arith)
-  while-is (suc n) (suc t) a h ln lt = go (decLe (length (a .u)) (E .g))
-      (λ big. while-is n t (step E a) (step-on E o odd a h) (step-small E o odd a h n big ln) (step-small E o odd a h t big lt))
+  reduce-at-most-is (suc n) (suc t) a h ln lt = go (decLe (length (a .u)) (E .g))
+      (λ big. reduce-at-most-is n t (step E a) (step-on E o odd a h) (step-small E o odd a h n big ln) (step-small E o odd a h t big lt))
     where
-      go : (d : Dec (length (a .u) ≤ E .g)) → (E .g < length (a .u) → Reduced t (step E a) (while E n (step E a)))
-          → Reduced (suc t) a (elim d [ yes l ↦ a | no l ↦ while E n (step E a) ])
+      go : (d : Dec (length (a .u) ≤ E .g)) → (E .g < length (a .u) → Reduced t (step E a) (reduce-at-most E n (step E a)))
+          → Reduced (suc t) a (elim d [ yes l ↦ a | no l ↦ reduce-at-most E n (step E a) ])
       go (yes s) rec = done (suc t) a h s
-      go (no s) rec = let big : E .g < length (a .u) = omega arith in let r : Reduced t (step E a) (while E n (step E a)) = rec big in
+      go (no s) rec = let big : E .g < length (a .u) = omega arith in let r : Reduced t (step E a) (reduce-at-most E n (step E a)) = rec big in
           record {
             turns = suc (r .turns);
             loop = turn big (r .loop);
@@ -57,7 +57,7 @@ module _ (E : Curve) (o : OverField E) (odd : length (E .low) ≡ suc (E .g + E 
 
   pub reduction-is : (t : ℕ) (a : Pair (E .K)) → On E a → length (a .u) ≤ E .g + (t + t) → Reduced t a (reduction E a)
   unfolding reduction
-  reduction-is t a h l = while-is (length (a .u)) t a h (omega arith) l
+  reduction-is t a h l = reduce-at-most-is (length (a .u)) t a h (omega arith) l
 
   -- from degree at most 2g
   pub few : (a : Pair (E .K)) → On E a → length (a .u) ≤ E .g + E .g → Reduced ((E .g + 1) / 2) a (reduction E a)

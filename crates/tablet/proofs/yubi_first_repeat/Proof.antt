@@ -1,5 +1,5 @@
 use mathlib.Core.Path.{ap, _∙_}
-use Rattle.structs.specs.Flat.{flat-repeat}
+use Rattle.c_answers.specs.Flat.{flat-repeat}
 use borrow.Author.Needs.{needs}
 use Rattle.tablet.proofs.yubi_first_repeat.Statement.{statement}
 use Rattle.tablet.proofs.yubi_first_repeat.Tie as tie

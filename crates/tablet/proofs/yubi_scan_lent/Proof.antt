@@ -39,16 +39,16 @@ use denote.Triple.Spec.{Meets, tripleOf}
 use denote.Triple.Table.{entered, cited}
 use denote.Triple.Walked.{says, Stays, stay-ref, stay-none-slice, walkOf, AllGo, goes-none-slice, goes-ref, Walks, ends-at, walked, walk-meets}
 use denote.Exit.{yes}
-use Rattle.flats.specs.Flats.{scanned-as, FlatScanIs}
-use Rattle.flats.specs.declared.YubiRunning.{YubiRunning}
+use Rattle.scan_flat.specs.Flats.{scanned-as, FlatScanIs}
+use Rattle.scan_flat.specs.declared.YubiRunning.{YubiRunning}
 use Rattle.tablet.specs.declared.LentStep.{LentStep}
-use Rattle.structs.specs.declared.YubiAnswer.{YubiAnswer}
-use Rattle.flats.proofs.YubiRunning as T
-use Rattle.flats.proofs.YubiRunning.Laws as T′
+use Rattle.c_answers.specs.declared.YubiAnswer.{YubiAnswer}
+use Rattle.scan_flat.proofs.YubiRunning as T
+use Rattle.scan_flat.proofs.YubiRunning.Laws as T′
 use Rattle.tablet.proofs.LentStep as S
 use Rattle.tablet.proofs.LentStep.Laws as S′
-use Rattle.structs.proofs.YubiAnswer as R
-use Rattle.structs.proofs.YubiAnswer.Laws as R′
+use Rattle.c_answers.proofs.YubiAnswer as R
+use Rattle.c_answers.proofs.YubiAnswer.Laws as R′
 use Rattle.tablet.proofs.lent_by_value as value
 use Rattle.tablet.proofs.lent_by_value.Symbol as value-def
 use Rattle.tablet.proofs.lent_by_value.Symbol.{name as #tablet·lent-by-value}

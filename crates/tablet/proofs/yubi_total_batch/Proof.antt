@@ -2,7 +2,7 @@ use Prim.Native.Nat.{ℕ}
 use mathlib.Core.Path.{ap, sym, _∙_}
 use Rattle.tablet.proofs.Outputs.{total-out}
 use Rattle.rules.specs.Calls.{Reply}
-use Rattle.structs.specs.Flat.{flat-total}
+use Rattle.c_answers.specs.Flat.{flat-total}
 use borrow.Author.Needs.{needs}
 use Rattle.tablet.proofs.yubi_total_batch.Statement.{statement}
 use Rattle.tablet.proofs.yubi_total_batch.Tie as tie

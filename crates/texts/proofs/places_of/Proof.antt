@@ -1,6 +1,6 @@
 use mathlib.Core.Path.{sym, ap}
-use Rattle.repeats.specs.declared.RepeatAnswer.{RepeatAnswer}
-use Rattle.repeats.specs.Repeats.{repeatOf}
+use Rattle.call_repeat.specs.declared.RepeatAnswer.{RepeatAnswer}
+use Rattle.call_repeat.specs.Repeats.{repeatOf}
 use borrow.Author.Needs.{needs}
 use Rattle.texts.proofs.places_of.Statement.{statement}
 use Rattle.texts.proofs.places_of.Tie as tie

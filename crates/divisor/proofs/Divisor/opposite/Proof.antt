@@ -24,14 +24,14 @@ row-requires c κs = search needs
 loop-holds : tie.Need-loop-holds Inv-loop μ-loop
 loop-holds c = turn-begin _ _ _
 
-mul-opposed : tie.Need-mul-opposed Inv-loop μ-loop
-mul-opposed c = omega (arith, weight-le (c .before .before .before .before .args .self))
+mul-negate-settled : tie.Need-mul-negate-settled Inv-loop μ-loop
+mul-negate-settled c = omega (arith, weight-le (c .before .before .before .before .args .self))
 
-array-copy-out-opposed : tie.Need-array-copy-out-opposed Inv-loop μ-loop
-array-copy-out-opposed c = omega (arith, weight-le (c .before .before .before .before .args .self))
+array-copy-out-negate-settled : tie.Need-array-copy-out-negate-settled Inv-loop μ-loop
+array-copy-out-negate-settled c = omega (arith, weight-le (c .before .before .before .before .args .self))
 
-opposed-requires : tie.Need-opposed-requires Inv-loop μ-loop
-opposed-requires c κs = let s = c .before .before .before .before .before in turn-settled (s .args .m) (s .args .self) _ _ (s .pre) (c .before .before .before .row .ensures) (c .before .before .before .before .weight .ensures) _ _ (c .before .before .loop .inv) (c .before .loop-test .taken)
+negate-settled-requires : tie.Need-negate-settled-requires Inv-loop μ-loop
+negate-settled-requires c κs = let s = c .before .before .before .before .before in turn-settled (s .args .m) (s .args .self) _ _ (s .pre) (c .before .before .before .row .ensures) (c .before .before .before .before .weight .ensures) _ _ (c .before .before .loop .inv) (c .before .loop-test .taken)
 
 mul-r : tie.Need-mul-r Inv-loop μ-loop
 mul-r c = omega (arith, weight-le (c .before .before .before .before .before .before .args .self))
@@ -46,7 +46,7 @@ loop-less : tie.Need-loop-less Inv-loop μ-loop
 loop-less c = omega arith
 
 loop-again : tie.Need-loop-again Inv-loop μ-loop
-loop-again c = let s = c .before .before .before .before .before .before in turn-on (s .args .m) (s .args .self) _ _ (s .pre) (c .before .before .before .before .row .ensures) (c .before .before .before .before .before .weight .ensures) _ _ (c .before .before .before .loop .inv) _ (c .before .before .loop-test .taken) (c .opposed .ensures)
+loop-again c = let s = c .before .before .before .before .before .before in turn-on (s .args .m) (s .args .self) _ _ (s .pre) (c .before .before .before .before .row .ensures) (c .before .before .before .before .before .weight .ensures) _ _ (c .before .before .before .loop .inv) _ (c .before .before .loop-test .taken) (c .negate-settled .ensures)
 
 of-row-requires : tie.Need-of-row-requires Inv-loop μ-loop
 of-row-requires c κs = omega (arith, weight-le (c .before .before .before .before .args .self))
@@ -64,9 +64,9 @@ opposite-spec =
     mul-n
     row-requires
     loop-holds
-    mul-opposed
-    array-copy-out-opposed
-    opposed-requires
+    mul-negate-settled
+    array-copy-out-negate-settled
+    negate-settled-requires
     mul-r
     array-set-from-r
     add-k

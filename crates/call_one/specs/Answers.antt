@@ -1,0 +1,48 @@
+-- Document 01, "Language form": where an answer is an enum, the promises use a definition that gives the paper's number and values for each of
+-- its cases.
+use Prim.Native.Nat.{ℕ, _≤_, _<_}
+use mathlib.Core.Path.{_≡_}
+use mathlib.Core.List.{List}
+use lib.ListN.{length}
+use lib.Seq.{sets}
+use Rattle.rules.specs.Checks.{Checked, refused, taken, go-on}
+use Rattle.rules.specs.Records.{CurveRecord, PairOf, read-curve, read-divisor}
+use Rattle.rules.specs.Calls.{Answer as RuleAnswer, refusal, done}
+use Rattle.rules.proofs.calls.Written.{Written}
+use Rattle.divisor.specs.Divisors.{pair}
+use Rattle.curve.specs.Curves.{Sound, Holds}
+use Rattle.curve.specs.Record.{recordOf}
+use Rattle.call_one.specs.declared.Answer.{Answer}
+use Rattle.call_one.specs.declared.Answer.the-variants.{Done, Refused}
+use Rattle.call_one.specs.declared.CurveAndDivisor.{CurveAndDivisor}
+
+-- number, place and length of an answer
+abbrev pub answerOf : Answer → RuleAnswer
+answerOf (Done n) = done n
+answerOf (Refused n k) = refusal n k
+
+-- bytes put at the front of an output where they fit; n is how many
+pub record PutIs (out bytes o : List ℕ) (n : ℕ) : Type 0 where
+  pub short : n ≡ 0 → length out < length bytes
+  pub kept : n ≡ 0 → o ≡ out
+  pub fits : (n ≡ 0 → ⊥) → length bytes ≤ length out
+  pub all : (n ≡ 0 → ⊥) → n ≡ length bytes
+  pub put : (n ≡ 0 → ⊥) → o ≡ sets out 0 bytes
+
+-- the answer and the output as the call returns are the rule's
+pub record Wrote (r : Answer) (out : List ℕ) (rule : Written) : Type 0 where
+  pub answer : answerOf r ≡ rule .answer
+  pub bytes : out ≡ rule .out
+
+-- ---- a curve and the first divisor on it
+abbrev pub FirstRead : Type 0
+FirstRead = (c : CurveRecord) × PairOf c
+
+abbrev pub one-rule : List ℕ → List ℕ → Checked FirstRead
+one-rule s a = go-on (read-curve s) (λ c. go-on (read-divisor c 1 a) (λ x. taken (c, x)))
+
+pub record OneIs (s a : List ℕ) (r : CurveAndDivisor) : Type 0 where
+  pub sound : r .number ≡ 0 → Sound (r .curve)
+  pub holds : r .number ≡ 0 → Holds (r .curve) (r .divisor)
+  pub takes : r .number ≡ 0 → one-rule s a ≡ taken (recordOf (r .curve), pair (r .curve .m) (r .divisor))
+  pub refuses : (r .number ≡ 0 → ⊥) → one-rule s a ≡ refused (r .number) (r .place)

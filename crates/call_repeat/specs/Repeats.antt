@@ -1,0 +1,30 @@
+-- The first repeat of a batch on a curve in code, and the paper's values for each case of the call's answer.
+use Prim.Native.Nat.{ℕ}
+use mathlib.Core.List.{List, [], _∷_, _++_}
+use Rattle.rules.specs.Checks.{Checked, taken, go-on}
+use Rattle.rules.specs.Records.{PairOf}
+use Rattle.rules.specs.Lists.{Batch, batch, Repeat, first-repeat}
+use Rattle.rules.specs.Calls.{Result, Reply, done, stop, deliver}
+use Rattle.curve.specs.declared.Curve.{Curve}
+use Rattle.curve.specs.Record.{recordOf}
+use Rattle.call_repeat.specs.declared.RepeatAnswer.{RepeatAnswer}
+use Rattle.call_repeat.specs.declared.RepeatAnswer.the-variants.{Pair, Nothing, Refused}
+
+-- the divisors of a batch in a list
+abbrev pub list-rule : (c : Curve) → List ℕ → Checked (Batch (List (PairOf (recordOf c))))
+list-rule c s = batch (recordOf c) (λ l d. l ++ (d ∷ [])) s []
+
+-- the first repeat of that list
+abbrev pub no-repeat : Repeat
+no-repeat = record { first = 0; second = 0 }
+
+abbrev pub repeat-of : (c : Curve) → Checked (Batch (List (PairOf (recordOf c)))) → Checked (Result Repeat)
+repeat-of c x = go-on x (λ b. taken (record { bytes = []; own = first-repeat (c .m .p) (b .result) }))
+
+abbrev pub repeat-rule : (c : Curve) → List ℕ → Reply Repeat
+repeat-rule c s = deliver no-repeat [] (repeat-of c (list-rule c s))
+
+abbrev pub repeatOf : RepeatAnswer → Reply Repeat
+repeatOf (Pair i j) = record { answer = done 0; out = []; own = record { first = i; second = j } }
+repeatOf Nothing = record { answer = done 0; out = []; own = no-repeat }
+repeatOf (Refused n k) = stop no-repeat [] n k

@@ -1,0 +1,61 @@
+-- The flat total: the divisor cut from it (`…-cut`), the total flattened (`flat-…`), and when two are the same.
+use Prim.Native.Nat.{ℕ, zero, suc}
+use mathlib.Core.Path.{_≡_, refl, sym, ap, _∙_}
+use mathlib.Core.List.{[], _∷_}
+use lib.ListN.{take}
+use Rattle.field.specs.Residues.{raw}
+use Rattle.divisor.specs.declared.Divisor.{Divisor}
+use Rattle.divisor.specs.declared.Divisor.the-variants.{Neutral, One, Two, Three}
+use Rattle.divisor.specs.declared.Linear.{Linear}
+use Rattle.divisor.specs.declared.Quadratic.{Quadratic}
+use Rattle.divisor.specs.declared.Cubic.{Cubic}
+use Rattle.running.specs.declared.Running.{Running}
+use Rattle.scans.specs.Scans.{runningOf}
+use Rattle.scan_flat.specs.declared.YubiRunning.{YubiRunning}
+use Rattle.scan_flat.specs.Flats.{flat-running, Cut}
+
+-- a weight that isn't 0, 1 or 2 leaves all three
+all-three : (w : ℕ) (a b c : ℕ) → (w ≡ 0 → ⊥) → (w ≡ 1 → ⊥) → (w ≡ 2 → ⊥) → a ∷ b ∷ c ∷ [] ≡ take w (a ∷ b ∷ c ∷ [])
+all-three zero a b c z o t = absurd (z refl)
+all-three (suc zero) a b c z o t = absurd (o refl)
+all-three (suc (suc zero)) a b c z o t = absurd (t refl)
+all-three (suc (suc (suc zero))) a b c z o t = refl
+all-three (suc (suc (suc (suc w)))) a b c z o t = refl
+
+module _ (t : YubiRunning) where
+  cut-u : (w : ℕ) → t .weight ≡ w → take w (t .u0 ∷ t .u1 ∷ t .u2 ∷ []) ≡ take (t .weight) (t .u0 ∷ t .u1 ∷ t .u2 ∷ [])
+  cut-u w e = sym (ap (λ k. take k (t .u0 ∷ t .u1 ∷ t .u2 ∷ [])) e)
+
+  cut-v : (w : ℕ) → t .weight ≡ w → take w (t .v0 ∷ t .v1 ∷ t .v2 ∷ []) ≡ take (t .weight) (t .v0 ∷ t .v1 ∷ t .v2 ∷ [])
+  cut-v w e = sym (ap (λ k. take k (t .v0 ∷ t .v1 ∷ t .v2 ∷ [])) e)
+
+  pub neutral-cut : t .weight ≡ 0 → Cut t Neutral
+  neutral-cut e = record { u = cut-u 0 e; v = cut-v 0 e }
+
+  pub linear-cut : (d : Linear) → t .weight ≡ 1 → raw (d .u0) ≡ t .u0 → raw (d .v0) ≡ t .v0 → Cut t (One d)
+  linear-cut d e a x = record { u = (λ i. a i ∷ []) ∙ cut-u 1 e; v = (λ i. x i ∷ []) ∙ cut-v 1 e }
+
+  pub quadratic-cut : (d : Quadratic) → t .weight ≡ 2 → raw (d .u0) ≡ t .u0 → raw (d .u1) ≡ t .u1 → raw (d .v0) ≡ t .v0 → raw (d .v1) ≡ t .v1 → Cut t (Two d)
+  quadratic-cut d e a b x y = record { u = (λ i. a i ∷ b i ∷ []) ∙ cut-u 2 e; v = (λ i. x i ∷ y i ∷ []) ∙ cut-v 2 e }
+
+  pub cubic-cut : (d : Cubic) → (t .weight ≡ 0 → ⊥) → (t .weight ≡ 1 → ⊥) → (t .weight ≡ 2 → ⊥) → raw (d .u0) ≡ t .u0 → raw (d .u1) ≡ t .u1 → raw (d .u2) ≡ t .u2 → raw (d .v0) ≡ t .v0 → raw (d .v1) ≡ t .v1 → raw (d .v2) ≡ t .v2 → Cut t (Three d)
+  cubic-cut d e0 e1 e2 a b c x y z = record { u = (λ i. a i ∷ b i ∷ c i ∷ []) ∙ all-three (t .weight) (t .u0) (t .u1) (t .u2) e0 e1 e2; v = (λ i. x i ∷ y i ∷ z i ∷ []) ∙ all-three (t .weight) (t .v0) (t .v1) (t .v2) e0 e1 e2 }
+
+abbrev flat-of : Divisor → ℕ → YubiRunning
+flat-of d n = flat-running (runningOf (record { divisor = d; count = n }))
+
+module _ (t : Running) where
+  pub flat-neutral : t .divisor ≡ Neutral → flat-of Neutral (t .count) ≡ flat-running (runningOf t)
+  flat-neutral e = sym (ap (λ d. flat-of d (t .count)) e)
+
+  pub flat-linear : (d : Linear) → t .divisor ≡ One d → (a x : ℕ) → a ≡ raw (d .u0) → x ≡ raw (d .v0) → record { weight = 1; u0 = a; u1 = 0; u2 = 0; v0 = x; v1 = 0; v2 = 0; count = t .count } ≡ flat-running (runningOf t)
+  flat-linear d e a x p r = (λ i. record { weight = 1; u0 = p i; u1 = 0; u2 = 0; v0 = r i; v1 = 0; v2 = 0; count = t .count }) ∙ sym (ap (λ d. flat-of d (t .count)) e)
+
+  pub flat-quadratic : (d : Quadratic) → t .divisor ≡ Two d → (a b x y : ℕ) → a ≡ raw (d .u0) → b ≡ raw (d .u1) → x ≡ raw (d .v0) → y ≡ raw (d .v1) → record { weight = 2; u0 = a; u1 = b; u2 = 0; v0 = x; v1 = y; v2 = 0; count = t .count } ≡ flat-running (runningOf t)
+  flat-quadratic d e a b x y p q r s = (λ i. record { weight = 2; u0 = p i; u1 = q i; u2 = 0; v0 = r i; v1 = s i; v2 = 0; count = t .count }) ∙ sym (ap (λ d. flat-of d (t .count)) e)
+
+  pub flat-cubic : (d : Cubic) → t .divisor ≡ Three d → (a b c x y z : ℕ) → a ≡ raw (d .u0) → b ≡ raw (d .u1) → c ≡ raw (d .u2) → x ≡ raw (d .v0) → y ≡ raw (d .v1) → z ≡ raw (d .v2) → record { weight = 3; u0 = a; u1 = b; u2 = c; v0 = x; v1 = y; v2 = z; count = t .count } ≡ flat-running (runningOf t)
+  flat-cubic d e a b c x y z p q o r s l = (λ i. record { weight = 3; u0 = p i; u1 = q i; u2 = o i; v0 = r i; v1 = s i; v2 = l i; count = t .count }) ∙ sym (ap (λ d. flat-of d (t .count)) e)
+
+pub all-same : (a b : YubiRunning) → a .weight ≡ b .weight → a .u0 ≡ b .u0 → a .u1 ≡ b .u1 → a .u2 ≡ b .u2 → a .v0 ≡ b .v0 → a .v1 ≡ b .v1 → a .v2 ≡ b .v2 → a .count ≡ b .count → a ≡ b
+all-same a b w p q o r s l n = λ i. record { weight = w i; u0 = p i; u1 = q i; u2 = o i; v0 = r i; v1 = s i; v2 = l i; count = n i }

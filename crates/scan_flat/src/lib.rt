@@ -1,0 +1,191 @@
+// The running total as C holds it: a weight, six numbers and a count, any of them anything. A scan into it is the scan by value, once it
+// has the form of a flattened total: weight 0 to 3, and 0 for what is unused.
+ghost use mathlib.Core.Path.{_≡_};
+ghost use Rattle.field.specs.Primes.{Decides};
+ghost use Rattle.scans.specs.Scans.{runningOf};
+ghost use Rattle.scan_flat.specs.Flats.{flat-running, Cut, FlatScanIs};
+use divisor::Cubic;
+use divisor::Divisor;
+use divisor::Linear;
+use divisor::Quadratic;
+use field::Residue;
+use running::Running;
+use scans::ScanAnswer;
+
+#[repr(C)]
+pub struct YubiRunning {
+    pub weight: u64,
+    pub u0: u64,
+    pub u1: u64,
+    pub u2: u64,
+    pub v0: u64,
+    pub v1: u64,
+    pub v2: u64,
+    pub count: u64,
+}
+
+#[repr(C)]
+pub struct YubiScanned {
+    pub number: u64,
+    pub place: u64,
+    pub length: u64,
+    pub total: YubiRunning,
+}
+
+// The divisor of the coefficients below the weight.
+fn divisor_of(t: YubiRunning) -> Divisor
+    ensures { λ r. ⌜ Cut t r ⌝ }
+{
+    let w = t.weight;
+    let u0 = Residue::from_raw(t.u0);
+    let v0 = Residue::from_raw(t.v0);
+    if w == 0 {
+        return Divisor::Neutral;
+    }
+    if w == 1 {
+        return Divisor::One(Linear { u0: u0, v0: v0 });
+    }
+    let u1 = Residue::from_raw(t.u1);
+    let v1 = Residue::from_raw(t.v1);
+    if w == 2 {
+        return Divisor::Two(Quadratic {
+            u0: u0,
+            u1: u1,
+            v0: v0,
+            v1: v1,
+        });
+    }
+    let u2 = Residue::from_raw(t.u2);
+    let v2 = Residue::from_raw(t.v2);
+    Divisor::Three(Cubic {
+        u0: u0,
+        u1: u1,
+        u2: u2,
+        v0: v0,
+        v1: v1,
+        v2: v2,
+    })
+}
+
+// Unused coefficients are 0.
+pub fn flatten_running(t: Running) -> YubiRunning
+    ensures { λ r. ⌜ r ≡ flat-running (runningOf t) ⌝ }
+{
+    let count = t.count;
+    let divisor = t.divisor;
+    match divisor {
+        Divisor::Neutral => YubiRunning {
+            weight: 0,
+            u0: 0,
+            u1: 0,
+            u2: 0,
+            v0: 0,
+            v1: 0,
+            v2: 0,
+            count: count,
+        },
+        Divisor::One(d) => YubiRunning {
+            weight: 1,
+            u0: d.u0.to_raw(),
+            u1: 0,
+            u2: 0,
+            v0: d.v0.to_raw(),
+            v1: 0,
+            v2: 0,
+            count: count,
+        },
+        Divisor::Two(d) => YubiRunning {
+            weight: 2,
+            u0: d.u0.to_raw(),
+            u1: d.u1.to_raw(),
+            u2: 0,
+            v0: d.v0.to_raw(),
+            v1: d.v1.to_raw(),
+            v2: 0,
+            count: count,
+        },
+        Divisor::Three(d) => YubiRunning {
+            weight: 3,
+            u0: d.u0.to_raw(),
+            u1: d.u1.to_raw(),
+            u2: d.u2.to_raw(),
+            v0: d.v0.to_raw(),
+            v1: d.v1.to_raw(),
+            v2: d.v2.to_raw(),
+            count: count,
+        },
+    }
+}
+
+fn same(a: YubiRunning, b: YubiRunning) -> bool
+    ensures { λ r. ⌜ Decides r (a ≡ b) ⌝ }
+{
+    if a.weight != b.weight {
+        return false;
+    }
+    if a.u0 != b.u0 {
+        return false;
+    }
+    if a.u1 != b.u1 {
+        return false;
+    }
+    if a.u2 != b.u2 {
+        return false;
+    }
+    if a.v0 != b.v0 {
+        return false;
+    }
+    if a.v1 != b.v1 {
+        return false;
+    }
+    if a.v2 != b.v2 {
+        return false;
+    }
+    if a.count != b.count {
+        return false;
+    }
+    true
+}
+
+pub fn scan(t: YubiRunning, curve: &[u8], record: &[u8]) -> YubiScanned
+    ensures { λ r. ⌜ FlatScanIs t (now (curve .entry)) (now («record» .entry)) r ⌝ }
+{
+    let read = record_curve::read_curve(curve);
+    let c = read.curve;
+    let number = read.number;
+    if number != 0 {
+        return YubiScanned {
+            number: number,
+            place: 0,
+            length: 0,
+            total: t,
+        };
+    }
+    let r = Running {
+        divisor: divisor_of(t),
+        count: t.count,
+    };
+    if same(flatten_running(r), t) {
+        match scans::scan_on(c, r, record) {
+            ScanAnswer::Done(x) => YubiScanned {
+                number: 0,
+                place: 0,
+                length: 0,
+                total: flatten_running(x),
+            },
+            ScanAnswer::Refused(n, k) => YubiScanned {
+                number: n,
+                place: k,
+                length: 0,
+                total: t,
+            },
+        }
+    } else {
+        YubiScanned {
+            number: refusals::RUNNING_TOTAL,
+            place: 0,
+            length: 0,
+            total: t,
+        }
+    }
+}
