@@ -13,7 +13,7 @@ Each frame is answered by one line: the answer's fields in decimal with one spac
 number, place and length; for a call with an output one space and the whole buffer in lower-case hexadecimal, `-` for an
 empty buffer. Operation 0 is a label: its bytes stand in the place of the curve and are printed with one space
 after them and no line feed, so that the next frame's answer ends the line. A multiple is run through both multiply calls,
-which must have the same line.
+a scan through the scan by value and the lent one, which must have the same line.
 """
 import os
 from collections import namedtuple

@@ -6,6 +6,7 @@ use c_answers::YubiAnswer;
 use c_answers::YubiMultiple;
 use c_answers::YubiRepeat;
 use c_answers::YubiTotal;
+use running::Running;
 use scan_flat::YubiRunning;
 use scan_flat::YubiScanned;
 
@@ -75,6 +76,53 @@ fn scan(text: &mut [u8], curve: &[u8], record: &[u8], total: &[u8]) -> usize {
     scanned(text, a)
 }
 
+fn is_fresh(t: YubiRunning) -> bool {
+    t.weight | t.u0 | t.u1 | t.u2 | t.v0 | t.v1 | t.v2 | t.count == 0
+}
+
+// The same scan into a total that is lent. A total of zeros is the library's own fresh one.
+fn scan_lent(text: &mut [u8], curve: &[u8], record: &[u8], total: &[u8]) -> usize {
+    if total.len() != 64 {
+        return 0;
+    }
+    let mut t = running(total);
+    if is_fresh(t) {
+        t = tablet::yubi_fresh_total();
+    }
+    let s = lends::scan_own(t, curve, record);
+    let a = s.answer;
+    let after = s.total;
+    scanned(
+        text,
+        YubiScanned {
+            number: a.number,
+            place: a.place,
+            length: a.length,
+            total: after,
+        },
+    )
+}
+
+// And into a lent total inside Rattle, from a fresh one; any other is left to C's.
+fn scan_inside(text: &mut [u8], curve: &[u8], record: &[u8], total: &[u8]) -> usize {
+    if total.len() != 64 {
+        return 0;
+    }
+    if !is_fresh(running(total)) {
+        return scan(text, curve, record, total);
+    }
+    let s = scan_lent::scan_own(Running::fresh(), curve, record);
+    scanned(
+        text,
+        YubiScanned {
+            number: s.report.number,
+            place: s.report.place,
+            length: 0,
+            total: scan_flat::flatten_running(s.total),
+        },
+    )
+}
+
 // The calls with an output that answer number, place and length alone: 3 to 7.
 fn write(operation: u8, curve: &[u8], first: &[u8], second: &[u8], out: &mut [u8]) -> YubiAnswer {
     match operation {
@@ -118,6 +166,8 @@ pub fn line(
             let a = tablet::yubi_multiply_inversion_free(curve, first, second, out);
             multiplied(text, a, out)
         }
+        13 => scan_lent(text, curve, first, total),
+        14 => scan_inside(text, curve, first, total),
         _ => 0,
     }
 }

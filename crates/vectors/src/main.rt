@@ -13,11 +13,18 @@ const GUARD: u8 = 165;
 
 const MOST_OUTPUT: usize = 128;
 
-// The two operations that multiply, and more than the length of their line. No frame has the second: each of the first is run through both.
+// The operations that are run through more than one call, whose lines must be the same; no frame has the others. A multiple has two, a scan three.
 const MULTIPLY: u8 = 8;
 
 const INVERSION_FREE: u8 = 12;
 
+const SCAN: u8 = 11;
+
+const SCAN_LENT: u8 = 13;
+
+const SCAN_INSIDE: u8 = 14;
+
+// More than the length of such a line.
 const MOST_LINE: usize = 512;
 
 // The line of the frame at the front of s by a call, put at the front of the text; answers its length, 0 where there is no such call.
@@ -41,7 +48,19 @@ fn line_by(operation: u8, s: &[u8], f: Frame, text: &mut [u8]) -> usize
     )
 }
 
-// The same by the frame's own call, 0 where the frame is malformed; a multiple's is 0 too where the other call that multiplies has another line.
+// Whether another call has this line for the frame.
+fn agrees(operation: u8, s: &[u8], f: Frame, wanted: &[u8]) -> bool
+    requires { ⌜ InOrder f × ((f .end ≤ length (now s)) × (f .output ≤ 128)) ⌝ }
+{
+    let mut again = [0; MOST_LINE];
+    let n = line_by(operation, s, f, &mut again);
+    if MOST_LINE < n {
+        return false;
+    }
+    check::same(wanted, &again[..n])
+}
+
+// The same by the frame's own call, 0 where the frame is malformed, or where another call that it is run through has another line.
 fn line(s: &[u8], f: Frame, text: &mut [u8]) -> usize
     requires { ⌜ InOrder f × (f .end ≤ length (now s)) ⌝ }
 {
@@ -51,21 +70,24 @@ fn line(s: &[u8], f: Frame, text: &mut [u8]) -> usize
     }
     let operation = s[0];
     let k = line_by(operation, s, f, text);
-    if operation != MULTIPLY {
-        return k;
-    }
-    let mut again = [0; MOST_LINE];
-    let n = line_by(INVERSION_FREE, s, f, &mut again);
     if text.len() < k {
         return 0;
     }
-    if MOST_LINE < n {
+    if operation == MULTIPLY {
+        if agrees(INVERSION_FREE, s, f, &text[..k]) {
+            return k;
+        }
         return 0;
     }
-    if check::same(&text[..k], &again[..n]) {
-        return k;
+    if operation == SCAN {
+        if agrees(SCAN_LENT, s, f, &text[..k]) {
+            if agrees(SCAN_INSIDE, s, f, &text[..k]) {
+                return k;
+            }
+        }
+        return 0;
     }
-    0
+    k
 }
 
 // The lines of all frames, one after the other, at the front of the text; answers their length. They end at a malformed frame, so that the
