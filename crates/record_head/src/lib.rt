@@ -34,18 +34,18 @@ pub fn head_number(s: &[u8]) -> u64
     if s.len() < 6 {
         return refusals::CURVE_LENGTH;
     }
-    if marked(s) {
-        if big_endian::wide(s[3]) * 256 + big_endian::wide(s[4]) != Curve::VERSION {
-            return refusals::VERSION;
-        }
-        let g = big_endian::wide(s[5]);
-        if is_genus(g) {
-            if s.len() != 22 + 16 * (g as usize) {
-                return refusals::CURVE_LENGTH;
-            }
-            return 0;
-        }
+    if !marked(s) {
+        return refusals::MARK;
+    }
+    if big_endian::wide(s[3]) * 256 + big_endian::wide(s[4]) != Curve::VERSION {
+        return refusals::VERSION;
+    }
+    let g = big_endian::wide(s[5]);
+    if !is_genus(g) {
         return refusals::GENUS;
     }
-    refusals::MARK
+    if s.len() != 22 + 16 * (g as usize) {
+        return refusals::CURVE_LENGTH;
+    }
+    0
 }
