@@ -75,7 +75,7 @@ fn the_pole_of_the_contract() {
     // The sign turned: W-205.
     let turned = [&a[..], &divisor(&[0], &[6])].concat();
     assert_eq!(first_repeat(&c, &turned), Ok(Some(Repeat { first: 1, second: 2 })));
-    assert_eq!(total_batch(&c, &turned, &mut out), Ok(Total { length: 1, count: 2 }));
+    assert_eq!(total_batch(&c, &turned, &mut [0; 1]), Ok(Total { length: 1, count: 2 }));
     let own = divisor(&[1], &[0]);
     assert_eq!(first_repeat(&c, &[&own[..], &a].concat()), Ok(None));
     assert_eq!(first_repeat(&c, &[&own[..], &own].concat()), Ok(Some(Repeat { first: 1, second: 2 })));

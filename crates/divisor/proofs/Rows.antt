@@ -1,5 +1,5 @@
--- A divisor's coefficients in a row. Gives: how long the row is and what stands in it, u and v as its two parts, that it and the weight
--- tell the divisor, that its places are settled, and the four divisors made of a row.
+-- A divisor's coefficients in a row. Gives: how long the row is and what stands in it, u and v as its two parts, that its places are
+-- settled, and the divisors made of a row.
 use Prim.Native.Nat.{ℕ, zero, suc, _+_, _*_, _≤_, _<_}
 use mathlib.Core.Path.{_≡_, refl, sym, ap, _∙_, subst}
 use mathlib.Core.List.{List, [], _∷_, _++_}
@@ -12,7 +12,7 @@ use Rattle.field.specs.Residues.{Settled}
 use Rattle.divisor.specs.declared.Divisor.{Divisor}
 use Rattle.divisor.specs.declared.Divisor.the-variants.{One, Two, Three}
 use Rattle.divisor.specs.Divisors.{weightOf, us, vs, coefficients, RowOf, AllSettled, Held}
-use Rattle.divisor.proofs.Laws.{same-coefficients, length-us, length-vs}
+use Rattle.divisor.proofs.Laws.{length-us, length-vs}
 
 -- by the case that d is
 pub row-case : {d e : Divisor} {r : List Residue} → d ≡ e → take (2 * weightOf e) r ≡ coefficients e → RowOf d r
@@ -41,13 +41,6 @@ module _ (d : Divisor) (r : List Residue) (h : RowOf d r) where
 
     pub row-v-at : (k : ℕ) (z : Residue) → k < w → getD (vs d) k z ≡ getD r (w + k) z
     row-v-at k z l = ap (λ t. getD t k z) row-v ∙ getD-take w (drop w r) k z l ∙ getD-drop w r k z
-
--- divisors of one weight whose rows agree as far as they reach
-pub same-row : (a b : Divisor) (r s : List Residue) → RowOf a r → RowOf b s → weightOf b ≡ weightOf a → take (2 * weightOf a) r ≡ take (2 * weightOf a) s → a ≡ b
-same-row a b r s ha hb e t = same-coefficients a b (row-u a s h (weightOf a) refl ∙ sym (row-u b s hb (weightOf a) e)) (row-v a s h (weightOf a) refl ∙ sym (row-v b s hb (weightOf a) e))
-  where
-    h : RowOf a s
-    h = record { is = sym t ∙ ha .is }
 
 -- ---- every place of a held divisor's row is settled
 module _ (m : Modulus) where

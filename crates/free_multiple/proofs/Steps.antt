@@ -38,40 +38,32 @@ module _ (c : Curve) (h : Sound c) where
   abbrev P : Type 0
   P = Pair (modulo (c .m .p))
 
-  -- the coefficients of f
-  abbrev s : ℕ → A
-  s 0 = el (c .m) (c .f0)
-  s 1 = el (c .m) (c .f1)
-  s 2 = el (c .m) (c .f2)
-  s 3 = el (c .m) (c .f3)
-  s k = el (c .m) (c .f4)
-
   abbrev at : ℕ → List A → RuleCurve
   at n l = record { K = modulo (c .m .p); g = n; low = l }
 
   -- on the curve of genus 2 with the coefficients l, and on this one
-  moved : (Says : ℕ → List A → Type 0) → c .g ≡ 2 → (l : List A) → l ≡ s 0 ∷ s 1 ∷ s 2 ∷ s 3 ∷ s 4 ∷ [] → Says 2 l → Says (c .g) (elements (c .m) (lows c))
+  moved : (Says : ℕ → List A → Type 0) → c .g ≡ 2 → (l : List A) → l ≡ el (c .m) (c .f0) ∷ el (c .m) (c .f1) ∷ el (c .m) (c .f2) ∷ el (c .m) (c .f3) ∷ el (c .m) (c .f4) ∷ [] → Says 2 l → Says (c .g) (elements (c .m) (lows c))
   moved Says e l q x = subst (λ (k : ℕ). Says k (elements (c .m) (c .f0 ∷ c .f1 ∷ c .f2 ∷ c .f3 ∷ c .f4 ∷ take (k + k - 4) (c .f5 ∷ c .f6 ∷ [])))) (sym e) (subst (λ (j : List A). Says 2 j) q x)
 
   -- ---- tuples
   module _ (t : Tuple) (r : Tuple) (nz : el m (r .z) ≢ zmod (c .m .p) .zer) where
-    pub free-double : (f2 f3 f4 : Residue) → Stands m f2 (s 2) → Stands m f3 (s 3) → Stands m f4 (s 4) → Doubled m f2 f3 f4 t r → (x : P) → IsFree c t x → IsFree c r (double (curveOf c) x)
+    pub free-double : (f2 f3 f4 : Residue) → Stands m f2 (el (c .m) (c .f2)) → Stands m f3 (el (c .m) (c .f3)) → Stands m f4 (el (c .m) (c .f4)) → Doubled m f2 f3 f4 t r → (x : P) → IsFree c t x → IsFree c r (double (curveOf c) x)
     free-double f2 f3 f4 h2 h3 h4 hr x hx = subst (IsFree c r) (sym (double-is (curveOf c) x)) (record {
       genus = hx .genus;
       kept = hr .kept;
-      quotients = moved (λ k j. Accepted (at k j) → Valid (at k j) x → Quotients m r (sum (at k j) x x)) (hx .genus) (s 0 ∷ s 1 ∷ el m f2 ∷ el m f3 ∷ el m f4 ∷ [])
-          (ap₂ (λ (i j : A). s 0 ∷ s 1 ∷ i ∷ j ∷ el m f4 ∷ []) (h2 .is) (h3 .is) ∙ ap (λ (i : A). s 0 ∷ s 1 ∷ s 2 ∷ s 3 ∷ i ∷ []) (h4 .is))
-          (λ ok v. hr .is nz x (hx .quotients) (s 0) (s 1) ok v) (accepted c h) (hx .valid);
+      quotients = moved (λ k j. Accepted (at k j) → Valid (at k j) x → Quotients m r (sum (at k j) x x)) (hx .genus) (el (c .m) (c .f0) ∷ el (c .m) (c .f1) ∷ el m f2 ∷ el m f3 ∷ el m f4 ∷ [])
+          (ap₂ (λ (i j : A). el (c .m) (c .f0) ∷ el (c .m) (c .f1) ∷ i ∷ j ∷ el m f4 ∷ []) (h2 .is) (h3 .is) ∙ ap (λ (i : A). el (c .m) (c .f0) ∷ el (c .m) (c .f1) ∷ el (c .m) (c .f2) ∷ el (c .m) (c .f3) ∷ i ∷ []) (h4 .is))
+          (λ ok v. hr .is nz x (hx .quotients) (el (c .m) (c .f0)) (el (c .m) (c .f1)) ok v) (accepted c h) (hx .valid);
       valid = sum-valid (curveOf c) (accepted c h) x x (hx .valid) (hx .valid);
     })
 
-    pub free-add : (f4 : Residue) → Stands m f4 (s 4) → (q : Quadratic) → Holds c (Two q) → Mixed m f4 t q r → (x : P) → IsFree c t x → IsFree c r (sum (curveOf c) x (pair m (Two q)))
+    pub free-add : (f4 : Residue) → Stands m f4 (el (c .m) (c .f4)) → (q : Quadratic) → Holds c (Two q) → Mixed m f4 t q r → (x : P) → IsFree c t x → IsFree c r (sum (curveOf c) x (pair m (Two q)))
     free-add f4 h4 q hq hr x hx = record {
       genus = hx .genus;
       kept = hr .kept;
-      quotients = moved (λ k j. Accepted (at k j) → Valid (at k j) x → Valid (at k j) (pair m (Two q)) → Quotients m r (sum (at k j) x (pair m (Two q)))) (hx .genus) (s 0 ∷ s 1 ∷ s 2 ∷ s 3 ∷ el m f4 ∷ [])
-          (ap (λ (i : A). s 0 ∷ s 1 ∷ s 2 ∷ s 3 ∷ i ∷ []) (h4 .is))
-          (λ ok v w. hr .is nz x (hx .quotients) (s 0) (s 1) (s 2) (s 3) ok v w) (accepted c h) (hx .valid) (hq .valid);
+      quotients = moved (λ k j. Accepted (at k j) → Valid (at k j) x → Valid (at k j) (pair m (Two q)) → Quotients m r (sum (at k j) x (pair m (Two q)))) (hx .genus) (el (c .m) (c .f0) ∷ el (c .m) (c .f1) ∷ el (c .m) (c .f2) ∷ el (c .m) (c .f3) ∷ el m f4 ∷ [])
+          (ap (λ (i : A). el (c .m) (c .f0) ∷ el (c .m) (c .f1) ∷ el (c .m) (c .f2) ∷ el (c .m) (c .f3) ∷ i ∷ []) (h4 .is))
+          (λ ok v w. hr .is nz x (hx .quotients) (el (c .m) (c .f0)) (el (c .m) (c .f1)) (el (c .m) (c .f2)) (el (c .m) (c .f3)) ok v w) (accepted c h) (hx .valid) (hq .valid);
       valid = sum-valid (curveOf c) (accepted c h) x (pair m (Two q)) (hx .valid) (hq .valid);
     }
 

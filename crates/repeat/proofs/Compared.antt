@@ -1,14 +1,14 @@
 -- Why `same` decides whether two divisors are equal or opposite: three coefficients are compared with three, one by one; a divisor of
 -- weight 1 or 2 is compared with zeros behind its coefficients; those of two weights are never the same.
-use Prim.Native.Nat.{ℕ, zero, suc, _<_}
+use Prim.Native.Nat.{ℕ}
 use mathlib.Core.Path.{_≡_, refl, sym, ap, ap₂, _∙_, subst}
 use mathlib.Core.List.{List, [], _∷_, _++_}
 use mathlib.Core.Bool.{Bool, true, false}
-use mathlib.Core.Logic.{_⊎_, inl, inr}
+use mathlib.Core.Logic.{inl, inr}
 use native.Mathlib.Omega.{arith}
 use lib.ListN.{length, take}
 use lib.Seq.{take-at}
-use Rattle.algebra.proofs.ring.CRing.{neg-unique, neg-zer, add-neg}
+use Rattle.algebra.proofs.ring.CRing.{neg-unique}
 use Rattle.algebra.proofs.ring.Field.{Arith}
 use Rattle.algebra.proofs.zmod.Zmod.{zmod, emb-zero}
 use Rattle.algebra.proofs.zmod.PrimeField.{modulo}
@@ -22,12 +22,12 @@ use Rattle.field.specs.declared.Residue.{Residue}
 use Rattle.field.specs.Primes.{Decides}
 use Rattle.field.specs.Residues.{el, Good, Stands, Settles, Everywhere}
 use Rattle.divisor.specs.declared.Divisor.{Divisor}
-use Rattle.divisor.specs.declared.Divisor.the-variants.{Neutral, One, Two, Three}
+use Rattle.divisor.specs.declared.Divisor.the-variants.{One, Two, Three}
 use Rattle.divisor.specs.declared.Linear.{Linear}
 use Rattle.divisor.specs.declared.Quadratic.{Quadratic}
 use Rattle.divisor.specs.Divisors.{weightOf, us, vs, elements, pair, Held}
-use Rattle.repeat.specs.Padded.{padded, Pads}
 use Rattle.divisor.proofs.Laws.{weight-is, weight-is-v}
+use Rattle.repeat.specs.Padded.{padded, Pads}
 
 -- a test that decides A decides what holds exactly where A does
 pub decides-as : {A B : Type 0} (r : Bool) → (A → B) → (B → A) → Decides r A → Decides r B

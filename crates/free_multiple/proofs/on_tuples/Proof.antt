@@ -14,17 +14,17 @@ abbrev μ-loop : tie.MeasureT-loop
 μ-loop c q p at k m f2 f3 f4 r₀ j₀ r j = j
 
 loop-holds : tie.Need-loop-holds Inv-loop μ-loop
-loop-holds c = record { at-most = omega arith; reaches = c .before .before .before .before .before .before .pre .reaches }
+loop-holds c = record { at-most = omega arith; reaches = c .before .before .before .before .before .pre .reaches }
 
 sub-climb : tie.Need-sub-climb Inv-loop μ-loop
 sub-climb c = search needs
 
 shared-slice-read-climb : tie.Need-shared-slice-read-climb Inv-loop μ-loop
-shared-slice-read-climb c = omega (arith, c .before .before .loop .inv .at-most, c .before .before .before .before .before .before .before .before .before .pre .place)
+shared-slice-read-climb c = omega (arith, c .before .before .loop .inv .at-most, c .before .before .before .before .before .before .before .before .pre .place)
 
 climb-requires : tie.Need-climb-requires Inv-loop μ-loop
 climb-requires c κs =
-    let s = c .before .before .before .before .before .before .before .before .before in
+    let s = c .before .before .before .before .before .before .before .before in
     let v = c .before .before .loop in
     record {
       sound = s .pre .sound;
@@ -38,7 +38,7 @@ is-zero-requires : tie.Need-is-zero-requires Inv-loop μ-loop
 is-zero-requires c κs = c .before .climb .ensures .settled
 
 returns : tie.Need-returns Inv-loop μ-loop
-returns c = let s = c .before .before .before .before .before .before .before .before .before .before .before .before .before in let v = c .before .before .before .before .before .before .loop in gone (s .args .c) (s .args .q) (s .args .at .now) (s .args .k) (v .r) (v .j) (v .inv)
+returns c = let s = c .before .before .before .before .before .before .before .before .before .before .before .before in let v = c .before .before .before .before .before .before .loop in gone (s .args .c) (s .args .q) (s .args .at .now) (s .args .k) (v .r) (v .j) (v .inv)
 
 sub-j : tie.Need-sub-j Inv-loop μ-loop
 sub-j c = search needs
@@ -47,10 +47,10 @@ loop-less : tie.Need-loop-less Inv-loop μ-loop
 loop-less c = search needs
 
 loop-again : tie.Need-loop-again Inv-loop μ-loop
-loop-again c = let s = c .before .before .before .before .before .before .before .before .before .before .before .before .before in let v = c .before .before .before .before .before .before .loop in let y = c .before .before .before .climb in going-on (s .args .c) (s .args .q) (s .args .at .now) (s .args .k) (v .r) (y .result) (v .j) (v .inv) (c .before .before .before .before .before .loop-test .taken) (omega (arith, v .inv .at-most, s .pre .place)) (y .ensures .is (decided-no (c .if1 .left) (c .before .is-zero .ensures)))
+loop-again c = let s = c .before .before .before .before .before .before .before .before .before .before .before .before in let v = c .before .before .before .before .before .before .loop in let y = c .before .before .before .climb in going-on (s .args .c) (s .args .q) (s .args .at .now) (s .args .k) (v .r) (y .result) (v .j) (v .inv) (c .before .before .before .before .before .loop-test .taken) (omega (arith, v .inv .at-most, s .pre .place)) (y .ensures .is (decided-no (c .if1 .left) (c .before .is-zero .ensures)))
 
 returns-2 : tie.Need-returns-2 Inv-loop μ-loop
-returns-2 c = let s = c .before .before .before .before .before .before .before .before in let v = c .before .loop in gone (s .args .c) (s .args .q) (s .args .at .now) (s .args .k) (v .r) (v .j) (v .inv)
+returns-2 c = let s = c .before .before .before .before .before .before .before in let v = c .before .loop in gone (s .args .c) (s .args .q) (s .args .at .now) (s .args .k) (v .r) (v .j) (v .inv)
 
 pub on-tuples-spec : {M : Type 1} → statement M
 on-tuples-spec =

@@ -15,7 +15,7 @@ use Rattle.algebra.proofs.ring.Field.{Arith}
 use Rattle.algebra.proofs.zmod.PrimeField.{modulo}
 use Rattle.rules.specs.Pair.{Pair, neutral}
 use Rattle.rules.specs.Records.{taken, choose, CurveRecord, PairOf, read-curve}
-use Rattle.rules.specs.First.{Repeat, Clear, Unlike, FirstAt, FirstIs}
+use Rattle.rules.specs.First.{Repeat, Clear, FirstAt, FirstIs}
 use Rattle.rules.specs.Lists.{Same, same?, place-of, repeat-from, first-repeat}
 use Rattle.rules.specs.Calls.{done, Reply, deliver, repeat-call}
 use Rattle.rules.proofs.calls.Batches.{pair-of, AllRecords, batch-records}

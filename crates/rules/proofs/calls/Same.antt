@@ -12,7 +12,7 @@ use Rattle.algebra.proofs.zmod.Zmod.{zmod, zmod-dec}
 use Rattle.algebra.proofs.zmod.PrimeField.{modulo}
 use Rattle.algebra.proofs.list.Ops.{negL}
 use Rattle.rules.specs.Pair.{Pair, neutral, opposite}
-use Rattle.rules.specs.Records.{both, either}
+use Rattle.rules.specs.Records.{either}
 use Rattle.rules.specs.Lists.{Same, same-list?, equal?, same?}
 use Rattle.rules.proofs.calls.Tests.{both-true, true-both, either-true}
 
