@@ -73,7 +73,7 @@ fn read_factors(curve: &[u8], a: &[u8], scalar: &[u8]) -> CurveAndDivisor
             number: refusals::SCALAR_LENGTH,
             place: 0,
             curve: c,
-            divisor: Divisor::Neutral,
+            divisor: Divisor::neutral(),
         };
     }
     let d = x.divisor;

@@ -35,7 +35,7 @@ pub fn read_curve_and_divisor(curve: &[u8], a: &[u8]) -> CurveAndDivisor
             number: number,
             place: 0,
             curve: c,
-            divisor: Divisor::Neutral,
+            divisor: Divisor::neutral(),
         };
     }
     match record_divisor::divisor_at(c, true, a, 0) {
@@ -49,7 +49,7 @@ pub fn read_curve_and_divisor(curve: &[u8], a: &[u8]) -> CurveAndDivisor
             number: n,
             place: 1,
             curve: c,
-            divisor: Divisor::Neutral,
+            divisor: Divisor::neutral(),
         },
     }
 }

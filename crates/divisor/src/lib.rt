@@ -107,7 +107,7 @@ impl Divisor {
         let c = r[2];
         let d = r[3];
         if w == 0 {
-            return Divisor::Neutral;
+            return Divisor::neutral();
         }
         if w == 1 {
             return Divisor::One(Linear { u0: a, v0: b });

@@ -40,7 +40,7 @@ fn divisor_of(t: YubiRunning) -> Divisor
     let u0 = Residue::from_raw(t.u0);
     let v0 = Residue::from_raw(t.v0);
     if w == 0 {
-        return Divisor::Neutral;
+        return Divisor::neutral();
     }
     if w == 1 {
         return Divisor::One(Linear { u0: u0, v0: v0 });

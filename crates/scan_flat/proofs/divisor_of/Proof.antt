@@ -1,3 +1,5 @@
+use mathlib.Core.Path.{sym, subst}
+use Rattle.scan_flat.specs.Flats.{Cut}
 use Rattle.scan_flat.proofs.Flattened.{neutral-cut, linear-cut, quadratic-cut, cubic-cut}
 use borrow.Author.Needs.{needs}
 use Rattle.scan_flat.proofs.divisor_of.Statement.{statement}
@@ -9,8 +11,11 @@ from-raw-requires c κs = search needs
 from-raw-requires-2 : tie.Need-from-raw-requires-2
 from-raw-requires-2 c κs = search needs
 
+neutral-requires : tie.Need-neutral-requires
+neutral-requires c κs = search needs
+
 returns : tie.Need-returns
-returns c = neutral-cut (c .before .before .before .args .t) (c .if1 .taken)
+returns c = let t = c .before .before .before .before .args .t in subst (Cut t) (sym (c .neutral .ensures)) (neutral-cut t (c .before .if1 .taken))
 
 returns-2 : tie.Need-returns-2
 returns-2 c = linear-cut (c .before .before .before .before .args .t) _ (c .if2 .taken) (c .before .before .before .from-raw .ensures) (c .before .before .from-raw2 .ensures)
@@ -39,6 +44,7 @@ divisor-of-spec =
     (tie.spec
     from-raw-requires
     from-raw-requires-2
+    neutral-requires
     returns
     returns-2
     from-raw-requires-3

@@ -1,7 +1,9 @@
-use mathlib.Core.Path.{_≡_, sym}
+use mathlib.Core.Path.{_≡_, refl, sym, subst}
 use native.Mathlib.Omega.{arith}
 use lib.ListN.{length}
 use Rattle.field.proofs.Arrays.{length-of}
+use Rattle.divisor.specs.declared.Divisor.{Divisor}
+use Rattle.divisor.specs.Divisors.{weightOf, RowOf}
 use Rattle.divisor.proofs.Rows.{made-one, made-two, made-three}
 use borrow.Author.Needs.{needs}
 use Rattle.divisor.proofs.Divisor.of_row.Statement.{statement}
@@ -19,8 +21,11 @@ array-copy-out-c c = search needs
 array-copy-out-d : tie.Need-array-copy-out-d
 array-copy-out-d c = search needs
 
+neutral-requires : tie.Need-neutral-requires
+neutral-requires c κs = search needs
+
 returns : tie.Need-returns
-returns c = search needs
+returns c = let s = c .before .before .before .before .before .before .args in subst (λ (d : Divisor). (weightOf d ≡ s .w) × RowOf d (s .t2)) (sym (c .neutral .ensures)) (sym (c .before .if1 .taken), record { is = refl })
 
 returns-2 : tie.Need-returns-2
 returns-2 c = let s = c .before .before .before .before .before .before .args in let e : length (s .t2) ≡ 6 = search (needs, length-of) in (sym (c .if2 .taken), made-one (s .t2) _ e)
@@ -45,6 +50,7 @@ of-row-spec =
     array-copy-out-b
     array-copy-out-c
     array-copy-out-d
+    neutral-requires
     returns
     returns-2
     returns-3
