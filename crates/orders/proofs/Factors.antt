@@ -93,7 +93,7 @@ factors-sound b n (q ∷ l) pos t =
 product-pos : (q k m n : ℕ) → 1 < q → 0 < m → n ≡ q ^ k * m → 0 < n
 product-pos q k m n l h e = omega (arith, mul-pos (one-le-pow k q (omega arith)) h)
 
-strip-exact : (f q k n m : ℕ) → 1 < q → 0 < m % q → n ≡ q ^ k * m → n ≤ f → strip f q n ≡ m
+pub strip-exact : (f q k n m : ℕ) → 1 < q → 0 < m % q → n ≡ q ^ k * m → n ≤ f → strip f q n ≡ m
 unfolding strip
 strip-exact zero q k n m l h e b = absurd (omega (arith, product-pos q k m n l (omega (arith, mod-le m q)) e))
 strip-exact (suc f) q zero n m l h e b = go (n % q) refl
