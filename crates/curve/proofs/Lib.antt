@@ -1,3 +1,4 @@
+pub mod Above
 pub mod Squares
 pub mod Rests
 pub mod Contains

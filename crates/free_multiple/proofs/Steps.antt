@@ -1,9 +1,8 @@
 -- The engine's steps on the curve in code. Gives: a tuple doubled or added to is again one where its Z isn't 0 (`free-double`, `free-add`); what is taken to plain form and back (`plain-of`, `kept-free`).
-use Prim.Native.Nat.{ℕ, _+_, _-_}
+use Prim.Native.Nat.{ℕ}
 use mathlib.Core.Path.{_≡_, refl, sym, ap, ap₂, _∙_, subst}
 use mathlib.Core.Logic.{_≢_}
 use mathlib.Core.List.{List, [], _∷_}
-use lib.ListN.{take}
 use Rattle.algebra.proofs.zmod.Zmod.{zmod}
 use Rattle.algebra.proofs.zmod.PrimeField.{modulo}
 use Rattle.rules.specs.Curve.{Curve as RuleCurve}
@@ -21,6 +20,7 @@ use Rattle.divisor.specs.declared.Quadratic.{Quadratic}
 use Rattle.divisor.specs.Divisors.{elements, pair}
 use Rattle.curve.specs.declared.Curve.{Curve}
 use Rattle.curve.specs.Curves.{curveOf, lows, Sound, Holds, Gives}
+use Rattle.curve.proofs.Above.{of-genus}
 use Rattle.curve.proofs.Contains.{accepted}
 use Rattle.free.specs.declared.Tuple.{Tuple}
 use Rattle.free.specs.Tuples.{Quotients, Mixed, Doubled, Lifted, Divided}
@@ -43,7 +43,7 @@ module _ (c : Curve) (h : Sound c) where
 
   -- on the curve of genus 2 with the coefficients l, and on this one
   moved : (Says : ℕ → List A → Type 0) → c .g ≡ 2 → (l : List A) → l ≡ el (c .m) (c .f0) ∷ el (c .m) (c .f1) ∷ el (c .m) (c .f2) ∷ el (c .m) (c .f3) ∷ el (c .m) (c .f4) ∷ [] → Says 2 l → Says (c .g) (elements (c .m) (lows c))
-  moved Says e l q x = subst (λ (k : ℕ). Says k (elements (c .m) (c .f0 ∷ c .f1 ∷ c .f2 ∷ c .f3 ∷ c .f4 ∷ take (k + k - 4) (c .f5 ∷ c .f6 ∷ [])))) (sym e) (subst (λ (j : List A). Says 2 j) q x)
+  moved Says e l q x = of-genus c Says 2 e (subst (λ (j : List A). Says 2 j) q x)
 
   -- ---- tuples
   module _ (t : Tuple) (r : Tuple) (nz : el m (r .z) ≢ zmod (c .m .p) .zer) where

@@ -1,16 +1,14 @@
 -- Sums by formula. Gives: where a formula of `genus2` or `genus3` finds a divisor, that is the rule's sum on the curve in code (`tried-two`, `tried-three` and
 -- the like of a divisor with itself); where it finds none nothing is to be shown.
 use Prim.Native.Nat.{ℕ, _+_, _-_, _≤_}
-use mathlib.Core.Path.{_≡_, sym, _∙_, subst}
+use mathlib.Core.Path.{_≡_, sym, subst}
 use mathlib.Core.List.{List, [], _∷_}
 use native.Mathlib.Omega.{arith}
-use lib.ListN.{take}
 use Rattle.algebra.proofs.zmod.Zmod.{zmod}
 use Rattle.algebra.proofs.zmod.PrimeField.{modulo}
 use Rattle.rules.specs.Curve.{Curve as RuleCurve}
 use Rattle.rules.specs.Pair.{Valid, opposite}
-use Rattle.rules.specs.Sum.{sum, double}
-use Rattle.rules.proofs.IsSum.{double-is}
+use Rattle.rules.specs.Sum.{sum}
 use Rattle.rules.proofs.cantor.Accepted.{Accepted}
 use Rattle.rules.proofs.cantor.Sum.{sum-valid}
 use Rattle.rules.proofs.cantor.Pairs.{opposite-valid}
@@ -26,7 +24,8 @@ use Rattle.divisor.specs.Divisors.{elements, pair, Held, Opposed}
 use Rattle.genus2.specs.Sums.{Sum2, Double2}
 use Rattle.genus3.specs.Sums.{Sum3, Double3}
 use Rattle.curve.specs.declared.Curve.{Curve}
-use Rattle.curve.specs.Curves.{curveOf, Sound, Holds, Gives}
+use Rattle.curve.specs.Curves.{lows, curveOf, Sound, Holds, Gives}
+use Rattle.curve.proofs.Above.{up-to, of-genus}
 use Rattle.curve.proofs.Contains.{accepted}
 use Rattle.jacobian.specs.Tries.{Tried}
 
@@ -47,15 +46,12 @@ module _ (c : Curve) (h : Sound c) where
   abbrev at : ℕ → List A → RuleCurve
   at n l = record { K = modulo (c .m .p); g = n; low = l }
 
-  abbrev up-to : ℕ → List A
-  up-to n = elements (c .m) (c .f0 ∷ c .f1 ∷ c .f2 ∷ c .f3 ∷ c .f4 ∷ take (n + n - 4) (c .f5 ∷ c .f6 ∷ []))
-
   module _ (a b d : Divisor) where
     abbrev Says : ℕ → List A → Type 0
     Says n l = Accepted (at n l) → Valid (at n l) (pair m a) → Valid (at n l) (pair m b) → sum (at n l) (pair m a) (pair m b) ≡ pair m d
 
-    moved : (n : ℕ) → c .g ≡ n → Says n (up-to n) → Says (c .g) (up-to (c .g))
-    moved n e x = subst (λ (k : ℕ). Says k (up-to k)) (sym e) x
+    moved : (n : ℕ) → c .g ≡ n → Says n (up-to c (n + n - 4)) → Says (c .g) (elements (c .m) (lows c))
+    moved n e x = of-genus c Says n e x
 
   pub tried-two : c .g ≡ 2 → (a b : Quadratic) → Holds c (Two a) → Holds c (Two b) → (r : Sought) → Sum2 m (c .f4) a b r → Tried c (sum (curveOf c) (pair m (Two a)) (pair m (Two b))) r
   tried-two e a b ha hb (Found d) x = gives (Two a) (Two b) d ha hb (x .held)
@@ -76,7 +72,7 @@ module _ (c : Curve) (h : Sound c) where
   abbrev with-top : A → List A
   with-top t = el m (c .f0) ∷ el m (c .f1) ∷ el m (c .f2) ∷ el m (c .f3) ∷ el m (c .f4) ∷ el m (c .f5) ∷ t ∷ []
 
-  cleared : (a b d : Divisor) → el m (c .f6) ≡ zmod (c .m .p) .zer → Says a b d 3 (with-top (zmod (c .m .p) .zer)) → Says a b d 3 (up-to 3)
+  cleared : (a b d : Divisor) → el m (c .f6) ≡ zmod (c .m .p) .zer → Says a b d 3 (with-top (zmod (c .m .p) .zer)) → Says a b d 3 (up-to c 2)
   cleared a b d z x = subst (λ (t : A). Says a b d 3 (with-top t)) (sym z) x
 
   pub tried-three : (a b : Cubic) → Holds c (Three a) → Holds c (Three b) → el m (c .f6) ≡ zmod (c .m .p) .zer → (r : Sought) → Sum3 m (c .f4) (c .f5) a b r
@@ -94,10 +90,7 @@ module _ (c : Curve) (h : Sound c) where
 pub known : (c : Curve) (a b : Divisor) {a' b' : Divisor} (r : Sought) → a ≡ a' → b ≡ b' → Tried c (sum (curveOf c) (pair (c .m) a') (pair (c .m) b')) r → Tried c (sum (curveOf c) (pair (c .m) a) (pair (c .m) b)) r
 known c a b {a'} {b'} r p q h = subst (λ (d : Divisor). Tried c (sum (curveOf c) (pair (c .m) d) (pair (c .m) b)) r) (sym p) (subst (λ (d : Divisor). Tried c (sum (curveOf c) (pair (c .m) a') (pair (c .m) d)) r) (sym q) h)
 
--- ---- of a divisor with itself, and its opposite
-pub double-gives : (c : Curve) (a r : Divisor) → Gives c r (sum (curveOf c) (pair (c .m) a) (pair (c .m) a)) → Gives c r (double (curveOf c) (pair (c .m) a))
-double-gives c a r k = record { holds = k .holds; is = k .is ∙ sym (double-is (curveOf c) (pair (c .m) a)) }
-
+-- ---- the opposite
 pub opposite-gives : (c : Curve) (a r : Divisor) → Holds c a → Opposed (c .m) a r → Gives c r (opposite (pair (c .m) a))
 opposite-gives c a r ha k = record {
   holds = record { held = k .held; valid = subst (Valid (curveOf c)) (sym (k .is)) (opposite-valid (curveOf c) (pair (c .m) a) (ha .valid)) };

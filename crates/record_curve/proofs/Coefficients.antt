@@ -5,7 +5,7 @@ use mathlib.Core.List.{List, [], _∷_, _++_}
 use mathlib.Core.Bool.{Bool, true, false}
 use native.Mathlib.Omega.{arith}
 use native.Mathlib.Decide.{ℕ-discrete}
-use lib.ListN.{getD, length, take}
+use lib.ListN.{getD, length}
 use Rattle.algebra.proofs.zmod.Zmod.{zmod, emb}
 use Rattle.algebra.proofs.poly.Derivative.{derP}
 use Rattle.algebra.proofs.poly.Common.{SharesNoFactor}
@@ -25,6 +25,7 @@ use Rattle.divisor.specs.Divisors.{elements as values}
 use Rattle.curve.specs.declared.Curve.{Curve}
 use Rattle.curve.specs.Curves.{Shaped, Sound, lows, curveOf}
 use Rattle.curve.specs.Record.{recordOf}
+use Rattle.curve.proofs.Above.{up-to}
 use Rattle.few.specs.Few.{OfCurve}
 use Rattle.big_endian.proofs.Rows.{words-append, below-append}
 use Rattle.record_numbers.specs.declared.Residues.{Residues}
@@ -84,18 +85,14 @@ module _ (s : List ℕ) (g : ℕ) (m : Modulus) (h : ToRead s g m) where
         abbrev at : (k : ℕ) → k < 5 → el m (getD (lo .r) k z) ≡ emb (m .p) (word64 s (14 + 8 * k))
         at k i = hl .held ln k z i .is
 
-        -- with n coefficients above f4
-        abbrev up-to : ℕ → List (zmod (m .p) .El)
-        up-to n = values m (built .f0 ∷ built .f1 ∷ built .f2 ∷ built .f3 ∷ built .f4 ∷ take n (built .f5 ∷ built .f6 ∷ []))
-
         five : (l : List (zmod (m .p) .El)) → el m (built .f0) ∷ el m (built .f1) ∷ el m (built .f2) ∷ el m (built .f3) ∷ el m (built .f4) ∷ l
             ≡ emb (m .p) (word64 s 14) ∷ emb (m .p) (word64 s 22) ∷ emb (m .p) (word64 s 30) ∷ emb (m .p) (word64 s 38) ∷ emb (m .p) (word64 s 46) ∷ l
         five l = rw (at 0 (omega arith), at 1 (omega arith), at 2 (omega arith), at 3 (omega arith), at 4 (omega arith))
 
         low-is : Dec (g ≡ 2) → values m (lows built) ≡ low
         unfolding words elements
-        low-is (yes e) = subst (λ (n : ℕ). up-to (n + n - 4) ≡ elements (m .p) (words s 14 (suc (n + n)))) (sym e) (five [])
-        low-is (no e) = subst (λ (n : ℕ). up-to (n + n - 4) ≡ elements (m .p) (words s 14 (suc (n + n)))) {x = 3} {y = g} (omega (arith, h .least, h .most))
+        low-is (yes e) = subst (λ (n : ℕ). up-to built (n + n - 4) ≡ elements (m .p) (words s 14 (suc (n + n)))) (sym e) (five [])
+        low-is (no e) = subst (λ (n : ℕ). up-to built (n + n - 4) ≡ elements (m .p) (words s 14 (suc (n + n)))) {x = 3} {y = g} (omega (arith, h .least, h .most))
             (ap₂ (λ (x y : zmod (m .p) .El). el m (built .f0) ∷ el m (built .f1) ∷ el m (built .f2) ∷ el m (built .f3) ∷ el m (built .f4) ∷ x ∷ y ∷ []) (hh .held hn 0 z (omega (arith, h .least, h .most)) .is) (hh .held hn 1 z (omega (arith, h .least, h .most)) .is)
             ∙ five (emb (m .p) (word64 s 54) ∷ emb (m .p) (word64 s 62) ∷ []))
 

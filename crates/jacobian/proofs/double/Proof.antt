@@ -4,7 +4,7 @@ use Rattle.divisor.specs.Divisors.{pair}
 use Rattle.rules.specs.Sum.{sum}
 use Rattle.curve.specs.Curves.{curveOf}
 use Rattle.jacobian.specs.Tries.{Tried}
-use Rattle.jacobian.proofs.Quicks.{double-gives}
+use Rattle.plain.proofs.Sums.{double-gives}
 use borrow.Author.Needs.{needs}
 use Rattle.jacobian.proofs.double.Statement.{statement}
 use Rattle.jacobian.proofs.double.Tie as tie
