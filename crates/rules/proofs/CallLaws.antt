@@ -3,18 +3,19 @@
 -- `AllRecords c rs` that each of rs is a divisor record on c, and `pair-of c r` is the pair of one; `answered w ≡ 0` that a call
 -- answered 0, and `front w` is then what it left at the front of its output. The proofs are in calls/.
 use Prim.Native.Nat.{ℕ, suc, _+_, _*_, _≤_, _<_}
-use mathlib.Core.Path.{_≡_, sym, _∙_}
+use mathlib.Core.Path.{_≡_, sym, _∙_, subst}
 use mathlib.Core.List.{List, [], _∷_, _++_, map, foldl, flatten, Perm}
 use mathlib.Core.Bool.{true}
 use mathlib.Core.Logic.{_↔_}
 use lib.ListN.{length, drop}
 use Rattle.algebra.proofs.ring.Field.{Arith}
+use Rattle.algebra.proofs.zmod.Prime.{Prime}
 use Rattle.algebra.proofs.zmod.PrimeField.{modulo}
 use Rattle.rules.specs.Bytes.{number}
 use Rattle.rules.specs.Pair.{Pair, Valid, opposite}
 use Rattle.rules.specs.Sum.{double}
 use Rattle.rules.specs.Multiple.{multiple}
-use Rattle.rules.specs.Records.{Checked, taken, CurveRecord, curve, PairOf, read-curve, read-divisor, curve-bytes, divisor-bytes}
+use Rattle.rules.specs.Records.{Checked, taken, CurveRecord, curve, PairOf, Form, form-of, read-curve, read-divisor, curve-bytes, divisor-bytes}
 use Rattle.rules.specs.First.{Clear, FirstAt}
 use Rattle.rules.specs.Lists.{Batch, batch, Same, first-repeat}
 use Rattle.rules.specs.Calls.{done, Result, stop, put, deliver, check-divisor, write, rewrite-curve, rewrite-divisor, double-call, opposite-call, add-call, multiply-call, total-call, repeat-call, Running, fresh, scan-call}
@@ -22,7 +23,8 @@ use Rattle.rules.proofs.Demand3.{Demand3}
 use Rattle.rules.proofs.cantor.Totals.{AllValid}
 use Rattle.rules.proofs.calls.Tests.{taken-inj}
 use Rattle.rules.proofs.calls.Bytes.{AreBytes}
-use Rattle.rules.proofs.calls.CurveRecords.{accepts, curve-written, curve-reread}
+use Rattle.rules.proofs.calls.CurveRecords.{Shown, accepts, curve-read, shown-of}
+use Rattle.rules.proofs.calls.CurveWritten.{curve-written, curve-reread, form-reread}
 use Rattle.rules.proofs.calls.DivisorRecords.{divisor-valid, divisor-written, divisor-reread}
 use Rattle.rules.proofs.calls.Accepted.{curve-laws}
 use Rattle.rules.proofs.calls.Batches.{pair-of, AllRecords, MadeOf, records-valid, batch-records, batch-made, batch-is}
@@ -49,11 +51,18 @@ use Rattle.rules.proofs.calls.Scans
 -- ---- the records
 module _ (s : List ℕ) {c : CurveRecord} (ec : read-curve s ≡ taken c) where
   -- writing what was read gives the same bytes; reading what was written gives the same value
-  pub curve-bytes-same : AreBytes s → curve-bytes c ≡ s
+  pub curve-bytes-same : AreBytes s → curve-bytes c (form-of s) ≡ s
   curve-bytes-same bytes = curve-written s bytes ec
 
-  pub curve-value-same : read-curve (curve-bytes c) ≡ taken c
-  curve-value-same = curve-reread c (accepts s ec)
+  pub curve-value-same : (form : Form) → Shown (c .p) form → (read-curve (curve-bytes c form) ≡ taken c) × (form-of (curve-bytes c form) ≡ form)
+  curve-value-same form w = (curve-reread c (accepts s ec) form w, form-reread c (accepts s ec) form w)
+
+  -- the form that it came in is one that shows p prime; what is taken is prime, whoever proposed the witness
+  pub form-shows : Shown (c .p) (form-of s)
+  form-shows = let r = curve-read s ec in subst (λ d. Shown (d .p) (form-of s)) (r .1) (shown-of s (r .0 .formed))
+
+  pub taken-prime : Prime (c .p)
+  taken-prime = accepts s ec .prime .is
 
   pub divisor-bytes-same : (k : ℕ) (a : List ℕ) {d : PairOf c} → AreBytes a → read-divisor c k a ≡ taken d → divisor-bytes (c .p) d ≡ a
   divisor-bytes-same k a bytes e = divisor-written c (accepts s ec) k a bytes e

@@ -6,6 +6,7 @@ pub mod Bytes
 pub mod Elements
 -- the records
 pub mod CurveRecords
+pub mod CurveWritten
 pub mod DivisorRecords
 -- what was taken keeps demand 3
 pub mod Accepted

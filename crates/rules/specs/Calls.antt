@@ -13,7 +13,7 @@ use Rattle.rules.specs.Sum.{sum, double}
 use Rattle.rules.specs.Multiple.{multiple, doublings, additions}
 use Rattle.rules.specs.Tests.{weighs?, on-curve?}
 use Rattle.rules.specs.Checks.{Checked, refused, taken, choose, Check, first-failed, go-on}
-use Rattle.rules.specs.Records.{both, CurveRecord, curve, PairOf, made-of, below?, elements, numbers, read-curve, read-divisor, curve-bytes, divisor-bytes}
+use Rattle.rules.specs.Records.{both, CurveRecord, curve, PairOf, made-of, below?, elements, numbers, read-curve, read-divisor, form-of, curve-bytes, divisor-bytes}
 use Rattle.rules.specs.Lists.{batch, most-records, Repeat, first-repeat}
 
 pub record Answer : Type 0 where
@@ -63,7 +63,7 @@ check-divisor s a = (deliver (tt {0}) [] (go-on (read-curve s) (λ c. go-on (rea
 -- ---- calls that write a record
 unfoldable pub rewrite-curve : List ℕ → List ℕ → Reply (Unit {0})
 unfolding read-curve curve-bytes
-rewrite-curve s out = deliver tt out (go-on (read-curve s) (λ c. taken (record { bytes = curve-bytes c; own = tt })))
+rewrite-curve s out = deliver tt out (go-on (read-curve s) (λ c. taken (record { bytes = curve-bytes c (form-of s); own = tt })))
 
 -- one divisor in, one out
 abbrev pub from-one : ((c : CurveRecord) → PairOf c → PairOf c) → List ℕ → List ℕ → Checked (Result (Unit {0}))

@@ -114,7 +114,7 @@ length-words s zero a = refl
 length-words s (suc n) a = ap suc (length-words s n (a + 8))
 
 -- what stands behind a front of a bytes
-behind : (front z : List ℕ) (a i : ℕ) → length front ≡ a → getD (front ++ z) (a + i) 0 ≡ getD z (0 + i) 0
+pub behind : (front z : List ℕ) (a i : ℕ) → length front ≡ a → getD (front ++ z) (a + i) 0 ≡ getD z (0 + i) 0
 behind front z a i e = ap (λ (k : ℕ). getD (front ++ z) k 0) {x = a + i} {y = length front + i} (omega arith) ∙ getD-append-add front z i 0
     ∙ ap (λ (k : ℕ). getD z k 0) {x = i} {y = 0 + i} (omega arith)
 

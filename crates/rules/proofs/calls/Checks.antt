@@ -19,6 +19,19 @@ abbrev pub AllSay : (ℕ → ℕ → Type 0) → List Check → Type 0
 AllSay Q [] = Unit {0}
 AllSay Q (c ∷ l) = Q (c .1) (c .2) × AllSay Q l
 
+-- of two lists, one behind the other
+pub pass-append : (l r : List Check) → AllPass (l ++ r) → AllPass l × AllPass r
+pass-append [] r h = (tt, h)
+pass-append (c ∷ l) r h = let t = pass-append l r (h .1) in ((h .0, t .0), t .1)
+
+pub pass-both : (l r : List Check) → AllPass l → AllPass r → AllPass (l ++ r)
+pass-both [] r h k = k
+pass-both (c ∷ l) r h k = (h .0, pass-both l r (h .1) k)
+
+pub say-both : (Q : ℕ → ℕ → Type 0) (l r : List Check) → AllSay Q l → AllSay Q r → AllSay Q (l ++ r)
+say-both Q [] r h k = k
+say-both Q (c ∷ l) r h k = (h .0, say-both Q l r (h .1) k)
+
 -- the first of l that fails
 pub record FirstFails (l : List Check) (n k : ℕ) : Type 0 where
   pub before : List Check

@@ -1,64 +1,101 @@
--- The curve record. Gives: what a record that is taken says of its bytes (`curve-read`) and of its curve (`Accepts`); that those bytes are
--- what the curve is written as (`curve-written`), and that what is written is taken (`curve-reread`).
-use Prim.Native.Nat.{ℕ, suc, _+_, _*_, _≤_, _<_}
-use mathlib.Core.Path.{_≡_, refl, sym, ap, ap₂, _∙_, subst}
-use mathlib.Core.List.{List, [], _∷_, _++_, append-nil}
-use mathlib.Core.Bool.{true}
+-- The curve record, of both versions. Gives: what a record that is taken says of its bytes (`curve-read`, `Formed`) and of its curve (`Accepts`); that p is prime
+-- whichever way it was shown (`shown-prime`), by Lucas' test in version 2. (That reading and writing undo one another: CurveBytes.)
+-- Open: `Shown`.
+use Prim.Native.Nat.{ℕ, suc, _+_, _*_, _%_, _≤_, _<_}
+use mathlib.Core.Path.{_≡_, refl, sym, ap, _∙_, subst}
+use mathlib.Core.List.{List, [], _∷_, _++_}
+use mathlib.Core.Bool.{Bool, true, false, true≢false}
 use mathlib.Core.Logic.{_⊎_, inl, inr}
-use native.Mathlib.Decide.{ℕ-discrete}
 use native.Mathlib.Omega.{arith}
-use lib.Dec.{eqb}
-use lib.ListN.{getD, length, drop, drop-of-length-le}
-use borrow.Author.Tests.{leb-true, le-leb, eqb-true, eq-eqb, ne-eqb}
-use Rattle.algebra.proofs.zmod.Zmod.{zmod}
-use Rattle.algebra.proofs.zmod.Prime.{OddPrime, prime-by-test}
-use Rattle.rules.specs.Bytes.{word64, words, bytes64, all-bytes}
+use lib.Dec.{eqb, leb, ltb}
+use lib.ListN.{getD, length}
+use borrow.Author.Tests.{leb-true, le-leb, ltb-true, eqb-true, eq-eqb, ne-eqb}
+use Rattle.algebra.proofs.zmod.Prime.{Prime, OddPrime, prime-by-test}
+use Rattle.orders.specs.Tests.{lucas?}
+use Rattle.orders.proofs.Lucas.{lucas-by-test}
+use Rattle.rules.specs.Bytes.{word64, words}
+use Rattle.rules.specs.Checks.{Check, taken, choose}
 use Rattle.rules.specs.Tests.{square-free?}
-use Rattle.rules.specs.Records.{taken, either, odd-prime?, below?, elements, numbers, CurveRecord, curve, version, marked?, genus?, curve-of, curve-checks, read-curve, curve-bytes}
-use Rattle.rules.proofs.calls.Tests.{both-true, either-true}
-use Rattle.rules.proofs.calls.Checks.{all-passed, passed-all}
-use Rattle.rules.proofs.calls.Bytes.{AreBytes, one-off, bytes-word, bytes-words, length-bytes, length-words, word-behind, words-behind}
-use Rattle.rules.proofs.calls.Elements.{elements-numbers, numbers-elements, length-elements, length-numbers, numbers-below}
+use Rattle.rules.specs.Records.{both, either, odd-prime?, odd-number?, witnessed?, below?, CurveRecord, curve, Form, unwitnessed, witnessed, marked?, genus?, version-of, curve-of, base-of, count-of, primes-of, form-of, unwitnessed-checks, witnessed-checks, curve-checks, read-curve}
+use Rattle.rules.proofs.calls.Tests.{both-true, true-both, either-true}
+use Rattle.rules.proofs.calls.Checks.{AllPass, all-passed, passed-all, pass-append, pass-both}
+use Rattle.rules.proofs.calls.Bytes.{length-words}
+use Rattle.rules.proofs.calls.Elements.{length-elements}
+
+-- ---- the parts of a record by its version
+pub record Unwitnessed (s : List ℕ) : Type 0 where
+  pub version : version-of s ≡ 1
+  pub long : length s ≡ 22 + 16 * getD s 5 0
+  pub prime : odd-prime? (word64 s 6) ≡ true
+
+pub record Witnessed (s : List ℕ) : Type 0 where
+  pub version : version-of s ≡ 2
+  pub some : 1 ≤ count-of s
+  pub most : count-of s ≤ 15
+  pub long : length s ≡ 31 + 16 * getD s 5 0 + 8 * count-of s
+  pub odd : odd-number? (word64 s 6) ≡ true
+  pub shown : witnessed? (word64 s 6) (base-of s) (primes-of s) ≡ true
+
+abbrev pub Formed : List ℕ → Type 0
+Formed s = Unwitnessed s ⊎ Witnessed s
 
 pub record CurveBytes (s : List ℕ) : Type 0 where
   pub six : 6 ≤ length s
   pub mark : marked? s ≡ true
-  pub version : eqb (getD s 3 0 * 256 + getD s 4 0) version ≡ true
   pub genus : genus? (getD s 5 0) ≡ true
-  pub long : length s ≡ 22 + 16 * getD s 5 0
-  pub prime : odd-prime? (word64 s 6) ≡ true
+  pub formed : Formed s
   pub below : below? (word64 s 6) (words s 14 (suc (getD s 5 0 + getD s 5 0))) ≡ true
   pub free : square-free? (curve (curve-of s)) ≡ true
 
-pub curve-read : (s : List ℕ) {c : CurveRecord} → read-curve s ≡ taken c → CurveBytes s × (curve-of s ≡ c)
-unfolding read-curve
-curve-read s e = let t = all-passed (curve-of s) (curve-checks s) e in
-    let h = t .0 in (
-      record {
-        six = leb-true _ _ (h .0);
-        mark = h .1 .0;
-        version = h .1 .1 .0;
-        genus = h .1 .1 .1 .0;
-        long = eqb-true _ _ (h .1 .1 .1 .1 .0);
-        prime = h .1 .1 .1 .1 .1 .0;
-        below = h .1 .1 .1 .1 .1 .1 .0;
-        free = h .1 .1 .1 .1 .1 .1 .1 .0;
-      },
-      t .1,
-    )
+module _ (s : List ℕ) where
+  abbrev form-checks : Bool → List Check
+  form-checks b = choose b (unwitnessed-checks s) (witnessed-checks s)
 
-pub curve-taken : (s : List ℕ) → CurveBytes s → read-curve s ≡ taken (curve-of s)
-unfolding read-curve
-curve-taken s h = passed-all (curve-of s) (curve-checks s)
-    (le-leb 6 (length s) (h .six), (h .mark, (h .version, (h .genus, (eq-eqb (length s) (22 + 16 * getD s 5 0) (h .long), (h .prime, (h .below, (h .free, tt))))))))
+  form-read : (b : Bool) → eqb (version-of s) 1 ≡ b → either b (eqb (version-of s) 2) ≡ true → AllPass (form-checks b) → Formed s
+  form-read true e v h = inl (record { version = eqb-true _ _ e; long = eqb-true _ _ (h .0); prime = h .1 .0 })
+  form-read false e v h = let k = both-true _ _ (h .1 .0) in
+      inr (record { version = eqb-true _ _ v; some = leb-true _ _ (k .0); most = leb-true _ _ (k .1); long = eqb-true _ _ (h .1 .1 .0); odd = h .1 .1 .1 .0; shown = h .1 .1 .1 .1 .0 })
 
--- ---- what is so of a curve that was taken
-pub record Accepts (c : CurveRecord) : Type 0 where
-  pub least : 2 ≤ c .g
-  pub greatest : c .g ≤ 3
-  pub prime : odd-prime? (c .p) ≡ true
-  pub odd : length (c .low) ≡ suc (c .g + c .g)
-  pub free : square-free? (curve c) ≡ true
+  form-taken : Formed s → (either (eqb (version-of s) 1) (eqb (version-of s) 2) ≡ true) × AllPass (form-checks (eqb (version-of s) 1))
+  form-taken (inl h) = let e : eqb (version-of s) 1 ≡ true = eq-eqb _ _ (h .version) in
+      (ap (λ b. either b (eqb (version-of s) 2)) e, subst (λ b. AllPass (form-checks b)) (sym e) (eq-eqb _ _ (h .long), (h .prime, tt)))
+  form-taken (inr h) = let e : eqb (version-of s) 1 ≡ false = ne-eqb (version-of s) 1 (λ z. omega (arith, h .version, z)) in (
+    ap (λ b. either b (eqb (version-of s) 2)) e ∙ eq-eqb _ _ (h .version),
+    subst (λ b. AllPass (form-checks b)) (sym e)
+        (le-leb (31 + 16 * getD s 5 0) (length s) (omega (arith, h .long)), (true-both (le-leb _ _ (h .some)) (le-leb _ _ (h .most)), (eq-eqb _ _ (h .long), (h .odd, (h .shown, tt))))),
+  )
+
+  pub curve-read : {c : CurveRecord} → read-curve s ≡ taken c → CurveBytes s × (curve-of s ≡ c)
+  unfolding read-curve
+  curve-read e =
+      let t = all-passed (curve-of s) (curve-checks s) e in
+      let h = t .0 in
+      let r = pass-append (form-checks (eqb (version-of s) 1)) _ (h .1 .1 .1 .1) in (
+        record {
+          six = leb-true _ _ (h .0);
+          mark = h .1 .0;
+          genus = h .1 .1 .1 .0;
+          formed = form-read (eqb (version-of s) 1) refl (h .1 .1 .0) (r .0);
+          below = r .1 .0;
+          free = r .1 .1 .0;
+        },
+        t .1,
+      )
+
+  pub curve-taken : CurveBytes s → read-curve s ≡ taken (curve-of s)
+  unfolding read-curve
+  curve-taken h = let f = form-taken (h .formed) in
+      passed-all (curve-of s) (curve-checks s) (le-leb 6 (length s) (h .six), (h .mark, (f .0, (h .genus, pass-both (form-checks (eqb (version-of s) 1)) _ (f .1) (h .below, (h .free, tt))))))
+
+-- ---- what shows that p is prime, by the form of the record
+abbrev pub Shown : ℕ → Form → Type 0
+Shown p unwitnessed = odd-prime? p ≡ true
+Shown p (witnessed a l) = (odd-number? p ≡ true) × (witnessed? p a l ≡ true) × (1 ≤ length l) × (length l ≤ 15)
+
+pub record PrimeTo (p : ℕ) : Type 0 where
+  pub is : Prime p
+  pub odd : 3 ≤ p
+  pub small : p ≤ 2305843009213693951
 
 pub odd-prime : {p : ℕ} → odd-prime? p ≡ true → OddPrime 2147483647 p
 unfolding odd-prime?
@@ -67,6 +104,49 @@ odd-prime {p} e =
     let r = both-true _ _ (t .1) in
     record { is = prime-by-test p (r .1); odd = leb-true 3 p (t .0); small = leb-true p 2147483647 (r .0) }
 
+-- an odd number from 3 to 2^61 - 1
+pub record OddTo (p : ℕ) : Type 0 where
+  pub from : 3 ≤ p
+  pub most : p ≤ 2305843009213693951
+  pub odd : p % 2 ≡ 1
+
+pub odd-number : {p : ℕ} → odd-number? p ≡ true → OddTo p
+unfolding odd-number?
+odd-number {p} e =
+    let t = both-true _ _ e in
+    let r = both-true _ _ (t .1) in
+    record { from = leb-true 3 p (t .0); most = leb-true p 2305843009213693951 (r .0); odd = eqb-true _ _ (r .1) }
+
+-- the parts of a witness
+pub record IsWitness (p a : ℕ) (l : List ℕ) : Type 0 where
+  pub from : 1 ≤ a
+  pub below : a < p
+  pub small : below? 2147483648 l ≡ true
+  pub is : lucas? p a l ≡ true
+
+pub is-witness : {p a : ℕ} {l : List ℕ} → witnessed? p a l ≡ true → IsWitness p a l
+unfolding witnessed?
+is-witness {p} {a} {l} e =
+    let t = both-true _ _ e in
+    let r = both-true _ _ (t .0) in
+    let u = both-true _ _ (t .1) in
+    record { from = leb-true 1 a (r .0); below = ltb-true a p (r .1); small = u .0; is = u .1 }
+
+pub shown-prime : {p : ℕ} (form : Form) → Shown p form → PrimeTo p
+shown-prime unwitnessed h = let o = odd-prime h in record { is = o .is; odd = o .odd; small = omega (arith, o .small) }
+shown-prime {p} (witnessed a l) h =
+    let o = odd-number (h .0) in
+    let w = is-witness (h .1) in
+    record { is = lucas-by-test p (omega (arith, o .from)) a l (w .is); odd = o .from; small = o .most }
+
+-- ---- what is so of a curve that was taken
+pub record Accepts (c : CurveRecord) : Type 0 where
+  pub least : 2 ≤ c .g
+  pub greatest : c .g ≤ 3
+  pub prime : PrimeTo (c .p)
+  pub odd : length (c .low) ≡ suc (c .g + c .g)
+  pub free : square-free? (curve c) ≡ true
+
 pub genus-is : (g : ℕ) → genus? g ≡ true → (2 ≤ g) × (g ≤ 3)
 genus-is g e = go (either-true _ _ e)
   where
@@ -74,95 +154,27 @@ genus-is g e = go (either-true _ _ e)
     go (inl h) = omega (arith, eqb-true g 2 h)
     go (inr h) = omega (arith, eqb-true g 3 h)
 
-is-genus : (g : ℕ) → 2 ≤ g → g ≤ 3 → genus? g ≡ true
-is-genus g l m = go (ℕ-discrete g 2)
-  where
-    go : Dec (g ≡ 2) → genus? g ≡ true
-    go (yes e) = rw (eq-eqb g 2 e)
-    go (no n) = rw (ne-eqb g 2 n, eq-eqb g 3 (omega arith))
+module _ (s : List ℕ) where
+  pub form-unwitnessed : version-of s ≡ 1 → form-of s ≡ unwitnessed
+  form-unwitnessed e = ap (λ b. choose b unwitnessed (witnessed (base-of s) (primes-of s))) (eq-eqb _ _ e)
 
-pub accepts-of : (s : List ℕ) → CurveBytes s → Accepts (curve-of s)
-accepts-of s h = let g = genus-is (getD s 5 0) (h .genus) in
-    record {
-      least = g .0;
-      greatest = g .1;
-      prime = h .prime;
-      odd = length-elements (word64 s 6) (words s 14 (suc (getD s 5 0 + getD s 5 0))) ∙ length-words s (suc (getD s 5 0 + getD s 5 0)) 14;
-      free = h .free;
-    }
+  pub form-witnessed : version-of s ≡ 2 → form-of s ≡ witnessed (base-of s) (primes-of s)
+  form-witnessed e = ap (λ b. choose b unwitnessed (witnessed (base-of s) (primes-of s))) (ne-eqb (version-of s) 1 (λ z. omega (arith, e, z)))
 
-pub accepts : (s : List ℕ) {c : CurveRecord} → read-curve s ≡ taken c → Accepts c
-accepts s e = let r = curve-read s e in subst Accepts (r .1) (accepts-of s (r .0))
+  pub shown-of : Formed s → Shown (word64 s 6) (form-of s)
+  shown-of (inl h) = subst (Shown (word64 s 6)) (sym (form-unwitnessed (h .version))) (h .prime)
+  shown-of (inr h) = subst (Shown (word64 s 6)) (sym (form-witnessed (h .version)))
+      (h .odd, h .shown, omega (arith, length-words s (count-of s) (31 + 16 * getD s 5 0), h .some), omega (arith, length-words s (count-of s) (31 + 16 * getD s 5 0), h .most))
 
--- ---- writing what was read
-module _ (s : List ℕ) (bytes : AreBytes s) (h : CurveBytes s) where
-  n : ℕ
-  n = suc (getD s 5 0 + getD s 5 0)
+  pub accepts-of : CurveBytes s → Accepts (curve-of s)
+  accepts-of h = let g = genus-is (getD s 5 0) (h .genus) in
+      record {
+        least = g .0;
+        greatest = g .1;
+        prime = shown-prime (form-of s) (shown-of (h .formed));
+        odd = length-elements (word64 s 6) (words s 14 (suc (getD s 5 0 + getD s 5 0))) ∙ length-words s (suc (getD s 5 0 + getD s 5 0)) 14;
+        free = h .free;
+      }
 
-  tail : drop 6 s ≡ bytes64 (word64 s 6) ++ all-bytes (words s 14 n)
-  unfolding n
-  tail = bytes-word s bytes 6 (omega (arith, h .long, genus-is (getD s 5 0) (h .genus)))
-      ∙ ap (_++_ (bytes64 (word64 s 6))) (bytes-words s bytes n 14 (omega (arith, h .long))
-      ∙ ap (_++_ (all-bytes (words s 14 n))) (drop-of-length-le s {i = 14 + 8 * n} (omega (arith, h .long))) ∙ append-nil (all-bytes (words s 14 n)))
-
-  pub curve-written-of : curve-bytes (curve-of s) ≡ s
-  unfolding curve-bytes n
-  curve-written-of =
-      let six = h .six in
-      let m = both-true _ _ (h .mark) in
-      let m' = both-true _ _ (m .1) in
-      let v : getD s 3 0 * 256 + getD s 4 0 ≡ 1 = eqb-true (getD s 3 0 * 256 + getD s 4 0) 1 (h .version) in
-      sym (one-off s 0 1 refl (omega arith) ∙ ap₂ _∷_ (eqb-true _ _ (m .0)) (
-      one-off s 1 2 refl (omega arith) ∙ ap₂ _∷_ (eqb-true _ _ (m' .0)) (
-      one-off s 2 3 refl (omega arith) ∙ ap₂ _∷_ (eqb-true _ _ (m' .1)) (
-      one-off s 3 4 refl (omega arith) ∙ ap₂ _∷_ (omega arith) (
-      one-off s 4 5 refl (omega arith) ∙ ap₂ _∷_ (omega arith) (
-      one-off s 5 6 refl (omega arith) ∙ ap (_∷_ (getD s 5 0)) (
-      tail ∙ ap (λ l. bytes64 (word64 s 6) ++ all-bytes l) (sym (numbers-elements (word64 s 6) (omega (arith, (odd-prime (h .prime)) .odd)) (words s 14 n) (h .below))))))))))
-
-pub curve-written : (s : List ℕ) {c : CurveRecord} → AreBytes s → read-curve s ≡ taken c → curve-bytes c ≡ s
-curve-written s bytes e = let r = curve-read s e in subst (λ c. curve-bytes c ≡ s) (r .1) (curve-written-of s bytes (r .0))
-
--- ---- reading what was written
-module _ (c : CurveRecord) (h : Accepts c) where
-  abbrev l : List ℕ
-  l = numbers (c .p) (c .low)
-
-  pos : 0 < c .p
-  pos = omega (arith, (odd-prime (h .prime)) .odd)
-
-  p-read : word64 (curve-bytes c) 6 ≡ c .p
-  unfolding curve-bytes
-  p-read = word-behind (72 ∷ 74 ∷ 67 ∷ 0 ∷ 1 ∷ c .g ∷ []) (all-bytes l) (c .p) 6 refl (omega (arith, (odd-prime (h .prime)) .small))
-
-  low-read : words (curve-bytes c) 14 (suc (c .g + c .g)) ≡ l
-  unfolding curve-bytes
-  low-read = ap (λ z. words (72 ∷ 74 ∷ 67 ∷ 0 ∷ 1 ∷ c .g ∷ (bytes64 (c .p) ++ z)) 14 (suc (c .g + c .g))) (sym (append-nil (all-bytes l)))
-      ∙ words-behind (c .p) (omega (arith, (odd-prime (h .prime)) .small)) (72 ∷ 74 ∷ 67 ∷ 0 ∷ 1 ∷ c .g ∷ bytes64 (c .p)) l [] (suc (c .g + c .g)) 14 refl
-      (length-numbers (c .p) (c .low) ∙ h .odd) (numbers-below (c .p) pos (c .low))
-
-  curve-same : curve-of (curve-bytes c) ≡ c
-  unfolding curve-bytes
-  curve-same = ap₂ made p-read low-read ∙ ap with-low (elements-numbers (c .p) (c .low))
-    where
-      made : ℕ → List ℕ → CurveRecord
-      made p l = record { p = p; g = c .g; low = elements p l }
-
-      with-low : List (zmod (c .p) .El) → CurveRecord
-      with-low x = record { p = c .p; g = c .g; low = x }
-
-  curve-is-bytes : CurveBytes (curve-bytes c)
-  unfolding curve-bytes
-  curve-is-bytes = record {
-    six = omega arith;
-    mark = refl;
-    version = refl;
-    genus = is-genus (c .g) (h .least) (h .greatest);
-    long = omega (arith, length-bytes l, length-numbers (c .p) (c .low), h .odd);
-    prime = ap odd-prime? p-read ∙ h .prime;
-    below = ap₂ below? p-read low-read ∙ numbers-below (c .p) pos (c .low);
-    free = ap (λ (d : CurveRecord). square-free? (curve d)) curve-same ∙ h .free;
-  }
-
-  pub curve-reread : read-curve (curve-bytes c) ≡ taken c
-  curve-reread = curve-taken (curve-bytes c) curve-is-bytes ∙ ap taken curve-same
+  pub accepts : {c : CurveRecord} → read-curve s ≡ taken c → Accepts c
+  accepts e = let r = curve-read s e in subst Accepts (r .1) (accepts-of (r .0))

@@ -19,7 +19,7 @@ use Rattle.rules.proofs.calls.Tests.{both-true, true-both}
 use Rattle.rules.proofs.calls.Checks.{all-passed, passed-all}
 use Rattle.rules.proofs.calls.Bytes.{AreBytes, Alike, alike-at, one-off, bytes-words, length-bytes, length-words, words-same, words-behind}
 use Rattle.rules.proofs.calls.Elements.{elements-numbers, numbers-elements, length-elements, length-numbers, numbers-below}
-use Rattle.rules.proofs.calls.CurveRecords.{Accepts, odd-prime}
+use Rattle.rules.proofs.calls.CurveRecords.{Accepts}
 
 module _ (c : CurveRecord) where
   abbrev pub pair-at : List ℕ → ℕ → PairOf c
@@ -68,10 +68,10 @@ module _ (c : CurveRecord) where
 -- ---- writing what was read
 module _ (c : CurveRecord) (ok : Accepts c) where
   pos : 0 < c .p
-  pos = omega (arith, (odd-prime (ok .prime)) .odd)
+  pos = omega (arith, ok .prime .odd)
 
   fit : c .p ≤ 18446744073709551616
-  fit = omega (arith, (odd-prime (ok .prime)) .small)
+  fit = omega (arith, ok .prime .small)
 
   module _ (s : List ℕ) (bytes : AreBytes s) (h : DivisorBytes c true s 0) where
     abbrev w : ℕ

@@ -83,7 +83,7 @@ module _ (s a scalar out : List ℕ) where
   given-19 : answered (multiply-call s a scalar out) ≡ 19 → EmptyKey s a scalar
   unfolding multiply-call
   given-19 e =
-      let t = came-past no-counts out 19 (read-curve s) _ (λ n k q z. omega (arith, (curve-refused s q) .1, z)) e in
+      let t = came-past no-counts out 19 (read-curve s) _ (λ n k q z. omega (arith, (curve-refused s q) .apart (omega (arith, z)), z)) e in
       let d = came-past no-counts out 19 (read-divisor (t .0) 1 a) _ (λ n k q z. omega (arith, (divisor-refused (t .0) 1 true a 0 q) .1, z)) (t .2) in
       found (t .0) (t .1) (d .0) (d .1) (which (multiple-result (t .0) (number scalar) (d .0)) _ _ _ (d .2))
     where

@@ -47,7 +47,7 @@ pub elsewhere : (K : ℕ → ℕ → Type 0) {n j : ℕ} → (8 ≤ n → n ≤ 
 elsewhere K h e = (λ l u. absurd (h l u), λ l. e, λ l. e)
 
 pub curve-place : (s : List ℕ) → Placed None (read-curve s)
-curve-place s n j e = let r = curve-refused s e in elsewhere None (λ l u. omega (arith, r .1)) (r .2)
+curve-place s n j e = let r = curve-refused s e in elsewhere None (λ l u. omega (arith, r .apart (omega (arith, l)))) (r .place)
 
 module _ (c : CurveRecord) where
   pub divisor-place : (k : ℕ) (whole : Bool) (s : List ℕ) (a : ℕ) → Placed (λ n j. j ≡ k) (divisor-at c k whole s a)

@@ -1,18 +1,19 @@
--- What is refused: a curve with a number from 1 to 7 and place 0 (`curve-refused`), the k-th divisor with 8 to 11 and place k
+-- What is refused: a curve with a number from 1 to 7 or 18, and place 0 (`curve-refused`), the k-th divisor with 8 to 11 and place k
 -- (`divisor-refused`), a running total with 14 or 15 and place 0 (`resume-refused`); and in which order: exactly the first check that fails (`curve-order`,
 -- `divisor-order`, `resume-order`). None of them has the number 0 (`curve-numbered` and its like). What goes on after a reading (`on-taken`, `on-refused`, `went-on`).
 -- Open: `Within`.
 use Prim.Native.Nat.{ℕ, _≤_, _<_}
 use mathlib.Core.Path.{_≡_, refl, sym, ap}
 use mathlib.Core.List.{List}
-use mathlib.Core.Bool.{Bool}
+use mathlib.Core.Bool.{Bool, true, false}
 use mathlib.Core.Logic.{_↔_}
 use native.Mathlib.Omega.{arith}
-use Rattle.rules.specs.Checks.{Checked, refused, taken, go-on}
-use Rattle.rules.specs.Records.{CurveRecord, made-of, curve-of, curve-checks, read-curve, us-at, vs-at, divisor-checks, divisor-at}
+use lib.Dec.{eqb}
+use Rattle.rules.specs.Checks.{Check, Checked, refused, taken, choose, go-on}
+use Rattle.rules.specs.Records.{CurveRecord, made-of, version-of, curve-of, unwitnessed-checks, witnessed-checks, curve-checks, read-curve, us-at, vs-at, divisor-checks, divisor-at}
 use Rattle.rules.specs.Calls.{Running, resume-checks, resume}
 use Rattle.rules.proofs.calls.Tests.{refused-taken}
-use Rattle.rules.proofs.calls.Checks.{FirstFails, refused-exactly, refused-as}
+use Rattle.rules.proofs.calls.Checks.{AllSay, say-both, FirstFails, refused-exactly, refused-as}
 
 -- a refusal never has the number 0
 abbrev pub Numbered : {A : Type 0} → Checked A → Type 0
@@ -56,9 +57,29 @@ Within least greatest place n k = (least ≤ n) × (n ≤ greatest) × (k ≡ pl
 within : {least greatest place n : ℕ} → least ≤ n → n ≤ greatest → Within least greatest place n place
 within l u = (l, u, refl)
 
-pub curve-refused : (s : List ℕ) {n k : ℕ} → read-curve s ≡ refused n k → Within 1 7 0 n k
+-- (18 stands alone above 7)
+pub record OfCurve (n k : ℕ) : Type 0 where
+  pub some : 1 ≤ n
+  pub apart : 7 < n → n ≡ 18
+  pub place : k ≡ 0
+
+to-seven : {n : ℕ} → 1 ≤ n → n ≤ 7 → OfCurve n 0
+to-seven l u = record { some = l; apart = λ z. absurd (omega arith); place = refl }
+
+eighteen : OfCurve 18 0
+eighteen = record { some = omega arith; apart = λ z. refl; place = refl }
+
+pub curve-refused : (s : List ℕ) {n k : ℕ} → read-curve s ≡ refused n k → OfCurve n k
 unfolding read-curve
-curve-refused s e = refused-as (curve-of s) (Within 1 7 0) (curve-checks s) (search (within, arith)) e
+curve-refused s e = refused-as (curve-of s) OfCurve (curve-checks s)
+    (to-seven (omega arith) (omega arith), (to-seven (omega arith) (omega arith), (to-seven (omega arith) (omega arith), (to-seven (omega arith) (omega arith), say-both OfCurve (form-checks (eqb (version-of s) 1)) _ (by-version (eqb (version-of s) 1)) (to-seven (omega arith) (omega arith), (to-seven (omega arith) (omega arith), tt)))))) e
+  where
+    form-checks : Bool → List Check
+    form-checks b = choose b (unwitnessed-checks s) (witnessed-checks s)
+
+    by-version : (b : Bool) → AllSay OfCurve (form-checks b)
+    by-version true = search (to-seven, eighteen, arith)
+    by-version false = search (to-seven, eighteen, arith)
 
 -- the order: a number is given exactly where its check is the first that fails
 pub curve-order : (s : List ℕ) (n k : ℕ) → (read-curve s ≡ refused n k) ↔ FirstFails (curve-checks s) n k
@@ -66,7 +87,7 @@ unfolding read-curve
 curve-order s n k = refused-exactly (curve-of s) (curve-checks s) n k
 
 pub curve-numbered : (s : List ℕ) → Numbered (read-curve s)
-curve-numbered s n k e = omega (arith, curve-refused s e .0)
+curve-numbered s n k e = omega (arith, curve-refused s e .some)
 
 -- ---- a divisor, and a running total
 module _ (c : CurveRecord) where

@@ -21,7 +21,7 @@ use Rattle.rules.proofs.cantor.Pairs.{neutral-valid}
 use Rattle.rules.proofs.calls.Tests.{true-both}
 use Rattle.rules.proofs.calls.Checks.{all-passed, passed-all}
 use Rattle.rules.proofs.calls.Elements.{length-elements, length-numbers, numbers-below}
-use Rattle.rules.proofs.calls.CurveRecords.{Accepts, accepts, odd-prime}
+use Rattle.rules.proofs.calls.CurveRecords.{Accepts, accepts}
 use Rattle.rules.proofs.calls.Accepted.{accepts-laws}
 use Rattle.rules.proofs.calls.DivisorRecords.{made-numbers}
 use Rattle.rules.proofs.calls.Batches.{pair-of, IsRecord, AllRecords, is-record, record-at, record-valid, no-records, more-records}
@@ -91,7 +91,7 @@ module _ (c : CurveRecord) where
   }) ∙ ap taken (made-numbers c d)
     where
       pos : 0 < c .p
-      pos = omega (arith, (odd-prime (ok .prime)) .odd)
+      pos = omega (arith, ok .prime .odd)
 
 -- ---- one scan
 pub record ScanDone (c : CurveRecord) (t : Running) (a : List ℕ) (w : Reply Running) : Type 0 where
