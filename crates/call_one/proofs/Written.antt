@@ -7,7 +7,7 @@ use borrow.Author.Tests.{lt-ltb, le-ltb}
 use lib.ListN.{length, length-append}
 use lib.Seq.{sets}
 use Rattle.rules.specs.Bytes.{all-bytes}
-use Rattle.rules.specs.Records.{numbers, CurveRecord, curve-bytes, divisor-bytes}
+use Rattle.rules.specs.Records.{numbers, CurveRecord, Form, curve-bytes, divisor-bytes}
 use Rattle.rules.specs.Checks.{Checked}
 use Rattle.rules.specs.Calls.{Answer as RuleAnswer, Result, put, deliver, stop, write, done}
 use Rattle.rules.proofs.calls.Written.{Written}
@@ -26,9 +26,9 @@ pub divisor-length : (m : Modulus) (d : Divisor) → length (divisor-bytes (m .p
 unfolding divisor-bytes
 divisor-length m d = omega (arith, length-append (all-bytes (numbers (m .p) (pair m d .u))) (all-bytes (numbers (m .p) (pair m d .v))), length-bytes (numbers (m .p) (pair m d .u)), length-bytes (numbers (m .p) (pair m d .v)), length-numbers (m .p) (pair m d .u), length-numbers (m .p) (pair m d .v), weight-is m d, weight-is-v m d)
 
-pub curve-some : (c : CurveRecord) → 0 < length (curve-bytes c)
+pub curve-some : (c : CurveRecord) (form : Form) → 0 < length (curve-bytes c form)
 unfolding curve-bytes
-curve-some c = omega arith
+curve-some c form = omega arith
 
 -- ---- put where it fits
 module _ (out bytes : List ℕ) where

@@ -217,6 +217,8 @@ impl Curve {
     pub const MARK: [u8; 3] = [72, 74, 67];
 
     pub const VERSION: u64 = 1;
+    // With a witness that p is prime.
+    pub const VERSION_WITNESSED: u64 = 2;
 
     // Whether u divides f - v * v.
     pub fn contains(self, d: Divisor) -> bool

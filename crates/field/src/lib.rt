@@ -63,6 +63,8 @@ pub fn is_odd_prime(p: u64) -> bool
 impl Modulus {
     // The largest prime of a record of version 1.
     pub const LIMIT: u64 = 2147483647;
+    // And of version 2, 2^61 - 1.
+    pub const LIMIT_WITNESSED: u64 = 2305843009213693951;
 
     pub fn read(p: u64) -> ModulusRead
         ensures { λ r. ⌜ ModulusIs p r ⌝ }

@@ -16,7 +16,6 @@ use Rattle.rules.specs.Records.{choose, both, refused, taken, CurveRecord, curv
 use Rattle.rules.proofs.Demand3.{square-free-test}
 use Rattle.field.specs.declared.Modulus.{Modulus}
 use Rattle.field.specs.declared.Residue.{Residue}
-use Rattle.field.specs.Primes.{OddPrime}
 use Rattle.field.specs.Residues.{el, Settles}
 use Rattle.field.proofs.Decide.{otherwise}
 use Rattle.poly.specs.declared.Poly.{Poly}
@@ -30,10 +29,8 @@ use Rattle.few.specs.Few.{OfCurve}
 use Rattle.big_endian.proofs.Rows.{words-append, below-append}
 use Rattle.record_numbers.specs.declared.Residues.{Residues}
 use Rattle.record_numbers.specs.Read.{ResiduesIs}
-use Rattle.record_head.specs.Heads.{Headed}
-use Rattle.record_head.proofs.Head.{low-rule, behind}
+use Rattle.record_head.specs.Heads.{low-rule}
 use Rattle.record_curve.specs.Read.{ToRead, CoefficientsIs}
-use Rattle.record_curve.proofs.Primes.{odd-prime-yes}
 
 module _ (s : List ℕ) (g : ℕ) (m : Modulus) (h : ToRead s g m) where
   abbrev low : List (zmod (m .p) .El)
@@ -42,11 +39,7 @@ module _ (s : List ℕ) (g : ℕ) (m : Modulus) (h : ToRead s g m) where
   abbrev rule : CurveRecord
   rule = record { p = m .p; g = g; low = low }
 
-  -- what the rule comes to, and by the two tests
-  here : Headed s → g ≡ getD s 5 0 → m .p ≡ word64 s 6 → read-curve s ≡ low-rule s g (m .p)
-  here hd g-is p-is = behind s hd ∙ ap (λ b. choose b (low-rule s (getD s 5 0) (word64 s 6)) (refused 5 0)) (odd-prime-yes (word64 s 6) (subst OddPrime p-is (h .first)))
-      ∙ ap₂ (low-rule s) (sym g-is) (sym p-is)
-
+  -- the rule by the two tests
   by-below : {b : Bool} → below? (m .p) (words s 14 (suc (g + g))) ≡ b → low-rule s g (m .p) ≡ choose b (choose (square-free? (curve rule)) (taken rule) (refused 7 0)) (refused 6 0)
   by-below e = ap (λ b. choose b (choose (square-free? (curve rule)) (taken rule) (refused 7 0)) (refused 6 0)) e
 
@@ -61,7 +54,7 @@ module _ (s : List ℕ) (g : ℕ) (m : Modulus) (h : ToRead s g m) where
         ∙ sym (ap₂ both (hl .below) (hh .below))
 
     refused-six : both (lo .below) (hi .below) ≡ false → (c : Curve) → CoefficientsIs s g m (record { number = 6; curve = c })
-    refused-six e c = λ hd g-is p-is. record { sound = λ z. absurd (omega arith); takes = λ z. absurd (omega arith); refuses = λ z. here hd g-is p-is ∙ by-below (both-are ∙ e) }
+    refused-six e c = λ here. record { sound = λ z. absurd (omega arith); takes = λ z. absurd (omega arith); refuses = λ z. here ∙ by-below (both-are ∙ e) }
 
     pub low-large : lo .below ≡ false → (c : Curve) → CoefficientsIs s g m (record { number = 6; curve = c })
     low-large e = refused-six (ap (λ b. both b (hi .below)) e)
@@ -120,15 +113,15 @@ module _ (s : List ℕ) (g : ℕ) (m : Modulus) (h : ToRead s g m) where
           sound a = record { good = h .good; least = h .least; most = h .most; settled = shaped .settled; square-free = free a }
 
           pub built-curve : Free → CoefficientsIs s g m (record { number = 0; curve = built })
-          built-curve a = λ hd g-is p-is. record {
+          built-curve a = λ here. record {
             sound = λ z. sound a;
-            takes = λ z. here hd g-is p-is ∙ by-below below ∙ by-free (square-free-test (m .p) (h .good .prime) g low .1 (subst (λ r. SquareFree (curve r)) record-is (free a))) ∙ ap taken (sym record-is);
+            takes = λ z. here ∙ by-below below ∙ by-free (square-free-test (m .p) (h .good .prime) g low .1 (subst (λ r. SquareFree (curve r)) record-is (free a))) ∙ ap taken (sym record-is);
             refuses = λ z. absurd (z refl);
           }
 
           pub repeated : (Free → ⊥) → CoefficientsIs s g m (record { number = 7; curve = built })
-          repeated n = λ hd g-is p-is. record {
+          repeated n = λ here. record {
             sound = λ z. absurd (omega arith);
             takes = λ z. absurd (omega arith);
-            refuses = λ z. here hd g-is p-is ∙ by-below below ∙ by-free (otherwise (square-free? (curve rule)) (λ e. n (free-back (by-rule (square-free-test (m .p) (h .good .prime) g low .0 e)))));
+            refuses = λ z. here ∙ by-below below ∙ by-free (otherwise (square-free? (curve rule)) (λ e. n (free-back (by-rule (square-free-test (m .p) (h .good .prime) g low .0 e)))));
           }

@@ -1,3 +1,2 @@
-pub mod Primes
 pub mod Coefficients
 pub mod Whole

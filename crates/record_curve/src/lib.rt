@@ -3,8 +3,8 @@ ghost use mathlib.Core.Path.{_≡_};
 ghost use Rattle.record_curve.specs.Read.{CurveIs, ToRead, CoefficientsIs};
 use curve::Curve;
 use field::Modulus;
-use field::ModulusRead;
 use field::Residue;
+use record_prime::PrimeRead;
 
 // The number is 0 where the curve was taken.
 pub struct CurveRead {
@@ -81,8 +81,8 @@ pub fn read_curve(s: &[u8]) -> CurveRead
     if number != 0 {
         return no_curve(number);
     }
-    match Modulus::read(big_endian::read64(s, 6)) {
-        ModulusRead::Modulo(m) => read_coefficients(s, big_endian::wide(s[5]) as usize, m),
-        ModulusRead::NoPrime => no_curve(refusals::PRIME),
+    match record_prime::read_prime(s) {
+        PrimeRead::Modulo(m) => read_coefficients(s, big_endian::wide(s[5]) as usize, m),
+        PrimeRead::Refused(n) => no_curve(n),
     }
 }

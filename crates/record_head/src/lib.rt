@@ -1,9 +1,9 @@
-// The first checks of a curve record, in the rules' order: its length, mark, version and g.
+// The first checks of a curve record, in the rules' order: its length, mark, version and g, then the length that its version asks.
 ghost use mathlib.Core.Path.{_≡_};
 ghost use Prim.Native.Nat.{_≤_};
 ghost use lib.ListN.{length};
-ghost use Rattle.rules.specs.Records.{marked?, genus?};
-ghost use Rattle.record_head.specs.Heads.{HeadIs};
+ghost use Rattle.rules.specs.Records.{marked?, genus?, version?, version-of};
+ghost use Rattle.record_head.specs.Heads.{Begun, HeadIs};
 use curve::Curve;
 
 fn marked(s: &[u8]) -> bool
@@ -18,6 +18,15 @@ fn marked(s: &[u8]) -> bool
     false
 }
 
+fn is_version(v: u64) -> bool
+    ensures { λ r. ⌜ r ≡ version? v ⌝ }
+{
+    if v == Curve::VERSION {
+        return true;
+    }
+    v == Curve::VERSION_WITNESSED
+}
+
 fn is_genus(g: u64) -> bool
     ensures { λ r. ⌜ r ≡ genus? g ⌝ }
 {
@@ -27,7 +36,41 @@ fn is_genus(g: u64) -> bool
     g == 3
 }
 
-// Refusals 1 to 4: the number, or 0.
+// Version 1: refusal 1, or 0.
+fn plain_length(s: &[u8]) -> u64
+    requires { ⌜ Begun (now s) × (version-of (now s) ≡ 1) ⌝ }
+    ensures { λ r. ⌜ HeadIs (now (s .entry)) r ⌝ }
+{
+    let g = big_endian::wide(s[5]) as usize;
+    if s.len() != 22 + 16 * g {
+        return refusals::CURVE_LENGTH;
+    }
+    0
+}
+
+// Version 2: 1 where the record ends before k, 18 where k isn't 1 to 15, 1 where the length isn't what k says, or 0.
+fn witness_length(s: &[u8]) -> u64
+    requires { ⌜ Begun (now s) × (version-of (now s) ≡ 1 → ⊥) ⌝ }
+    ensures { λ r. ⌜ HeadIs (now (s .entry)) r ⌝ }
+{
+    let g = big_endian::wide(s[5]) as usize;
+    if s.len() < 31 + 16 * g {
+        return refusals::CURVE_LENGTH;
+    }
+    let k = big_endian::wide(s[30 + 16 * g]) as usize;
+    if k < 1 {
+        return refusals::WITNESS;
+    }
+    if 15 < k {
+        return refusals::WITNESS;
+    }
+    if s.len() != 31 + 16 * g + 8 * k {
+        return refusals::CURVE_LENGTH;
+    }
+    0
+}
+
+// Refusals 1 to 4, and 18 for k: the number, or 0.
 pub fn head_number(s: &[u8]) -> u64
     ensures { λ r. ⌜ HeadIs (now (s .entry)) r ⌝ }
 {
@@ -37,15 +80,15 @@ pub fn head_number(s: &[u8]) -> u64
     if !marked(s) {
         return refusals::MARK;
     }
-    if big_endian::wide(s[3]) * 256 + big_endian::wide(s[4]) != Curve::VERSION {
+    let version = big_endian::wide(s[3]) * 256 + big_endian::wide(s[4]);
+    if !is_version(version) {
         return refusals::VERSION;
     }
-    let g = big_endian::wide(s[5]);
-    if !is_genus(g) {
+    if !is_genus(big_endian::wide(s[5])) {
         return refusals::GENUS;
     }
-    if s.len() != 22 + 16 * (g as usize) {
-        return refusals::CURVE_LENGTH;
+    if version == Curve::VERSION {
+        return plain_length(s);
     }
-    0
+    witness_length(s)
 }

@@ -33,6 +33,8 @@ pub const FILE_LENGTH: u64 = 16;
 
 pub const UNREADABLE: u64 = 17;
 
+pub const WITNESS: u64 = 18;
+
 pub const EMPTY_KEY: u64 = 19;
 
 // The most records of a batch or of a running total, as a length and as a count.

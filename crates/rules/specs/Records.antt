@@ -72,6 +72,9 @@ version (witnessed a l) = 2
 abbrev pub marked? : List ℕ → Bool
 marked? s = both (eqb (getD s 0 0) (getD mark 0 0)) (both (eqb (getD s 1 0) (getD mark 1 0)) (eqb (getD s 2 0) (getD mark 2 0)))
 
+abbrev pub version? : ℕ → Bool
+version? v = either (eqb v 1) (eqb v 2)
+
 abbrev pub genus? : ℕ → Bool
 genus? g = either (eqb g 2) (eqb g 3)
 
@@ -118,7 +121,7 @@ curve-checks s =
     let f : List ℕ = words s 14 (suc (c .g + c .g)) in
     (leb 6 (length s), 1, 0) ∷
     (marked? s, 2, 0) ∷
-    (either (eqb (version-of s) 1) (eqb (version-of s) 2), 3, 0) ∷
+    (version? (version-of s), 3, 0) ∷
     (genus? (c .g), 4, 0) ∷
     (choose (eqb (version-of s) 1) (unwitnessed-checks s) (witnessed-checks s) ++ (
     (below? (c .p) f, 6, 0) ∷
