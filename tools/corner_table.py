@@ -1,5 +1,6 @@
 """corner_table.py: document 01's "Street corners" as tables, line by line, and the records they speak of; corners.py runs them
-through the calls of the product, selfcheck.py holds reference.py to them. All is written out by hand from the document.
+through the calls of the product, selfcheck.py holds reference.py to them. All is written out by hand from the document, the
+witnesses and what breaks them from W-201.
 """
 from records import curve_record, divisor_record
 
@@ -43,9 +44,9 @@ def each_example(sums, doubles, multiples):
         take[kind](*row)
 
 
-def power_and_1(g, p):
-    """x^(2g+1) + 1 modulo p."""
-    return curve_record(g, p, [1] + [0] * (2 * g))
+def power_and_1(g, p, witness=None, **wrong):
+    """x^(2g+1) + 1 modulo p; with a witness in version 2."""
+    return curve_record(g, p, [1] + [0] * (2 * g), witness=witness, **wrong)
 
 
 # name, curve, the number that the curve is answered; 0 is accepted
@@ -132,4 +133,98 @@ FLIPPED = (
     ("own-opposite-once", CURVE_A, (X1_0, X_1, NEUTRAL), (0, 0)),
     ("own-opposite-twice", CURVE_A, (X1_0, X_1, X1_0), (1, 3)),
     ("neutral-twice", CURVE_A, (NEUTRAL, X1_0, NEUTRAL), (1, 3)),
+)
+
+# W-201: primes, and a base with the primes of p - 1
+LARGEST = 2**61 - 1
+BY_3, BY_5, BY_7 = (2, (2,)), (2, (2,)), (3, (2, 3))
+BY_VERSION_1S_LARGEST = (7, (2, 3, 7, 11, 31, 151, 331))  # 2^31 - 1
+BY_LARGEST = (37, (2, 3, 5, 7, 11, 13, 31, 41, 61, 151, 331, 1321))
+TWOS, BY_TWOS = 27 * 2**56 + 1, (5, (2, 3))
+FIFTEEN, BY_FIFTEEN = 693386350578511591, (14, (2, 3, 5, 7, 11, 13, 17, 19, 23, 29, 31, 37, 41, 43, 53))
+LISTS_2_31_LESS_1, BY_2_31_LESS_1 = 46 * (2**31 - 1) + 1, (2, (2, 23, 2**31 - 1))  # the largest prime that may be listed
+LISTS_MORE, BY_MORE = 30 * 2147483659 + 1, (2, (2, 3, 5, 2147483659))  # a prime above 2^31 must be
+SAFE, BY_SAFE = 2305843009213691579, (2, (2, 1152921504606845789))  # 2q + 1
+
+# Version 2: name, curve, number. Those that have 18 are a fault each, where it can stand alone.
+WITNESSED = (
+    ("p=3", power_and_1(2, 3, BY_3), 0),
+    ("p=3-genus-3", curve_record(3, 3, [1, 2, 0, 0, 0, 0, 0], witness=BY_3), 0),
+    ("p=5", curve_record(2, 5, [0, 4, 0, 0, 0], witness=BY_5), 0),
+    ("p=5-genus-3", power_and_1(3, 5, BY_5), 0),
+    ("p=7", power_and_1(2, 7, BY_7), 0),
+    ("p=7-genus-3", curve_record(3, 7, [1, 6, 0, 0, 0, 0, 0], witness=BY_7), 0),
+    ("x^5+1,p=5", power_and_1(2, 5, BY_5), 7),
+    ("x^7+1,p=7", power_and_1(3, 7, BY_7), 7),
+    ("f_4=7,p=7", curve_record(2, 7, [1, 0, 0, 0, 7], witness=BY_7), 6),
+    ("p=2^31-1", power_and_1(2, 2**31 - 1, BY_VERSION_1S_LARGEST), 0),
+    ("p=2^31-1-genus-3", power_and_1(3, 2**31 - 1, BY_VERSION_1S_LARGEST), 0),
+    ("p=2^61-1", power_and_1(2, LARGEST, BY_LARGEST), 0),
+    ("p=2^61-1-genus-3", power_and_1(3, LARGEST, BY_LARGEST), 0),
+    ("p=27*2^56+1", power_and_1(2, TWOS, BY_TWOS), 0),
+    ("p=27*2^56+1-genus-3", power_and_1(3, TWOS, BY_TWOS), 0),
+    ("k=15", power_and_1(2, FIFTEEN, BY_FIFTEEN), 0),
+    ("k=15-genus-3", power_and_1(3, FIFTEEN, BY_FIFTEEN), 0),
+    ("lists-2^31-1", power_and_1(2, LISTS_2_31_LESS_1, BY_2_31_LESS_1), 0),
+    ("version-1-p=2^61-1", power_and_1(2, LARGEST), 5),
+    ("version-3", power_and_1(2, 7, BY_7, version=3), 3),
+    ("version-1-with-a-witness", power_and_1(2, 7, BY_7, version=1), 1),
+    ("version-2-without", power_and_1(2, 7, version=2), 1),
+    ("base-0", power_and_1(2, 7, (0, (2, 3))), 18),
+    ("base-1", power_and_1(2, 7, (1, (2, 3))), 18),
+    ("base-p-1", power_and_1(2, 7, (6, (2, 3))), 18),
+    ("base-p", power_and_1(2, 7, (7, (2, 3))), 18),
+    ("base-p+3", power_and_1(2, 7, (10, (2, 3))), 18),  # 3 modulo p would do
+    ("base-2^64-1", power_and_1(2, 7, (2**64 - 1, (2, 3))), 18),
+    ("base-of-half-the-order", power_and_1(2, 7, (2, (2, 3))), 18),
+    ("base-1-of-3", power_and_1(2, 3, (1, (2,))), 18),
+    ("base-of-half-the-order-2^61-1", power_and_1(2, LARGEST, (37 * 37, BY_LARGEST[1])), 18),
+    ("without-2", power_and_1(2, 7, (3, (3,))), 18),
+    ("without-3", power_and_1(2, 7, (3, (2,))), 18),
+    ("without-1321", power_and_1(2, LARGEST, (37, BY_LARGEST[1][:-1])), 18),
+    ("lists-6", power_and_1(2, 7, (3, (6,))), 18),
+    ("lists-0", power_and_1(2, 7, (3, (0, 2, 3))), 18),
+    ("lists-1", power_and_1(2, 7, (3, (1, 2, 3))), 18),
+    ("lists-9", power_and_1(2, 19, (2, (2, 9))), 18),
+    ("lists-2047", power_and_1(2, 36847, (3, (2, 3, 2047))), 18),  # 36846 = 2·9·2047, 2047 = 23·89
+    ("lists-46337^2", power_and_1(2, 103061643313, (5, (2, 3, 46337**2))), 18),  # 48·46337² + 1
+    ("lists-4-and-2", power_and_1(2, 5, (2, (2, 4))), 18),
+    ("lists-5-of-7", power_and_1(2, 7, (3, (2, 3, 5))), 18),
+    ("lists-p", power_and_1(2, 7, (3, (2, 3, 7))), 18),
+    ("falling", power_and_1(2, 7, (3, (3, 2))), 18),
+    ("falling-at-the-end", power_and_1(2, LARGEST, (37, BY_LARGEST[1][:-2] + (1321, 331))), 18),
+    ("twice-2", power_and_1(2, 7, (3, (2, 2, 3))), 18),
+    ("twice-3", power_and_1(2, 7, (3, (2, 3, 3))), 18),
+    ("lists-a-prime-over-2^31", power_and_1(2, LISTS_MORE, BY_MORE), 18),
+    ("p=2q+1", power_and_1(2, SAFE, BY_SAFE), 18),
+    ("p=341", power_and_1(2, 341, (2, (2, 5, 17))), 18),
+    ("p=561", power_and_1(2, 561, (2, (2, 5, 7))), 18),
+    ("p=1105", power_and_1(2, 1105, (2, (2, 3, 23))), 18),
+    ("p=9", power_and_1(2, 9, (8, (2,))), 18),
+    ("p=2147483649", power_and_1(2, 2147483649, (2, (2,))), 18),  # 2^31 + 1, odd and in range
+    ("p=46337^2", power_and_1(2, 46337**2, (2, (2, 3, 181, 7723))), 18),
+    ("p=2^61-3", power_and_1(2, LARGEST - 2, (37, BY_LARGEST[1])), 18),
+    ("k=0", power_and_1(2, 7, (3, ())), 18),
+    ("k=0-p=2^61", power_and_1(2, 2**61, (37, ())), 18),
+    ("k=0-two-listed", power_and_1(2, 7, BY_7, k=0), 18),
+    ("k=16", power_and_1(2, FIFTEEN, (14, BY_FIFTEEN[1] + (59,))), 18),
+    ("k=16-no-list", power_and_1(2, 7, (3, ()), k=16), 18),
+    ("k=255", power_and_1(2, 7, BY_7, k=255), 18),
+    ("k=255-p=8", power_and_1(2, 8, BY_7, k=255), 18),
+    ("k=1-two-listed", power_and_1(2, 7, BY_7, k=1), 1),
+    ("k=3-two-listed", power_and_1(2, 7, BY_7, k=3), 1),
+    ("k=3-two-listed-p=8", power_and_1(2, 8, BY_7, k=3), 1),
+    ("ends-with-k", power_and_1(2, LARGEST, BY_LARGEST)[:63], 1),
+    ("ends-before-k", power_and_1(2, LARGEST, BY_LARGEST)[:62], 1),
+    ("ends-with-k-genus-3", power_and_1(3, LARGEST, BY_LARGEST)[:79], 1),
+    ("ends-before-k-genus-3", power_and_1(3, LARGEST, BY_LARGEST)[:78], 1),
+    ("ends-with-k=0", power_and_1(2, 7, (3, ()), k=0)[:63], 18),
+    ("p=0", power_and_1(2, 0, BY_7), 5),
+    ("p=1", power_and_1(2, 1, BY_7), 5),
+    ("p=2", power_and_1(2, 2, (1, (2,))), 5),
+    ("p=8", power_and_1(2, 8, BY_7), 5),
+    ("p=2^61", power_and_1(2, 2**61, BY_LARGEST), 5),
+    ("p=2^61+1", power_and_1(2, 2**61 + 1, BY_LARGEST), 5),
+    ("p=2^61+15", power_and_1(2, 2**61 + 15, BY_LARGEST), 5),  # the next prime
+    ("p=2^64-1", power_and_1(2, 2**64 - 1, BY_LARGEST), 5),
 )

@@ -3,7 +3,7 @@
 
     python3 tools/reference.py tally DIR    prints what the program prints for DIR's files `curve` and `batch`
 
-It was written from document 01 and, of document 02, W-205 and W-207, and shares no code with the product. Where the document leaves a choice (the flat
+It was written from document 01 and, of document 02, W-201, W-205, W-207 and W-208, and shares no code with the product. Where the document leaves a choice (the flat
 running total, the place in a double, an opposite or a multiple, the order of 16 and 17) it follows the project's settled
 readings, as the product does: on those the two agreeing says nothing about the reading. Headings in quotes are the document's own. Each public call is one
 function from the bytes lent to it to a pair: the answer's fields in the order of the call's answer, and the
@@ -15,8 +15,9 @@ from collections import namedtuple
 from functools import lru_cache
 
 MARK = b"HJC"
-VERSION = 1
-GREATEST_PRIME = 2147483647
+GREATEST_PRIME = {1: 2147483647, 2: 2**61 - 1}  # by the version of the curve record
+MOST_LISTED = 15  # primes of a witness
+LISTED_BELOW = 2**31
 MOST_RECORDS = 4096
 MOST_SCALAR_BYTES = 32
 MOST_FILE_BYTES = 65536
@@ -110,7 +111,9 @@ def derivative(a, p):
 # Curves and divisors as values
 # ---------------------------------------------------------------------------------------------------------
 
-Curve = namedtuple("Curve", "g p f")  # f with its leading 1, which the record doesn't store
+Witness = namedtuple("Witness", "a primes")  # W-201: the base, and the listed primes
+# f with its leading 1, which the record doesn't store; a record of version 2 has a witness, one of version 1 has None
+Curve = namedtuple("Curve", "g p f witness", defaults=(None,))
 Divisor = namedtuple("Divisor", "u v")  # u with its leading 1; v without zeros at the end
 
 NEUTRAL = Divisor(ONE, ZERO)  # "Weight 0 is the neutral divisor, u = 1, v = 0"
@@ -121,16 +124,40 @@ def weight(divisor):
 
 
 @lru_cache(maxsize=None)
-def is_odd_prime_in_range(p):
-    """ "an odd prime p, 3 ≤ p ≤ 2,147,483,647", by trial division."""
-    if p < 3 or p > GREATEST_PRIME or p % 2 == 0:
-        return False
-    trial = 3
-    while trial * trial <= p:
-        if p % trial == 0:
+def is_prime(n):
+    """By trial division: n is small enough for that."""
+    trial = 2
+    while trial * trial <= n:
+        if n % trial == 0:
             return False
-        trial += 2
-    return True
+        trial += 1
+    return n >= 2
+
+
+def is_odd_and_in_range(p, version):
+    """ "p is even, below 3 or above the limit" is 5, in both versions."""
+    return p % 2 == 1 and 3 <= p <= GREATEST_PRIME[version]
+
+
+@lru_cache(maxsize=None)
+def is_shown_prime(p, witness):
+    """W-201: "Accept p, whoever proposed the witness, when each listed number is a prime below 2^31, p - 1 is made up of powers of
+    just these, each of them dividing it, a^(p-1) is 1 and no a^((p-1)/q) is 1 modulo p"; a is "1 to p - 1", the primes "distinct"
+    and "in rising order"."""
+    a, primes = witness
+    if not 1 <= a <= p - 1:
+        return False
+    if not all(q < LISTED_BELOW and is_prime(q) for q in primes):
+        return False
+    if list(primes) != sorted(set(primes)):
+        return False
+    left = p - 1
+    for q in primes:
+        if left % q != 0:
+            return False
+        while left % q == 0:
+            left //= q
+    return left == 1 and pow(a, p - 1, p) == 1 and all(pow(a, (p - 1) // q, p) != 1 for q in primes)
 
 
 @lru_cache(maxsize=None)
@@ -270,20 +297,24 @@ def number_at(data, start):
 
 
 def read_curve(record):
-    """Order: "curve 1 (short), 2, 3, 4, 1 (exact), 5, 6, 7"."""
+    """Order: "curve 1 (short), 2, 3, 4, 1 (exact), 5, 6, 7"; what version 2 has in the place of 1 (exact) and 5, `read_witness` says."""
     if len(record) < 6:
         raise Refused(1)
     if record[0:3] != MARK:
         raise Refused(2)
-    if int.from_bytes(record[3:5], "big") != VERSION:
+    version = int.from_bytes(record[3:5], "big")
+    if version not in GREATEST_PRIME:
         raise Refused(3)
     g = record[5]
     if g not in (2, 3):
         raise Refused(4)
-    if len(record) != {2: 54, 3: 70}[g]:
+    end = {2: 54, 3: 70}[g]  # of the coefficients
+    p, witness = number_at(record, 6), None
+    if version == 2:
+        witness = read_witness(record, p, end)
+    elif len(record) != end:
         raise Refused(1)
-    p = number_at(record, 6)
-    if not is_odd_prime_in_range(p):
+    elif not (is_odd_and_in_range(p, version) and is_prime(p)):
         raise Refused(5)
     stored = [number_at(record, 14 + 8 * i) for i in range(2 * g + 1)]
     if any(c >= p for c in stored):
@@ -291,12 +322,36 @@ def read_curve(record):
     f = tuple(stored) + (1,)
     if has_repeated_factor(f, p):
         raise Refused(7)
-    return Curve(g, p, f)
+    return Curve(g, p, f, witness)
+
+
+def read_witness(record, p, start):
+    """W-201: "a base a (8 bytes, 1 to p - 1), a count k (1 byte, 1 to 15), and k distinct primes in rising order, 8 bytes each"; "k
+    outside 1 to 15 also gives 18, just before the exact length test, and a record that ends before k gives 1"; "a failed witness gives
+    the new refusal 18, after 5"."""
+    if len(record) < start + 9:
+        raise Refused(1)
+    k = record[start + 8]
+    if not 1 <= k <= MOST_LISTED:
+        raise Refused(18)
+    if len(record) != start + 9 + 8 * k:
+        raise Refused(1)
+    if not is_odd_and_in_range(p, 2):
+        raise Refused(5)
+    witness = Witness(number_at(record, start), tuple(number_at(record, start + 9 + 8 * i) for i in range(k)))
+    if not is_shown_prime(p, witness):
+        raise Refused(18)
+    return witness
 
 
 def write_curve(curve):
-    head = MARK + VERSION.to_bytes(2, "big") + bytes([curve.g]) + curve.p.to_bytes(8, "big")
-    return head + b"".join(c.to_bytes(8, "big") for c in curve.f[:-1])
+    version = 1 if curve.witness is None else 2
+    head = MARK + version.to_bytes(2, "big") + bytes([curve.g]) + curve.p.to_bytes(8, "big")
+    record = head + b"".join(c.to_bytes(8, "big") for c in curve.f[:-1])
+    if version == 2:
+        a, primes = curve.witness
+        record += a.to_bytes(8, "big") + bytes([len(primes)]) + b"".join(q.to_bytes(8, "big") for q in primes)
+    return record
 
 
 def read_front_divisor(curve, data, place, fits):

@@ -7,13 +7,15 @@ and against methods that share nothing with it: ideals.py for sums, point counts
 Whatever can't be had from document 01's examples is written out by hand here: no expected number below comes from reference.py itself.
 """
 import itertools
+import math
 import sys
 
 import ideals
 import reference as r
+import witnesses
 from corner_table import (
-    B_X_10, B_XXX_1, B_XXX_10, CASE_P, CASE_P_COUNT, CASE_P_REPEAT, CASE_P_TOTAL, CURVE_A, CURVE_B, CURVES, DIVISORS, KEYS, NEUTRAL,
-    SCALARS, X1_0, X6_3, X_1, X_6, XX6X, XX_1, XX_6, each_example,
+    B_X_10, B_XXX_1, B_XXX_10, BY_7, CASE_P, CASE_P_COUNT, CASE_P_REPEAT, CASE_P_TOTAL, CURVE_A, CURVE_B, CURVES, DIVISORS, KEYS,
+    BY_LARGEST, LARGEST, NEUTRAL, SCALARS, WITNESSED, X1_0, X6_3, X_1, X_6, XX6X, XX_1, XX_6, each_example,
 )  # fmt: skip
 from records import curve_record, divisor_record
 
@@ -72,7 +74,7 @@ def check_examples():
 
 def check_corners():
     """The refusals of "Street corners", each through every call that can give it."""
-    for name, curve, number in CURVES:
+    for name, curve, number in CURVES + WITNESSED:
         expect(name, r.check_curve(curve), ((number, 0, 0), None))
         if number == 0:
             expect_written(name, lambda out: r.rewrite_curve(curve, out), curve)
@@ -146,6 +148,27 @@ def check_order():
         (6, curve_record(2, 7, bad_f)),
         (7, curve_record(2, 7, [0, 0, 0, 0, 0])),
     ]
+    # version 2: k of 16, a record too long, 8 for p, 3 for a base where 4 listed is wrong, all at once, and mended one after the other
+    base_4 = (3, (2, 4))
+    ladder += [
+        (2, curve_record(9, 8, bad_f, mark=b"XYZ", version=3, witness=base_4, k=16)[:62]),
+        (3, curve_record(9, 8, bad_f, version=3, witness=base_4, k=16)[:62]),
+        (4, curve_record(9, 8, bad_f, witness=base_4, k=16)[:62]),
+        (1, curve_record(2, 8, [8, 0, 0, 0, 0], witness=base_4, k=16)[:62]),
+        (18, curve_record(2, 8, [8, 0, 0, 0, 0], witness=base_4, k=16)[:63]),
+        (18, curve_record(2, 8, [8, 0, 0, 0, 0], witness=base_4, k=16)),
+        (18, curve_record(2, 8, [8, 0, 0, 0, 0], witness=base_4, k=0) + b"\0"),
+        (1, curve_record(2, 8, [8, 0, 0, 0, 0], witness=base_4) + b"\0"),
+        (1, curve_record(2, 8, [8, 0, 0, 0, 0], witness=base_4)[:-1]),
+        (1, curve_record(3, 8, [8, 0, 0, 0, 0, 0, 0], witness=base_4, k=3)),
+        (5, curve_record(2, 8, [8, 0, 0, 0, 0], witness=base_4)),
+        (5, curve_record(3, 2**61, [0] * 7, witness=(0, (9,) * 15))),
+        (18, curve_record(2, 7, bad_f, witness=base_4)),
+        (18, curve_record(2, 9, [9, 0, 0, 0, 0], witness=(8, (2,)))),
+        (18, curve_record(2, 7, [0, 0, 0, 0, 0], witness=(3, (3, 2)))),
+        (6, curve_record(2, 7, bad_f, witness=BY_7)),
+        (7, curve_record(2, 7, [0, 0, 0, 0, 0], witness=BY_7)),
+    ]
     wrong_divisors = [
         (8, b""),
         (9, b"\3" + (7).to_bytes(8, "big") * 3),
@@ -179,6 +202,33 @@ def check_order():
         expect("before 13", r.rewrite_divisor(CURVE_A, wrong, b""), ((number, 1, 0), b""))
         expect("15 first", r.scan(bad_total, CURVE_A, wrong), ((15, 0, 0) + bad_total, None))
         expect("14 first", r.scan(full_total, CURVE_A, wrong), ((14, 0, 0) + full_total, None))
+
+
+def check_witnesses():
+    """No odd composite below 3,000 has an accepted witness. Only the primes of n - 1 can be its list: any other has a number that isn't a
+    prime or doesn't divide n - 1, or leaves something of n - 1, as the small numbers show with every list of up to three. A prime has as
+    many good bases as there are numbers prime to p - 1 below it."""
+    for n in range(3, 3000, 2):
+        primes = witnesses.primes_of(n - 1)
+        good = sum(r.is_shown_prime.__wrapped__(n, (a, primes)) for a in range(n + 2))
+        wanted = 0 if witnesses.is_composite(n) else sum(1 for a in range(1, n) if math.gcd(a, n - 1) == 1)
+        expect("good bases for %d" % n, good, wanted)
+    for n in range(3, 16, 2):
+        for length in range(4):
+            for primes in itertools.product(range(n + 1), repeat=length):
+                if primes != witnesses.primes_of(n - 1):
+                    good = [a for a in range(2 * n) if r.is_shown_prime.__wrapped__(n, (a, primes))]
+                    expect("%d by %s" % (n, primes), good, [])
+    for p in (3, 5, 7, 11, 19, 31, 36847, LARGEST):
+        a, primes = BY_LARGEST if p == LARGEST else witnesses.witness_of(p)
+        changed = [primes[:i] + (q,) + primes[j:] for i in range(len(primes) + 1) for j in (i, i + 1) for q in (0, 1, 2, 3, 9, p, 2**31)]
+        for base, listed in itertools.product((0, 1, a, a * a % p, p - 1, p, p + a), changed + [primes, primes[:-1], primes[1:]]):
+            right = not witnesses.faults_of(p, base, listed)
+            expect("%d by %d and %s" % (p, base, listed), r.is_shown_prime(p, (base, listed)), right)
+    for n in (561, 1105, 1729, 2465, 2821, 6601, 8911):  # Carmichael's
+        liars = [a for a in range(1, n) if math.gcd(a, n) == 1]
+        expect("liars of %d" % n, all(pow(a, n - 1, n) == 1 for a in liars), True)
+        expect("furthest for %d" % n, r.is_shown_prime(n, witnesses.furthest(n)), False)
 
 
 def check_batches():
@@ -463,8 +513,10 @@ def check_large_curves():
         (2, 65537, [3, 1, 4, 1, 5]),
         (3, 11, [1, 0, 0, 0, 0, 0, 0]),
         (3, 13, [2, 7, 1, 8, 2, 8, 1]),
+        (2, LARGEST, [LARGEST - 1] * 5),
+        (3, LARGEST, [LARGEST - 1] * 7),
     ):
-        curve = r.read_curve(curve_record(g, p, stored))
+        curve = r.read_curve(curve_record(g, p, stored, witness=BY_LARGEST if p == LARGEST else None))
         points, x = [], 0
         while len(points) < 4 and x < p:
             value = sum(c * pow(x, i, p) for i, c in enumerate(curve.f)) % p
@@ -490,6 +542,7 @@ def main():
         check_examples,
         check_corners,
         check_order,
+        check_witnesses,
         check_batches,
         check_running_totals,
         check_program,

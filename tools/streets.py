@@ -18,7 +18,7 @@ CASE_P = X_1 + X6_3 + X_1
 
 def points(curve, start=1):
     """Records of weight 1 on a curve of the largest prime, by growing x: -(x - x0) is x + (p - x0)."""
-    g, p, f = reference.read_curve(curve)
+    _, p, f, _ = reference.read_curve(curve)
     x = start
     while True:
         square = sum(c * pow(x, i, p) for i, c in enumerate(f)) % p
