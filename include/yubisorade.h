@@ -2,7 +2,8 @@
  * yubisorade.h: arithmetic of divisors on hyperelliptic curves, for electricity meters.
  *
  * Curves are y^2 = f(x), of genus g = 2 or 3, f monic of degree 2g + 1 without a repeated factor, over the whole numbers
- * modulo an odd prime p, 3 <= p <= 2147483647. A meter's key is a divisor on such a curve.
+ * modulo an odd prime p, 3 <= p <= 2147483647, or p <= 2^61 - 1 where the curve's record has a witness that p is prime. A
+ * meter's key is a divisor on such a curve.
  *
  * LINKING
  *   `rt staticlib tablet` proves the library and writes target/staticlib/libtablet.a, for x86-64 Linux. It needs
@@ -11,6 +12,12 @@
  * RECORDS (all numbers big-endian)
  *   curve     'H' 'J' 'C', version 1 in 2 bytes, g in 1 byte, p in 8 bytes, f_0 to f_2g in 8 bytes each; f's leading 1
  *             isn't stored. 54 bytes for g = 2, 70 for g = 3.
+ *             Version 2 has 2 for its version, and a witness behind the coefficients: a base a in 8 bytes, a count k in 1 byte,
+ *             1 to 15, and k primes in 8 bytes each. 63 + 8k bytes for g = 2, 79 + 8k for g = 3. The witness shows p prime,
+ *             whoever proposed it: 1 <= a < p; the primes are below 2^31, rise, and are just those that divide p - 1;
+ *             a^(p-1) is 1 modulo p, and no a^((p-1)/q) is, q a listed prime. One for p = 2^61 - 1 is a = 37, k = 12 and 2, 3,
+ *             5, 7, 11, 13, 31, 41, 61, 151, 331, 1321. A prime p can't be shown so where p - 1 has a prime of 2^31 or more.
+ *             Every call takes both versions.
  *   divisor   weight w in 1 byte, u_0 to u_(w-1), v_0 to v_(w-1) in 8 bytes each: 1 + 16w bytes, w <= g. u is monic of
  *             degree w, v has a smaller degree, and u divides f - v^2. The single byte 00 is the neutral divisor.
  *   scalar    0 to 32 bytes, unsigned. No bytes mean 0; leading zeros are allowed.
@@ -24,8 +31,8 @@
  *
  * ROOM THAT ALWAYS SUFFICES for an output
  *   a divisor  33 bytes for g = 2, 49 for g = 3 (YUBI_DIVISOR_ROOM)
- *   a curve    54 bytes for g = 2, 70 for g = 3 (YUBI_CURVE_ROOM)
- *   A smaller output does where the result is shorter: 1 + 16w bytes for weight w.
+ *   a curve    54 bytes for g = 2, 70 for g = 3 in version 1; 183 and 199 in version 2 (YUBI_CURVE_ROOM)
+ *   A smaller output does where the result is shorter: 1 + 16w bytes for weight w, a curve as long as it was given.
  *
  * STACK
  *   yubi_first_repeat keeps 4096 divisors of 56 bytes and a copy of them on the stack, 459 KB: leave it 1 MB, and don't
@@ -40,11 +47,13 @@
  *   no.  given exactly when                                     what a crew should do
  *    0   done                                                   go on
  *    1   the curve record is shorter than 6 bytes, or isn't 54  load the curve file again: it is cut, or something was
- *        or 70 bytes as its g says                              added to it
+ *        or 70 bytes as its g says; in version 2, ends before   added to it
+ *        k, or isn't 63 + 8k or 79 + 8k bytes
  *    2   the mark isn't HJC                                     load the right file: this one isn't a curve
- *    3   the version isn't 1                                    ask for a curve in version 1, or a newer tablet
+ *    3   the version isn't 1 or 2                               ask for a curve in version 1 or 2, or a newer tablet
  *    4   g isn't 2 or 3                                         report the curve to the office: wrong genus
- *    5   p isn't an odd prime from 3 to 2147483647              report the curve to the office: wrong prime
+ *    5   p isn't an odd prime from 3 to 2147483647; in version  report the curve to the office: wrong prime
+ *        2, p is even, below 3 or above 2^61 - 1
  *    6   some f_i is p or more                                  report the curve to the office: damaged or wrongly made
  *    7   f has a repeated factor                                report the curve to the office: unfit for meters
  *    8   a divisor record is empty, or not 1 + 16w bytes (in a  scan that meter again: the record is cut, or too long
@@ -62,12 +71,15 @@
  *        or isn't valid on this curve, or its count is over     damaged, or the curve was changed under it
  *        4096 (here also: weight above g, or an unused
  *        coefficient that isn't 0)
+ *   18   in version 2: k isn't 1 to 15, or the witness doesn't  don't use the curve: p isn't shown to be prime. Load the
+ *        show p prime, whatever p is                            curve file again; if it stays, ask the office for a curve
+ *                                                               with a right witness
  *   19   the divisor given or its multiple is neutral, in       don't commission the meter: its key would be empty. Ask
  *        yubi_multiply or yubi_multiply_inversion_free          the office for a new key
  *
- *   Where several would fit, the first in this order is given: the curve's 1 (under 6 bytes), 2, 3, 4, 1, 5, 6, 7; for a
- *   scan 15, 14; then the divisors from first to last, each 8 (empty), 9, 8 (length), 10, 11; then 12; then 19;
- *   then 13.
+ *   Where several would fit, the first in this order is given: the curve's 1 (under 6 bytes), 2, 3, 4, then in version 1 1, 5,
+ *   and in version 2 1 (ends before k), 18 (k), 1, 5, 18, then in both 6, 7; for a scan 15, 14; then the divisors from first to
+ *   last, each 8 (empty), 9, 8 (length), 10, 11; then 12; then 19; then 13.
  */
 #ifndef YUBISORADE_H
 #define YUBISORADE_H
@@ -81,7 +93,7 @@ extern "C" {
 
 /* Bytes that hold any divisor record, any curve record, the longest scalar. */
 #define YUBI_DIVISOR_ROOM 49
-#define YUBI_CURVE_ROOM 70
+#define YUBI_CURVE_ROOM 199
 #define YUBI_SCALAR_ROOM 32
 
 /* The most records of a batch, and the largest count of a running total. */
@@ -141,13 +153,14 @@ typedef struct YubiScanned {
     YubiRunning total; /* the total after the scan; as it was given where the number isn't 0 */
 } YubiScanned;
 
-/* Checks a curve record: 0 to 7. Writes nothing. */
+/* Checks a curve record: 0 to 7, 18. Writes nothing. The calls below check their curve too, and may answer 18 for it. */
 YubiAnswer yubi_check_curve(const uint8_t *curve, size_t curve_length);
 
 /* Checks a divisor record on a curve: 0 to 11. Writes nothing. */
 YubiAnswer yubi_check_divisor(const uint8_t *curve, size_t curve_length, const uint8_t *divisor, size_t divisor_length);
 
-/* Checks a curve record and writes it to out: 0 to 7, 13. A good record has one form, so the bytes are those given. */
+/* Checks a curve record and writes it to out: 0 to 7, 13. A good record has one form, so the bytes are those given, the witness
+ * among them. */
 YubiAnswer yubi_rewrite_curve(const uint8_t *curve, size_t curve_length, uint8_t *out, size_t out_length);
 
 /* Checks a divisor record and writes it to out: 0 to 11, 13. */

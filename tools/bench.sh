@@ -4,8 +4,10 @@
 #     bash tools/bench.sh [RUNS]        (15 where left out)
 #
 # looks at the library's product of residues, and exits 1 where the compiler didn't make one multiplication of each product of
-# words; builds both into one program and prints, for genus 2, genus 3 with f_6 = 0 and genus 3 with another f_6, the median
-# time of a batch total of 4,096 records, of a 256-bit multiple and of the search for a repeat among 4,096 different meters, and the ratio. Then it counts the instructions of
+# words; builds both into one program and prints, for genus 2, genus 3 with f_6 = 0 and genus 3 with another f_6 at p = 2^31 - 1, and for the
+# first two at p = 2^61 - 1, in records of version 2, the median
+# time of a batch total of 4,096 records, of a 256-bit multiple, of the search for a repeat among 4,096 different meters and of the check of
+# the curve record alone, and the ratio. Then it counts the instructions of
 # each, exactly, by Debian's qemu-user or by valgrind, whichever is there. Under an emulator times say nothing but their ratio.
 set -eu
 cd "$(dirname "$0")/.."
@@ -84,8 +86,9 @@ fi
 
 say "instructions, by $counter: two runs that differ in one round"
 declare -A names=([2]="genus 2" [3]="genus 3, f_6 = 0" [3-f6]="genus 3, f_6 ≠ 0")
-for curve in 2 3 3-f6; do
-    for work in total multiple repeat; do
+names+=([2-61]="genus 2, 2^61 - 1" [3-61]="genus 3, f_6 = 0, 2^61 - 1")
+for curve in 2 3 3-f6 2-61 3-61; do
+    for work in total multiple repeat check; do
         counts=()
         for engine in proved plain; do
             one=$(instructions $engine $work $curve 1)
@@ -96,6 +99,6 @@ for curve in 2 3 3-f6; do
             counts+=($((two - one)))
         done
         ratio=$(awk -v proved="${counts[0]}" -v plain="${counts[1]}" 'BEGIN { printf "%.2f", proved / plain }')
-        printf '%-16s %-8s  proved %12d   plain %12d   ratio %s\n' "${names[$curve]}" $work "${counts[@]}" "$ratio"
+        printf '%-26s %-8s  proved %12d   plain %12d   ratio %s\n' "${names[$curve]}" $work "${counts[@]}" "$ratio"
     done
 done

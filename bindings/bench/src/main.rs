@@ -3,16 +3,20 @@
 //!     bench [RUNS]                        medians of RUNS runs (15) of each work and engine, and their ratio
 //!     bench count ENGINE WORK CURVE N     does a work N times and prints nothing, for a counter of instructions
 //!
-//! ENGINE is `proved` or `plain`, WORK is `total` (a batch of 4,096 records), `multiple` (a 256-bit scalar) or `repeat` (the first repeat
-//! among 4,096 different meters), CURVE is `2` for genus
-//! 2, `3` for genus 3 with f_6 = 0, or `3-f6` for genus 3 with another f_6; p is 2,147,483,647. Every call checks its curve and its records, in both engines. A program that was built without
+//! ENGINE is `proved` or `plain`, WORK is `total` (a batch of 4,096 records), `multiple` (a 256-bit scalar), `repeat` (the first repeat
+//! among 4,096 different meters) or `check` (the curve record alone), CURVE is `2` for genus
+//! 2, `3` for genus 3 with f_6 = 0, or `3-f6` for genus 3 with another f_6, p = 2,147,483,647 in records of version 1; `2-61` and `3-61` are the
+//! first two at p = 2^61 - 1, in records of version 2 with their witness. Every call checks its curve and its records, in both engines. A program
+//! that was built without
 //! the library times plain against plain. Exit 1 where the engines' results differ, 2 on wrong arguments.
 
 use std::process::exit;
 use std::time::Instant;
 
-const P: u64 = 2_147_483_647;
 const RECORDS: usize = 4096;
+
+/// Curve to number.
+type Check = fn(&[u8]) -> u64;
 
 /// Curve, batch and output to number and length.
 type Total = fn(&[u8], &[u8], &mut [u8]) -> (u64, u64);
@@ -29,6 +33,7 @@ struct Engine {
     total: Total,
     multiple: Multiple,
     repeat: Repeat,
+    check: Check,
 }
 
 const PLAIN: Engine = Engine {
@@ -45,6 +50,7 @@ const PLAIN: Engine = Engine {
         let answer = plain::first_repeat(curve, batch);
         (answer.number, answer.first, answer.second)
     },
+    check: |curve| plain::check_curve(curve).number,
 };
 
 #[cfg(feature = "proved")]
@@ -62,6 +68,7 @@ const PROVED: Engine = Engine {
         let answer = yubisorade::raw::first_repeat(curve, batch);
         (answer.number, answer.first, answer.second)
     },
+    check: |curve| yubisorade::raw::check_curve(curve).number,
 };
 #[cfg(not(feature = "proved"))]
 const PROVED: Engine = Engine { name: "plain (no library)", ..PLAIN };
@@ -71,16 +78,18 @@ enum Work {
     Total,
     Multiple,
     Repeat,
+    Check,
 }
 
 impl Work {
-    const ALL: [Work; 3] = [Work::Total, Work::Multiple, Work::Repeat];
+    const ALL: [Work; 4] = [Work::Total, Work::Multiple, Work::Repeat, Work::Check];
 
     fn name(self) -> &'static str {
         match self {
             Work::Total => "total",
             Work::Multiple => "multiple",
             Work::Repeat => "repeat",
+            Work::Check => "check",
         }
     }
 }
@@ -92,12 +101,31 @@ struct On {
     name: &'static str,
     genus: u8,
     f_2g: bool,
+    modulo: &'static Modulus,
 }
 
-const CURVES: [On; 3] = [
-    On { key: "2", name: "genus 2", genus: 2, f_2g: true },
-    On { key: "3", name: "genus 3, f_6 = 0", genus: 3, f_2g: false },
-    On { key: "3-f6", name: "genus 3, f_6 ≠ 0", genus: 3, f_2g: true },
+/// A prime, and with a record of version 2 the base and the primes that show it.
+struct Modulus {
+    p: u64,
+    witness: Option<(u64, &'static [u64])>,
+    /// The coefficients are multiples of this, far from 0.
+    step: u64,
+}
+
+const P31: Modulus = Modulus { p: 2_147_483_647, witness: None, step: 1_234_567_891 };
+
+const P61: Modulus = Modulus {
+    p: 2_305_843_009_213_693_951,
+    witness: Some((37, &[2, 3, 5, 7, 11, 13, 31, 41, 61, 151, 331, 1321])),
+    step: 1_234_567_891_234_567_891,
+};
+
+const CURVES: [On; 5] = [
+    On { key: "2", name: "genus 2", genus: 2, f_2g: true, modulo: &P31 },
+    On { key: "3", name: "genus 3, f_6 = 0", genus: 3, f_2g: false, modulo: &P31 },
+    On { key: "3-f6", name: "genus 3, f_6 ≠ 0", genus: 3, f_2g: true, modulo: &P31 },
+    On { key: "2-61", name: "genus 2, 2^61 - 1", genus: 2, f_2g: true, modulo: &P61 },
+    On { key: "3-61", name: "genus 3, f_6 = 0, 2^61 - 1", genus: 3, f_2g: false, modulo: &P61 },
 ];
 
 /// What both engines work on.
@@ -113,16 +141,22 @@ impl Input {
     /// of full weight.
     fn new(on: On) -> Input {
         let genus = on.genus;
-        let mut curve = vec![b'H', b'J', b'C', 0, 1, genus];
-        curve.extend_from_slice(&P.to_be_bytes());
+        let Modulus { p, witness, step } = *on.modulo;
+        let mut curve = vec![b'H', b'J', b'C', 0, if witness.is_some() { 2 } else { 1 }, genus];
+        curve.extend_from_slice(&p.to_be_bytes());
         // f_0 = 4, so that (x, 2) is on the curve; the others are far from 0.
         for i in 0..=2 * u64::from(genus) {
             let f = match i {
                 0 => 4,
                 i if i == 2 * u64::from(genus) && !on.f_2g => 0,
-                i => i * 1_234_567_891 % P,
+                i => i * step % p,
             };
             curve.extend_from_slice(&f.to_be_bytes());
+        }
+        if let Some((base, primes)) = witness {
+            curve.extend_from_slice(&base.to_be_bytes());
+            curve.push(primes.len() as u8);
+            curve.extend(primes.iter().flat_map(|q| q.to_be_bytes()));
         }
         let mut point = vec![1];
         point.extend_from_slice(&0u64.to_be_bytes());
@@ -161,6 +195,7 @@ impl Input {
                 out[8..16].copy_from_slice(&second.to_be_bytes());
                 (number, 16)
             }
+            Work::Check => ((engine.check)(&self.curve), 0),
         };
         if number != 0 {
             eprintln!("{} {} was refused: {}", engine.name, work.name(), number);
@@ -171,7 +206,7 @@ impl Input {
 }
 
 fn usage() -> ! {
-    eprintln!("usage: bench [RUNS]\n       bench count proved|plain total|multiple|repeat 2|3|3-f6 N");
+    eprintln!("usage: bench [RUNS]\n       bench count proved|plain total|multiple|repeat|check 2|3|3-f6|2-61|3-61 N");
     exit(2)
 }
 
@@ -201,7 +236,7 @@ fn main() {
 
 /// Runs the engines in turn, so that a slow moment of the machine hits both.
 fn compare(runs: usize) {
-    println!("p = {}, medians of {} runs, the curve check included", P, runs);
+    println!("p = {} where not said, medians of {} runs, the curve check included", P31.p, runs);
     for on in CURVES {
         let input = Input::new(on);
         for work in Work::ALL {
@@ -220,7 +255,7 @@ fn compare(runs: usize) {
             }
             let [proved, plain] = times.map(median);
             println!(
-                "{:16} {:8}  {} {:10.1} us   {} {:10.1} us   ratio {:.2}",
+                "{:26} {:8}  {} {:10.1} us   {} {:10.1} us   ratio {:.2}",
                 on.name,
                 work.name(),
                 PROVED.name,

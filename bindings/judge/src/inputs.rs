@@ -35,7 +35,7 @@ impl Rng {
 }
 
 /// Numbers modulo p, and polynomials as lists from the constant term up: as simple as can be, for making inputs only.
-mod simple {
+pub mod simple {
     pub fn mul(a: u64, b: u64, p: u64) -> u64 {
         (a as u128 * b as u128 % p as u128) as u64
     }
@@ -116,10 +116,74 @@ mod simple {
     }
 }
 
-pub fn curve_record(genus: u8, p: u64, f: &[u64]) -> Vec<u8> {
-    let mut bytes = vec![b'H', b'J', b'C', 0, 1, genus];
+/// What shows p prime in a record of version 2: a base, and the primes of p - 1.
+#[derive(Clone, Debug)]
+pub struct Witness {
+    pub base: u64,
+    pub primes: Vec<u64>,
+}
+
+impl Witness {
+    /// The least base that does; p is an odd prime, and p - 1 has at most one prime that is large.
+    pub fn of(p: u64) -> Witness {
+        let (mut rest, mut primes) = (p - 1, Vec::new());
+        for q in 2.. {
+            if q * q > rest {
+                break;
+            }
+            if rest % q == 0 {
+                primes.push(q);
+            }
+            while rest % q == 0 {
+                rest /= q;
+            }
+        }
+        if rest > 1 {
+            primes.push(rest);
+        }
+        Witness { base: 2, primes }.with_a_good_base(p).expect("a prime has one")
+    }
+
+    /// The same primes with the least base that shows p prime, if it is below 300.
+    pub fn with_a_good_base(self, p: u64) -> Option<Witness> {
+        let power = |a, q| simple::pow(a, (p - 1) / q, p);
+        let shows = |&a: &u64| power(a, 1) == 1 && self.primes.iter().all(|&q| power(a, q) != 1);
+        (2..p.min(300)).find(shows).map(|base| Witness { base, ..self })
+    }
+
+    /// An odd number of any size up to 2^61 - 1, the primes of one less, and 2 for a base. Numbers that Fermat's test lets through are well
+    /// represented.
+    pub fn drawn(rng: &mut Rng) -> (u64, Witness) {
+        loop {
+            let most = 1 << (3 + rng.below(59));
+            let (mut less, mut primes) = (2, vec![2]);
+            while primes.len() < 15 {
+                let q = *rng.pick(&[2, 2, 3, 5, 7, 11, 13, 17, 19, 23, 29, 31, 37, 41, 43, 47, 331, 1321, 65_537]);
+                if less >= most / q {
+                    break;
+                }
+                less *= q;
+                primes.push(q);
+            }
+            primes.sort_unstable();
+            primes.dedup();
+            if rng.one_in(3) || simple::pow(2, less, less + 1) == 1 {
+                return (less + 1, Witness { base: 2, primes });
+            }
+        }
+    }
+}
+
+/// A curve record: of version 1, or with a witness of version 2.
+pub fn curve_record(genus: u8, p: u64, f: &[u64], witness: Option<&Witness>) -> Vec<u8> {
+    let mut bytes = vec![b'H', b'J', b'C', 0, if witness.is_some() { 2 } else { 1 }, genus];
     for number in std::iter::once(&p).chain(f) {
         bytes.extend_from_slice(&number.to_be_bytes());
+    }
+    if let Some(Witness { base, primes }) = witness {
+        bytes.extend_from_slice(&base.to_be_bytes());
+        bytes.push(primes.len() as u8);
+        bytes.extend(primes.iter().flat_map(|q| q.to_be_bytes()));
     }
     bytes
 }
@@ -166,6 +230,8 @@ pub struct Sample {
     pub genus: usize,
     pub p: u64,
     pub f: Vec<u64>,
+    /// In a record of version 2.
+    pub witness: Option<Witness>,
     pub curve: Vec<u8>,
     /// Good divisor records: the neutral one first, then points, points with y = 0, opposites, sums and multiples.
     pub pool: Vec<Vec<u8>>,
@@ -174,8 +240,12 @@ pub struct Sample {
 /// Where a prime is this small, all divisors of weight 2 are looked at.
 const SMALL: u64 = 13;
 
+/// The largest prime of version 1.
+const VERSION_1: u64 = 2_147_483_647;
+
 impl Sample {
-    /// A curve of this genus and prime with its pool; f_2g = 0 one time in three.
+    /// A curve of this genus and prime with its pool; f_2g = 0 one time in three. Its record is of version 2 where version 1 doesn't have the
+    /// prime, and one time in three where it does.
     pub fn new(rng: &mut Rng, genus: usize, p: u64) -> Sample {
         Sample::drawn(rng, genus, p, |rng, f_2g| if rng.one_in(3) { 0 } else { f_2g })
     }
@@ -194,9 +264,10 @@ impl Sample {
             if !rng.one_in(4) {
                 f[0] = (f[0] + p - monic_value(&f, zero, p)) % p;
             }
-            let curve = curve_record(genus as u8, p, &f);
+            let witness = if p > VERSION_1 || rng.one_in(3) { Some(Witness::of(p)) } else { None };
+            let curve = curve_record(genus as u8, p, &f, witness.as_ref());
             if plain::check_curve(&curve).number == 0 {
-                let mut sample = Sample { genus, p, f, curve, pool: vec![vec![0]] };
+                let mut sample = Sample { genus, p, f, witness, curve, pool: vec![vec![0]] };
                 sample.fill(rng, zero);
                 return sample;
             }
@@ -257,8 +328,8 @@ impl Sample {
         written(|out| plain::opposite(&self.curve, a, out).length)
     }
 
-    /// The record of a curve whose f has a double root.
-    pub fn with_double_root(&self, rng: &mut Rng) -> Vec<u8> {
+    /// An f with a double root: its coefficients without the leading 1.
+    pub fn with_double_root(&self, rng: &mut Rng) -> Vec<u64> {
         let (p, r) = (self.p, rng.below(self.p));
         // (x - r)² times something monic of degree 2g - 1, one factor after the other.
         let mut f: Vec<u64> = (0..2 * self.genus - 1).map(|_| rng.below(p)).collect();
@@ -269,7 +340,8 @@ impl Sample {
                 f[i] = (f[i] + p - simple::mul(r, f[i + 1], p)) % p;
             }
         }
-        curve_record(self.genus as u8, p, &f[..=2 * self.genus])
+        f.truncate(2 * self.genus + 1);
+        f
     }
 
     pub fn f_2g_is_set(&self) -> bool {

@@ -6,7 +6,7 @@
 //! runs at least COUNT calls that SEED decides. `--self` puts plain against plain, to try the judge itself. `--sums` has
 //! sums and doubles at small primes alone, half of them special to an explicit formula. `--multiples` has multiples alone, by
 //! both multiply calls: by every scalar to 300 of every divisor on small curves, and COUNT by scalars of 32 bytes at the
-//! largest prime. Exit 1 on any difference, 2 on wrong arguments.
+//! largest prime of each version of the curve record. Exit 1 on any difference, 2 on wrong arguments.
 
 mod engine;
 mod inputs;

@@ -7,7 +7,7 @@ use crate::judge::Judge;
 const SMALL: [(usize, u64); 6] = [(2, 3), (2, 5), (2, 7), (2, 11), (3, 3), (3, 5)];
 const CURVES: usize = 2;
 const MOST_SCALAR: u16 = 300;
-const LARGE: u64 = 2_147_483_647;
+const LARGE: [u64; 2] = [2_147_483_647, (1 << 61) - 1];
 const ROOM: usize = 49;
 
 /// Every divisor of small curves by every scalar to 300; then `count` multiples by scalars of 32 bytes.
@@ -29,7 +29,8 @@ pub fn run(judge: &mut Judge, count: u64) {
     }
     let before = judge.tally.twins;
     for round in 0..count {
-        let sample = Sample::new(&mut judge.rng, if round % 8 == 7 { 3 } else { 2 }, LARGE);
+        let p = LARGE[round as usize / 8 % 2];
+        let sample = Sample::new(&mut judge.rng, if round % 8 == 7 { 3 } else { 2 }, p);
         let a = sample.any(&mut judge.rng).to_vec();
         let mut scalar = judge.rng.bytes(32);
         // The largest of all; the largest with 256 signed digits, and the least with 257.
@@ -41,7 +42,7 @@ pub fn run(judge: &mut Judge, count: u64) {
         }
         judge.put(Call::Multiply { curve: &sample.curve, a: &a, scalar: &scalar }, ROOM);
     }
-    println!("p {}: {} multiples by scalars of 32 bytes", LARGE, judge.tally.twins - before);
+    println!("p {:?}: {} multiples by scalars of 32 bytes", LARGE, judge.tally.twins - before);
 }
 
 /// The neutral divisor, then all of each weight: a brute search.
@@ -86,7 +87,8 @@ mod tests {
     /// Also where both engines are wrong in the same way: the two calls differ.
     #[test]
     fn a_wrong_second_call_shows() {
-        let engines: [(&dyn Engine, &dyn Engine, u64); 3] = [(&Plain, &Plain, 0), (&Wrong, &Plain, 2), (&Wrong, &Wrong, 2)];
+        let engines: [(&dyn Engine, &dyn Engine, u64); 3] =
+            [(&Plain, &Plain, 0), (&Wrong, &Plain, 2), (&Wrong, &Wrong, 2)];
         for (first, second, differences) in engines {
             let mut judge = Judge::new(first, second, 1, true);
             let sample = Sample::new(&mut Rng::new(1), 2, 7);
@@ -101,8 +103,8 @@ mod tests {
     /// y² = x^5 + 1 modulo 7 has 50 divisors.
     #[test]
     fn every_divisor_is_found() {
-        let (f, curve) = (vec![1, 0, 0, 0, 0], curve_record(2, 7, &[1, 0, 0, 0, 0]));
-        let sample = Sample { genus: 2, p: 7, f, curve, pool: Vec::new() };
+        let (f, curve) = (vec![1, 0, 0, 0, 0], curve_record(2, 7, &[1, 0, 0, 0, 0], None));
+        let sample = Sample { genus: 2, p: 7, f, witness: None, curve, pool: Vec::new() };
         let found = every_divisor(&sample);
         assert_eq!((found.len(), &found[0]), (50, &vec![0]));
     }

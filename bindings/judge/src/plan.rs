@@ -1,18 +1,25 @@
 //! What is put to the engines.
 
 use crate::engine::Call;
-use crate::inputs::{numbers_of, Class, Rng, Sample};
+use crate::inputs::{curve_record, divisor_record, numbers_of, simple, Class, Rng, Sample, Witness};
 use crate::judge::Judge;
 use plain::Running;
 
-pub const PRIMES: [u64; 6] = [3, 5, 7, 11, 65_537, 2_147_483_647];
+/// 2^61 - 1 and the last two are version 2's own; p - 1 has 56 twos in the first of the two and 15 primes in the second.
+pub const PRIMES: [u64; 9] =
+    [3, (1 << 61) - 1, 5, 7, 11, 65_537, 2_147_483_647, 27 * (1 << 56) + 1, 693_386_350_578_511_591];
 
 const MOST: usize = 4096;
 const ROOM: usize = 49;
+const CURVE_ROOM: usize = 199;
 
 /// Numbers that a curve can't have for p: out of range, even, or with factors.
 const NO_PRIMES: [u64; 14] =
     [0, 1, 2, 4, 9, 15, 25, 561, 46_337 * 46_337, 2_147_483_645, 2_147_483_648, 2_147_483_659, 1 << 32, u64::MAX];
+
+/// Even or out of range, also in version 2.
+const OUT_OF_RANGE: [u64; 10] =
+    [0, 1, 2, 4, 2_147_483_648, (1 << 61) - 2, 1 << 61, (1 << 61) + 1, (1 << 61) + 15, u64::MAX];
 
 /// Runs rounds over both genera and all primes until `count` calls are made.
 pub fn run(judge: &mut Judge, count: u64) {
@@ -35,6 +42,7 @@ pub fn run(judge: &mut Judge, count: u64) {
         record_lengths(judge, &sample);
         flipped_bits(judge, &sample);
         curve_faults(judge, &sample);
+        witnesses(judge, genus);
         neighbouring_faults(judge, &sample);
         mixed_faults(judge, &sample);
         running_totals(judge, &sample);
@@ -62,7 +70,7 @@ fn sums(judge: &mut Judge, sample: &Sample) {
         judge.put(Call::RewriteDivisor { curve, divisor }, ROOM);
     }
     judge.put(Call::CheckCurve { curve }, 0);
-    judge.put(Call::RewriteCurve { curve }, 70);
+    judge.put(Call::RewriteCurve { curve }, CURVE_ROOM);
 }
 
 /// Where most pairs of some kind or other are special.
@@ -251,9 +259,12 @@ fn large_batches(judge: &mut Judge, sample: &Sample) {
     }
 }
 
-/// Every call that writes, with outputs from 0 to 80 bytes.
+/// Every call that writes, with outputs from 0 to 80 bytes; the rewritten curve to 204.
 fn output_lengths(judge: &mut Judge, sample: &Sample) {
     let curve = &sample.curve;
+    for room in 81..=CURVE_ROOM + 5 {
+        judge.put(Call::RewriteCurve { curve }, room);
+    }
     for room in 0..=80 {
         let (a, b) = (sample.any(&mut judge.rng), sample.any(&mut judge.rng));
         let scalar = scalar(&mut judge.rng);
@@ -267,14 +278,20 @@ fn output_lengths(judge: &mut Judge, sample: &Sample) {
     }
 }
 
-/// Records of every length from 0 to 80 bytes: good ones cut or extended, and noise behind a good head.
+/// Records of every length from 0 to 80 bytes: good ones cut or extended, and noise behind a good head; curves to 204.
 fn record_lengths(judge: &mut Judge, sample: &Sample) {
+    for length in 81..=CURVE_ROOM + 5 {
+        let noise = judge.rng.bytes(length);
+        let curve: Vec<u8> = sample.curve.iter().chain(&noise).take(length).cloned().collect();
+        judge.put(Call::CheckCurve { curve: &curve }, 0);
+        judge.put(Call::RewriteCurve { curve: &curve }, CURVE_ROOM);
+    }
     for length in 0..=80 {
         let noise = judge.rng.bytes(80);
         let fitted = |good: &[u8]| -> Vec<u8> { good.iter().chain(&noise).take(length).cloned().collect() };
         let curve = fitted(&sample.curve);
         judge.put(Call::CheckCurve { curve: &curve }, 0);
-        judge.put(Call::RewriteCurve { curve: &curve }, 70);
+        judge.put(Call::RewriteCurve { curve: &curve }, CURVE_ROOM);
         judge.put(Call::CheckCurve { curve: &noise[..length] }, 0);
         let head = fitted(&sample.curve[..6]);
         judge.put(Call::CheckCurve { curve: &head }, 0);
@@ -315,53 +332,106 @@ fn flipped_bits(judge: &mut Judge, sample: &Sample) {
     }
 }
 
-/// Faults of a curve record in the order they are looked for.
-const CURVE_FAULTS: u32 = 8;
+/// Faults of a curve record in the order they are looked for. Version 1 doesn't have the three that are version 2's own.
+const CURVE_FAULTS: u32 = 11;
+const SHORT: u32 = 0;
+const MARK: u32 = 1;
+const VERSION: u32 = 2;
+const GENUS: u32 = 3;
+const NO_COUNT: u32 = 4; // version 2: ends before k
+const COUNT: u32 = 5; // version 2: k isn't 1 to 15
+const LENGTH: u32 = 6;
+const PRIME: u32 = 7;
+const WITNESS: u32 = 8; // version 2
+const COEFFICIENT: u32 = 9;
+const REPEATED: u32 = 10;
 
-/// The curve with the faults of a mask, bit 0 the first that a call looks for: short, mark, version, genus, length, p,
-/// coefficient, repeated factor.
+/// Which of them a curve's record can have.
+fn curve_fault_kinds(sample: &Sample) -> Vec<u32> {
+    let own = [NO_COUNT, COUNT, WITNESS];
+    (0..CURVE_FAULTS).filter(|fault| sample.witness.is_some() || !own.contains(fault)).collect()
+}
+
+/// The curve with the faults of a mask, bit 0 the first that a call looks for.
 fn faulty_curve(rng: &mut Rng, sample: &Sample, faults: u32) -> Vec<u8> {
     let has = |fault: u32| faults >> fault & 1 == 1;
-    let mut curve = sample.curve.clone();
-    if has(7) {
-        if rng.one_in(3) {
-            curve[14..].fill(0);
-        } else {
-            curve = sample.with_double_root(rng);
-        }
+    let (mut p, mut f, mut witness) = (sample.p, sample.f.clone(), sample.witness.clone());
+    if has(REPEATED) {
+        f = if rng.one_in(3) { vec![0; f.len()] } else { sample.with_double_root(rng) };
     }
-    if has(6) {
-        let at = 14 + 8 * rng.below(2 * sample.genus as u64 + 1) as usize;
-        let large = *rng.pick(&[sample.p, sample.p + 1, 1 << 31, 1 << 32, u64::MAX]);
-        curve[at..at + 8].copy_from_slice(&large.to_be_bytes());
+    if has(COEFFICIENT) {
+        let at = rng.below(f.len() as u64) as usize;
+        f[at] = *rng.pick(&[p, p + 1, 1 << 31, 1 << 32, u64::MAX]);
     }
-    if has(5) {
-        let p = *rng.pick(&NO_PRIMES);
-        curve[6..14].copy_from_slice(&p.to_be_bytes());
+    if let (Some(witness), true) = (&mut witness, has(WITNESS)) {
+        p = faulty_witness(rng, p, witness);
     }
-    if has(4) {
+    if has(PRIME) {
+        p = if witness.is_some() { *rng.pick(&OUT_OF_RANGE) } else { *rng.pick(&NO_PRIMES) };
+    }
+    let mut curve = curve_record(sample.genus as u8, p, &f, witness.as_ref());
+    let count_at = 14 + 8 * f.len() + 8;
+    if has(LENGTH) {
+        let least = if witness.is_some() { count_at + 1 } else { 6 };
         match rng.below(4) {
             0 => curve.push(0),
             1 => curve.extend_from_slice(&[0; 16]),
-            2 => curve.truncate(53),
-            _ => curve.truncate(6 + rng.below(40) as usize),
+            2 => curve.truncate(curve.len() - 1),
+            _ => curve.truncate(least + rng.below((curve.len() - least) as u64) as usize),
         }
     }
-    if has(3) {
+    if let (Some(_), true) = (&witness, has(COUNT)) {
+        curve[count_at] = *rng.pick(&[0, 16, 17, 128, 255]);
+    }
+    if let (Some(_), true) = (&witness, has(NO_COUNT)) {
+        curve.truncate(6 + rng.below(count_at as u64 - 5) as usize);
+    }
+    if has(GENUS) {
         curve[5] = *rng.pick(&[0, 1, 4, 5, 130, 255]);
     }
-    if has(2) {
-        let version = *rng.pick(&[[0, 0], [0, 2], [1, 0], [1, 1], [255, 255]]);
+    if has(VERSION) {
+        let version = *rng.pick(&[[0, 0], [0, 3], [1, 0], [1, 1], [1, 2], [255, 255]]);
         curve[3..5].copy_from_slice(&version);
     }
-    if has(1) {
+    if has(MARK) {
         curve[rng.below(3) as usize] ^= 1 << rng.below(8);
     }
-    if has(0) {
+    if has(SHORT) {
         curve.truncate(rng.below(6) as usize);
     }
     curve
 }
+
+/// Makes a witness of p wrong, mostly by one fault alone, or puts a composite number in the place of p: answers p.
+fn faulty_witness(rng: &mut Rng, p: u64, witness: &mut Witness) -> u64 {
+    let Witness { base, primes } = witness;
+    let at = rng.below(primes.len() as u64) as usize;
+    match rng.below(9) {
+        0 => *base = *rng.pick(&[0, 1, p - 1, p, p + *base, u64::MAX]),
+        // Its order is less by a prime.
+        1 => *base = simple::pow(*base, primes[at], p),
+        2 if primes.len() > 1 => {
+            primes.remove(at);
+        }
+        3 if primes.len() > 1 => primes.rotate_left(1),
+        4 if primes.len() < 15 => primes.insert(at, primes[at]),
+        // Twice the number, or its square, or its product with the next: no prime, though it may divide p - 1.
+        5 => primes[at] *= *rng.pick(&[2, primes[at], primes[(at + 1) % primes.len()]]),
+        6 if primes.len() < 15 => primes.push(*rng.pick(&[1_009, 65_539, 2_147_483_659, 1 << 31, p, u64::MAX])),
+        7 if primes.len() < 15 => primes.insert(0, *rng.pick(&[0, 1])),
+        _ => {
+            let &(n, a, ref listed) = rng.pick(&LIARS);
+            *base = a;
+            *primes = listed.to_vec();
+            return n;
+        }
+    }
+    p
+}
+
+/// Composite numbers with a base that Fermat's test lets through, and the primes of one less.
+const LIARS: [(u64, u64, [u64; 3]); 5] =
+    [(341, 2, [2, 5, 17]), (561, 2, [2, 5, 7]), (1_105, 2, [2, 3, 23]), (91, 3, [2, 3, 5]), (2_465, 2, [2, 7, 11])];
 
 /// Faults of a divisor record in the order they are looked for.
 const DIVISOR_FAULTS: u32 = 5;
@@ -378,7 +448,7 @@ fn faulty_divisor(rng: &mut Rng, sample: &Sample, faults: u32) -> Vec<u8> {
     if has(4) && divisor.len() > 1 {
         let (u, mut v) = numbers_of(&divisor);
         v[0] = (v[0] + 1) % sample.p;
-        divisor = crate::inputs::divisor_record(&u, &v);
+        divisor = divisor_record(&u, &v);
     }
     if has(3) && divisor.len() > 1 {
         let at = 1 + 8 * rng.below((divisor.len() as u64 - 1) / 8) as usize;
@@ -411,14 +481,33 @@ fn some_faults(rng: &mut Rng, kinds: u32) -> u32 {
     }
 }
 
-/// All sets of faults of a curve record.
+/// All sets of faults of a curve record; of version 2 those of up to two, and one in eight of the others.
 fn curve_faults(judge: &mut Judge, sample: &Sample) {
-    for faults in 0..1 << CURVE_FAULTS {
+    let kinds = curve_fault_kinds(sample);
+    for set in 0..1u32 << kinds.len() {
+        if sample.witness.is_some() && set.count_ones() > 2 && !judge.rng.one_in(8) {
+            continue;
+        }
+        let faults = kinds.iter().enumerate().fold(0, |faults, (k, fault)| faults | (set >> k & 1) << fault);
         let curve = faulty_curve(&mut judge.rng, sample, faults);
         judge.put(Call::CheckCurve { curve: &curve }, 0);
-        if faults % 8 == 0 {
-            judge.put(Call::RewriteCurve { curve: &curve }, 70);
+        if set % 8 == 0 {
+            judge.put(Call::RewriteCurve { curve: &curve }, CURVE_ROOM);
         }
+    }
+}
+
+/// Numbers of every size for p, prime or not, in version 2, with a base that does where there is a small one, or any.
+fn witnesses(judge: &mut Judge, genus: usize) {
+    let f = [&[1][..], &vec![0; 2 * genus]].concat();
+    for _ in 0..80 {
+        let (p, drawn) = Witness::drawn(&mut judge.rng);
+        let good = drawn.clone().with_a_good_base(p).filter(|_| !judge.rng.one_in(3));
+        let witness = good.unwrap_or_else(|| Witness { base: 1 + judge.rng.below(p - 1), ..drawn });
+        let curve = curve_record(genus as u8, p, &f, Some(&witness));
+        judge.put(Call::CheckCurve { curve: &curve }, 0);
+        judge.put(Call::RewriteCurve { curve: &curve }, CURVE_ROOM);
+        judge.put(Call::Multiply { curve: &curve, a: &divisor_record(&[0], &[1]), scalar: &[0xa7, 0x3c] }, ROOM);
     }
 }
 
@@ -457,7 +546,7 @@ type Put = fn(&mut Judge, &Sample, Faults);
 /// The refusals of add, multiply, total and scan, in their order: each alone, with its neighbour, and with all that follow.
 fn neighbouring_faults(judge: &mut Judge, sample: &Sample) {
     let none = Faults::default();
-    let curve: Vec<Faults> = (0..CURVE_FAULTS).map(|k| Faults { curve: 1 << k, ..none }).collect();
+    let curve: Vec<Faults> = curve_fault_kinds(sample).into_iter().map(|k| Faults { curve: 1 << k, ..none }).collect();
     let a: Vec<Faults> = (0..DIVISOR_FAULTS).map(|k| Faults { a: 1 << k, ..none }).collect();
     let b: Vec<Faults> = (0..DIVISOR_FAULTS).map(|k| Faults { b: 1 << k, ..none }).collect();
     let scalar = vec![Faults { scalar: true, ..none }];
@@ -657,19 +746,20 @@ mod tests {
     fn differences(wrong: impl Fn(&Call, &mut [u8], &mut Reply)) -> u64 {
         let wrong = Wrong(wrong);
         let mut judge = Judge::new(&wrong, &Plain, 1, true);
-        run(&mut judge, 10_000);
+        run(&mut judge, 18_000);
+        assert!(judge.tally.census.contains_key(&(2, PRIMES[1])), "no sums of version 2 yet");
         judge.tally.differences
     }
 
     #[test]
     fn plain_agrees_with_itself() {
         let mut judge = Judge::new(&Plain, &Plain, 1, true);
-        run(&mut judge, 100_000);
+        run(&mut judge, 150_000);
         assert_eq!(judge.tally.differences, 0);
-        for number in (0..=15).chain([19]) {
+        for number in (0..=15).chain([18, 19]) {
             assert!(judge.tally.numbers[&number] >= 20, "{} {:?}", number, judge.tally.numbers);
         }
-        assert_eq!(judge.tally.census.len(), 12);
+        assert_eq!(judge.tally.census.len(), 2 * PRIMES.len());
         for (key, census) in &judge.tally.census {
             let rare = [census.shared_root, census.opposite, census.below_genus, census.zero_y, census.f_2g];
             assert!(rare.iter().all(|&n| n >= 20), "{:?} {:?}", key, census);
@@ -744,6 +834,75 @@ mod tests {
                 }
             }) > 0
         );
+    }
+
+    /// The version of a call's curve, 0 where it has none.
+    fn version_of(call: &Call) -> u8 {
+        use Call::*;
+        match call {
+            CheckCurve { curve } | RewriteCurve { curve } | Add { curve, .. } => curve.get(4).copied().unwrap_or(0),
+            _ => 0,
+        }
+    }
+
+    #[test]
+    fn slips_of_version_2_show() {
+        // 5 for 18, 18 for 5, 18 for a wrong length.
+        assert!(differences(|_, _, r| r.number = if r.number == 18 { 5 } else { r.number }) > 0);
+        for number in [1, 5] {
+            assert!(
+                differences(|c, _, r| {
+                    if version_of(c) == 2 && r.number == number {
+                        r.number = 18;
+                    }
+                }) > 0
+            );
+        }
+        // A witness that isn't looked at: 0 for 18 in a check.
+        assert!(
+            differences(|c, _, r| {
+                if matches!(c, Call::CheckCurve { .. }) && r.number == 18 {
+                    r.number = 0;
+                }
+            }) > 0
+        );
+        // Rewritten without its last prime.
+        assert!(
+            differences(|c, out, r| {
+                if matches!(c, Call::RewriteCurve { .. }) && version_of(c) == 2 && r.number == 0 {
+                    out[r.length as usize - 1] ^= 1;
+                }
+            }) > 0
+        );
+        // A sum that is wrong above 2^31 alone.
+        assert!(
+            differences(|c, out, r| {
+                if let Call::Add { curve, .. } = c {
+                    if version_of(c) == 2 && r.length > 1 && curve[6..10] != [0; 4] {
+                        out[1] ^= 1;
+                    }
+                }
+            }) > 0
+        );
+    }
+
+    /// Of the numbers drawn for p many are taken, many aren't, and all sizes are there.
+    #[test]
+    fn drawn_witnesses_are_of_both_kinds() {
+        let mut rng = Rng::new(1);
+        let (mut taken, mut large, mut most) = (0, 0, 0);
+        for _ in 0..400 {
+            let (p, witness) = Witness::drawn(&mut rng);
+            assert!(p % 2 == 1 && (3..1 << 61).contains(&p));
+            most = most.max(witness.primes.len());
+            if let Some(good) = witness.with_a_good_base(p) {
+                let curve = curve_record(2, p, &[1, 0, 0, 0, 0], Some(&good));
+                assert!([0, 7].contains(&plain::check_curve(&curve).number), "{} {:?}", p, good);
+                taken += 1;
+                large += u32::from(p > 1 << 31);
+            }
+        }
+        assert!(taken > 100 && taken < 300 && large > 20 && most > 10, "{} {} {}", taken, large, most);
     }
 
     #[test]

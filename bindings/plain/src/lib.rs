@@ -19,7 +19,7 @@
 //! let mut out = [0; 33];
 //! let answer = plain::multiply(&curve, &point, &[6], &mut out);
 //! assert_eq!((answer.number, &out[..17]), (0, &point[..])); // five times (x, 1) is neutral, so six times is (x, 1) again
-//! assert_eq!((answer.doublings, answer.additions), (2, 1));
+//! assert_eq!((answer.doublings, answer.additions), (3, 1)); // 6 = 8 - 2
 //! assert_eq!(plain::multiply(&curve, &point, &[5], &mut out).number, 19);
 //! ```
 
@@ -28,8 +28,10 @@
 mod curve;
 mod field;
 mod full;
+mod large;
 mod poly;
 mod record;
+mod witness;
 
 use curve::{Curve, Divisor};
 use record::{read_curve, read_divisor, read_first, write_divisor, Refused};
@@ -140,7 +142,7 @@ pub fn rewrite_curve(curve: &[u8], out: &mut [u8]) -> Answer {
 
 /// Writes a checked divisor record anew.
 pub fn rewrite_divisor(curve: &[u8], divisor: &[u8], out: &mut [u8]) -> Answer {
-    read_pair(curve, divisor).and_then(|(_, a)| write_divisor(&a, out)).into()
+    read_pair(curve, divisor).and_then(|(curve, a)| write_divisor(&curve, &a, out)).into()
 }
 
 /// The sum of two divisors.
@@ -148,19 +150,19 @@ pub fn add(curve: &[u8], a: &[u8], b: &[u8], out: &mut [u8]) -> Answer {
     read_pair(curve, a)
         .and_then(|(curve, a)| {
             let b = read_divisor(&curve, b, 2)?;
-            write_divisor(&curve.add(&a, &b), out)
+            write_divisor(&curve, &curve.add(&a, &b), out)
         })
         .into()
 }
 
 /// Twice a divisor.
 pub fn double(curve: &[u8], a: &[u8], out: &mut [u8]) -> Answer {
-    read_pair(curve, a).and_then(|(curve, a)| write_divisor(&curve.double(&a), out)).into()
+    read_pair(curve, a).and_then(|(curve, a)| write_divisor(&curve, &curve.double(&a), out)).into()
 }
 
 /// The opposite of a divisor.
 pub fn opposite(curve: &[u8], a: &[u8], out: &mut [u8]) -> Answer {
-    read_pair(curve, a).and_then(|(curve, a)| write_divisor(&curve.opposite(&a), out)).into()
+    read_pair(curve, a).and_then(|(curve, a)| write_divisor(&curve, &curve.opposite(&a), out)).into()
 }
 
 /// The n-fold sum of a divisor. The scalar n has 0 to 32 bytes, big-endian. Neither the divisor nor the sum may be neutral: no empty keys.
@@ -173,7 +175,7 @@ pub fn multiply(curve: &[u8], a: &[u8], scalar: &[u8], out: &mut [u8]) -> Multip
         if a.weight == 0 || multiple.weight == 0 {
             return Err(Refused::new(19));
         }
-        write_divisor(&multiple, out)
+        write_divisor(&curve, &multiple, out)
     });
     let Answer { number, place, length } = Answer::from(result);
     let (doublings, additions) = if number == 0 { steps(scalar) } else { (0, 0) };
@@ -193,7 +195,7 @@ pub fn total_batch(curve: &[u8], batch: &[u8], out: &mut [u8]) -> Total {
             sum = curve.add(&sum, divisor);
             count += 1;
         })?;
-        write_divisor(&sum, out)
+        write_divisor(&curve, &sum, out)
     });
     let Answer { number, place, length } = Answer::from(result);
     Total { number, place, length, count: if number == 0 { count } else { 0 } }
@@ -284,7 +286,7 @@ fn scanned(total: &Running, curve: &[u8], record: &[u8]) -> Result<Running, Refu
         return Err(Refused::new(14));
     }
     let record = read_divisor(&curve, record, 1)?;
-    let Divisor { weight, u: [u0, u1, u2], v: [v0, v1, v2] } = curve.add(&divisor, &record);
+    let Divisor { weight, u: [u0, u1, u2], v: [v0, v1, v2] } = curve.numbers(&curve.add(&divisor, &record));
     Ok(Running { weight: weight as u64, u0, u1, u2, v0, v1, v2, count: total.count + 1 })
 }
 
@@ -299,7 +301,7 @@ fn held(curve: &Curve, total: &Running) -> Option<Divisor> {
     if !used(&u) || !used(&v) {
         return None;
     }
-    Some(Divisor { weight, u, v }).filter(|divisor| curve.has(divisor))
+    curve.divisor(&Divisor { weight, u, v })
 }
 
 #[cfg(test)]

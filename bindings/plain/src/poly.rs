@@ -14,12 +14,9 @@ pub struct Poly {
 
 impl Poly {
     pub const ZERO: Poly = Poly { c: [0; ROOM], len: 0 };
-    pub const ONE: Poly = Poly::constant_one();
 
-    const fn constant_one() -> Poly {
-        let mut c = [0; ROOM];
-        c[0] = 1;
-        Poly { c, len: 1 }
+    pub fn one(k: impl Field) -> Poly {
+        Poly::monic(k, &[])
     }
 
     /// The polynomial with these coefficients, constant first.
@@ -30,10 +27,10 @@ impl Poly {
     }
 
     /// x^n with these lower coefficients, n of them.
-    pub fn monic(lower: &[u64]) -> Poly {
+    pub fn monic(k: impl Field, lower: &[u64]) -> Poly {
         let mut c = [0; ROOM];
         c[..lower.len()].copy_from_slice(lower);
-        c[lower.len()] = 1;
+        c[lower.len()] = k.one();
         Poly { c, len: lower.len() + 1 }
     }
 
@@ -67,7 +64,7 @@ impl Poly {
         self.c[self.len - 1]
     }
 
-    pub fn add(&self, k: Field, b: &Poly) -> Poly {
+    pub fn add(&self, k: impl Field, b: &Poly) -> Poly {
         let (mut c, len) = (self.c, self.len.max(b.len));
         for (x, &y) in c.iter_mut().zip(b.coefficients()) {
             *x = k.add(*x, y);
@@ -75,7 +72,7 @@ impl Poly {
         Poly::trimmed(c, len)
     }
 
-    pub fn sub(&self, k: Field, b: &Poly) -> Poly {
+    pub fn sub(&self, k: impl Field, b: &Poly) -> Poly {
         let (mut c, len) = (self.c, self.len.max(b.len));
         for (x, &y) in c.iter_mut().zip(b.coefficients()) {
             *x = k.sub(*x, y);
@@ -83,11 +80,11 @@ impl Poly {
         Poly::trimmed(c, len)
     }
 
-    pub fn neg(&self, k: Field) -> Poly {
+    pub fn neg(&self, k: impl Field) -> Poly {
         Poly::ZERO.sub(k, self)
     }
 
-    pub fn scale(&self, k: Field, by: u64) -> Poly {
+    pub fn scale(&self, k: impl Field, by: u64) -> Poly {
         let mut c = self.c;
         for x in &mut c[..self.len] {
             *x = k.mul(*x, by);
@@ -95,32 +92,29 @@ impl Poly {
         Poly::trimmed(c, self.len)
     }
 
-    pub fn mul(&self, k: Field, b: &Poly) -> Poly {
+    pub fn mul(&self, k: impl Field, b: &Poly) -> Poly {
         if self.is_zero() || b.is_zero() {
             return Poly::ZERO;
         }
         let len = self.len + b.len - 1;
-        let mut c = [0; ROOM];
+        let mut sums = [Default::default(); ROOM];
         for (i, &x) in self.coefficients().iter().enumerate() {
-            for (sum, &y) in c[i..].iter_mut().zip(b.coefficients()) {
+            for (sum, &y) in sums[i..].iter_mut().zip(b.coefficients()) {
                 *sum = k.mac(*sum, x, y);
             }
         }
-        for x in &mut c[..len] {
-            *x = k.reduce(*x);
-        }
-        Poly { c, len }
+        Poly { c: sums.map(|sum| k.reduce(sum)), len }
     }
 
     /// The quotient by a monic polynomial.
-    pub fn div(&self, k: Field, m: &Poly) -> Poly {
-        debug_assert!(m.lead() == 1);
+    pub fn div(&self, k: impl Field, m: &Poly) -> Poly {
+        debug_assert!(m.lead() == k.one());
         let d = m.len - 1;
         let len = self.len.saturating_sub(d);
         let mut q = [0; ROOM];
         for i in (0..len).rev() {
             // x^(i + d) of self is q_i + q_(i+1) m_(d-1) + q_(i+2) m_(d-2) + ..
-            let mut sum = 0;
+            let mut sum = Default::default();
             for (&x, &y) in q[i + 1..len].iter().zip(m.c[..d].iter().rev()) {
                 sum = k.mac(sum, x, y);
             }
@@ -130,7 +124,7 @@ impl Poly {
     }
 
     /// The remainder by a monic polynomial.
-    pub fn rem(&self, k: Field, m: &Poly) -> Poly {
+    pub fn rem(&self, k: impl Field, m: &Poly) -> Poly {
         if self.len < m.len {
             return *self;
         }
@@ -138,7 +132,7 @@ impl Poly {
         let d = m.len - 1;
         let mut c = [0; ROOM];
         for (i, x) in c[..d].iter_mut().enumerate() {
-            let mut sum = 0;
+            let mut sum = Default::default();
             for (&x, &y) in q.c[..=i].iter().zip(m.c[..=i].iter().rev()) {
                 sum = k.mac(sum, x, y);
             }
@@ -148,26 +142,26 @@ impl Poly {
     }
 
     /// Divided by its leading coefficient.
-    pub fn made_monic(&self, k: Field) -> Poly {
-        if self.lead() == 1 {
+    pub fn made_monic(&self, k: impl Field) -> Poly {
+        if self.lead() == k.one() {
             *self
         } else {
             self.scale(k, k.inv(self.lead()))
         }
     }
 
-    pub fn derivative(&self, k: Field) -> Poly {
+    pub fn derivative(&self, k: impl Field) -> Poly {
         let mut c = [0; ROOM];
         for i in 1..self.len {
-            c[i - 1] = k.mul(k.reduce(i as u64), self.c[i]);
+            c[i - 1] = k.mul(k.element(i as u64 % k.p()), self.c[i]);
         }
         Poly::trimmed(c, self.len.saturating_sub(1))
     }
 
     /// The monic greatest common divisor d of self and b, not both zero, with s and t: d = s·self + t·b.
-    pub fn gcd(&self, k: Field, b: &Poly) -> (Poly, Poly, Poly) {
-        let (mut r0, mut s0, mut t0) = (*self, Poly::ONE, Poly::ZERO);
-        let (mut r1, mut s1, mut t1) = (*b, Poly::ZERO, Poly::ONE);
+    pub fn gcd(&self, k: impl Field, b: &Poly) -> (Poly, Poly, Poly) {
+        let (mut r0, mut s0, mut t0) = (*self, Poly::one(k), Poly::ZERO);
+        let (mut r1, mut s1, mut t1) = (*b, Poly::ZERO, Poly::one(k));
         while !r1.is_zero() {
             let scale = k.inv(r1.lead());
             r1 = r1.scale(k, scale);
@@ -187,9 +181,10 @@ impl Poly {
 #[cfg(test)]
 mod tests {
     use super::*;
+    use crate::field::Small;
 
     /// All polynomials of degree below n over the field.
-    fn all(k: Field, n: u32) -> impl Iterator<Item = Poly> {
+    fn all(k: Small, n: u32) -> impl Iterator<Item = Poly> {
         (0..k.p().pow(n)).map(move |mut x| {
             let mut c = Vec::new();
             for _ in 0..n {
@@ -202,11 +197,11 @@ mod tests {
 
     #[test]
     fn division_gives_back_its_dividend() {
-        let k = Field::new(3).unwrap();
+        let k = Small::new(3).unwrap();
         for a in all(k, 5) {
             for lower in all(k, 3) {
                 for d in lower.len()..=3 {
-                    let m = Poly::monic(&lower.c[..d]);
+                    let m = Poly::monic(k, &lower.c[..d]);
                     let (q, r) = (a.div(k, &m), a.rem(k, &m));
                     assert!(r.len() <= d);
                     assert_eq!(q.mul(k, &m).add(k, &r), a);
@@ -217,7 +212,7 @@ mod tests {
 
     #[test]
     fn gcd_divides_and_is_a_combination() {
-        let k = Field::new(3).unwrap();
+        let k = Small::new(3).unwrap();
         for a in all(k, 4) {
             for b in all(k, 3) {
                 if a.is_zero() && b.is_zero() {
@@ -233,7 +228,7 @@ mod tests {
 
     #[test]
     fn derivative_in_characteristic_p() {
-        let k = Field::new(3).unwrap();
+        let k = Small::new(3).unwrap();
         assert_eq!(Poly::new(&[1, 2, 2, 1]).derivative(k), Poly::new(&[2, 1]));
         assert!(Poly::ZERO.derivative(k).is_zero());
     }

@@ -1,10 +1,11 @@
 //! Curve and divisor records: bytes to values and back, and the refusals that belong to them.
 
-use crate::curve::{Curve, Divisor};
-use crate::field::Field;
+use crate::curve::{Curve, Divisor, Over};
+use crate::field::Small;
+use crate::large::Large;
+use crate::witness;
 
 const MARK: &[u8] = b"HJC";
-const VERSION: u16 = 1;
 /// Mark, version and genus.
 const HEAD: usize = 6;
 
@@ -37,29 +38,61 @@ pub fn read_curve(bytes: &[u8]) -> Result<Curve, Refused> {
     if bytes.len() < HEAD {
         return Err(Refused::new(1));
     }
-    let (head, numbers) = bytes.split_at(HEAD);
+    let (head, rest) = bytes.split_at(HEAD);
     if &head[..3] != MARK {
         return Err(Refused::new(2));
     }
-    if u16::from_be_bytes([head[3], head[4]]) != VERSION {
-        return Err(Refused::new(3));
-    }
+    let with_witness = match u16::from_be_bytes([head[3], head[4]]) {
+        1 => false,
+        2 => true,
+        _ => return Err(Refused::new(3)),
+    };
     let genus = match head[5] {
         g @ (2 | 3) => usize::from(g),
         _ => return Err(Refused::new(4)),
     };
     let coefficients = 2 * genus + 1;
-    if numbers.len() != 8 * (1 + coefficients) {
-        return Err(Refused::new(1));
-    }
+    let behind = rest.get(8 * (1 + coefficients)..).ok_or(Refused::new(1))?;
     let mut room = [0; 8];
-    read_numbers(numbers, &mut room);
+    read_numbers(rest, &mut room);
     let (p, f) = (room[0], &room[1..=coefficients]);
-    let field = Field::new(p).ok_or(Refused::new(5))?;
+    if with_witness {
+        check_witness(p, behind)?;
+    } else if !behind.is_empty() {
+        return Err(Refused::new(1));
+    } else if Small::new(p).is_none() {
+        return Err(Refused::new(5));
+    }
     if f.iter().any(|&c| c >= p) {
         return Err(Refused::new(6));
     }
-    Curve::new(field, f).ok_or(Refused::new(7))
+    // From here on p is prime, in whichever version.
+    let curve = match Small::new(p) {
+        Some(field) => Over::new(field, f).map(Curve::Small),
+        None => Large::new(p).and_then(|field| Over::new(field, f)).map(Curve::Large),
+    };
+    curve.ok_or(Refused::new(7))
+}
+
+/// Checks what stands behind the coefficients in version 2: a base, a count of primes, and the primes.
+fn check_witness(p: u64, bytes: &[u8]) -> Result<(), Refused> {
+    let &count = bytes.get(8).ok_or(Refused::new(1))?;
+    let count = usize::from(count);
+    if !(1..=witness::MOST).contains(&count) {
+        return Err(Refused::new(18));
+    }
+    if bytes.len() != 9 + 8 * count {
+        return Err(Refused::new(1));
+    }
+    let (mut base, mut primes) = ([0], [0; witness::MOST]);
+    read_numbers(bytes, &mut base);
+    read_numbers(&bytes[9..], &mut primes);
+    let field = Large::new(p).ok_or(Refused::new(5))?;
+    if witness::shows(field, base[0], &primes[..count]) {
+        Ok(())
+    } else {
+        Err(Refused::new(18))
+    }
 }
 
 /// Reads the divisor record at the front of `bytes`, the `place`-th of its call, and gives it with the bytes behind it.
@@ -81,11 +114,8 @@ pub fn read_first<'a>(curve: &Curve, bytes: &'a [u8], place: u64) -> Result<(Div
     let mut divisor = Divisor { weight, ..Divisor::NEUTRAL };
     divisor.u[..weight].copy_from_slice(&room[..weight]);
     divisor.v[..weight].copy_from_slice(&room[weight..2 * weight]);
-    if curve.has(&divisor) {
-        Ok((divisor, rest))
-    } else {
-        Err(Refused::at(11, place))
-    }
+    let divisor = curve.divisor(&divisor).ok_or(Refused::at(11, place))?;
+    Ok((divisor, rest))
 }
 
 /// Reads a divisor record that must fill `bytes`.
@@ -99,13 +129,13 @@ pub fn read_divisor(curve: &Curve, bytes: &[u8], place: u64) -> Result<Divisor, 
 }
 
 /// Writes a divisor's record to the front of `out` and gives its length, or refuses with nothing written.
-pub fn write_divisor(divisor: &Divisor, out: &mut [u8]) -> Result<usize, Refused> {
-    let weight = divisor.weight;
+pub fn write_divisor(curve: &Curve, divisor: &Divisor, out: &mut [u8]) -> Result<usize, Refused> {
+    let Divisor { weight, u, v } = curve.numbers(divisor);
     let length = 1 + 16 * weight;
     let out = out.get_mut(..length).ok_or(Refused::new(13))?;
     let (head, numbers) = out.split_at_mut(1);
     head[0] = weight as u8;
-    let values = divisor.u[..weight].iter().chain(&divisor.v[..weight]);
+    let values = u[..weight].iter().chain(&v[..weight]);
     for (chunk, value) in numbers.chunks_exact_mut(8).zip(values) {
         chunk.copy_from_slice(&value.to_be_bytes());
     }

@@ -145,6 +145,93 @@ fn curves_refused_in_order() {
     assert_eq!(number(&mark[..5]), 1);
 }
 
+/// The record in version 2: with a base, a count, and primes.
+fn witnessed(genus: u8, p: u64, f: &[u64], base: u64, count: u8, primes: &[u64]) -> Vec<u8> {
+    let mut bytes = curve(genus, p, f);
+    bytes[4] = 2;
+    bytes.extend_from_slice(&base.to_be_bytes());
+    bytes.push(count);
+    bytes.extend(primes.iter().flat_map(|q| q.to_be_bytes()));
+    bytes
+}
+
+const P61: u64 = (1 << 61) - 1;
+const PRIMES_OF_P61: [u64; 12] = [2, 3, 5, 7, 11, 13, 31, 41, 61, 151, 331, 1321];
+
+fn largest(genus: u8, f: &[u64]) -> Vec<u8> {
+    witnessed(genus, P61, f, 37, 12, &PRIMES_OF_P61)
+}
+
+#[test]
+fn witnesses_refused_in_order() {
+    let number = |c: &[u8]| {
+        let answer = check_curve(c);
+        assert_eq!((answer.place, answer.length), (0, 0));
+        answer.number
+    };
+    let (ones, seventh) = ([1, 0, 0, 0, 0], [1, 0, 0, 0, 0, 0, 0]);
+    assert_eq!(number(&witnessed(2, 3, &ones, 2, 1, &[2])), 0);
+    assert_eq!(number(&witnessed(3, 5, &seventh, 2, 1, &[2])), 0);
+    assert_eq!(number(&witnessed(2, 5, &ones, 2, 1, &[2])), 7);
+    let good = witnessed(2, 7, &ones, 3, 2, &[2, 3]);
+    for record in [good.clone(), largest(2, &ones), largest(3, &seventh)] {
+        assert_eq!(number(&record), 0);
+        let mut room = [0x55; 199];
+        let length = record.len();
+        assert_eq!(rewrite_curve(&record, &mut room), Answer { length: length as u64, ..Answer::default() });
+        assert_eq!((&room[..length], room[length..].iter().all(|&byte| byte == 0x55)), (&record[..], true));
+        assert_eq!(rewrite_curve(&record, &mut room[..length - 1]).number, 13);
+        for cut in 6..length {
+            assert_eq!(number(&record[..cut]), 1, "{}", cut);
+        }
+        assert_eq!(number(&[&record[..], &[0]].concat()), 1);
+    }
+    // Every bit of the count and of the primes counts.
+    for bit in 8 * 62..8 * good.len() {
+        let mut flipped = good.clone();
+        flipped[bit / 8] ^= 1 << (bit % 8);
+        assert!([1, 18].contains(&number(&flipped)), "{}", bit);
+    }
+
+    // Each fault added to the next one wins over it: 3, 4, 1 before k, 18 for k, 1, 5, 18, 6, 7.
+    let zeros = [0; 5];
+    assert_eq!(number(&witnessed(2, 7, &zeros, 3, 2, &[2, 3])), 7);
+    assert_eq!(number(&witnessed(2, 7, &[7, 0, 0, 0, 0], 3, 2, &[2, 3])), 6);
+    assert_eq!(number(&witnessed(2, 7, &[7, 0, 0, 0, 0], 2, 2, &[2, 3])), 18);
+    assert_eq!(number(&witnessed(2, 9, &[9, 0, 0, 0, 0], 8, 1, &[2])), 18);
+    for p in [0, 1, 2, 8, 1 << 61, (1 << 61) + 1, u64::MAX] {
+        let faulty = |count| witnessed(2, p, &[u64::MAX; 5], 0, count, &[4, 4]);
+        assert_eq!(number(&faulty(2)), 5, "{}", p);
+        assert_eq!((number(&faulty(1)), number(&faulty(3))), (1, 1), "{}", p);
+        for count in [0, 16, 255] {
+            assert_eq!(number(&faulty(count)), 18, "{}", p);
+            assert_eq!(number(&faulty(count)[..63]), 18, "{}", p);
+            assert_eq!(number(&faulty(count)[..62]), 1, "{}", p);
+        }
+    }
+    for (at, value, wanted) in [(3, 1, 3), (4, 3, 3), (5, 4, 4), (2, b'c', 2)] {
+        let mut faulty = witnessed(2, 8, &zeros, 0, 16, &[4])[..62].to_vec();
+        faulty[at] = value;
+        assert_eq!(number(&faulty), wanted);
+    }
+    // Version 1 keeps its limit, and takes no witness.
+    assert_eq!(number(&curve(2, P61, &ones)), 5);
+    assert_eq!(number(&[&curve(2, 7, &ones)[..], &good[54..]].concat()), 1);
+}
+
+/// What a call answers is the same in both versions, where both take p.
+#[test]
+fn versions_agree() {
+    for (p, base, primes) in [(7, 3, &[2, 3][..]), (11, 2, &[2, 5]), (2_147_483_647, 7, &[2, 3, 7, 11, 31, 151, 331])] {
+        let f = [1, 0, 0, 0, 3];
+        let (first, second) = (curve(2, p, &f), witnessed(2, p, &f, base, primes.len() as u8, primes));
+        let point = divisor(&[0], &[1]);
+        for n in 0..40 {
+            assert_eq!(times(&first, &point, n), times(&second, &point, n));
+        }
+    }
+}
+
 #[test]
 fn divisors_refused_in_order() {
     let c = curve_a();
@@ -289,7 +376,8 @@ fn repeats_by_sign() {
     assert_eq!(repeat(&[&b, &turned, &a, &b]), (2, 3));
     assert_eq!(repeat(&[&a, &b, &b, &turned]), (2, 3));
     // The same u alone doesn't make the same meter, nor does the same point in two weights.
-    let (both, square, square_turned) = (divisor(&[0, 6], &[1, 2]), divisor(&[0, 0], &[1, 0]), divisor(&[0, 0], &[6, 0]));
+    let (both, square, square_turned) =
+        (divisor(&[0, 6], &[1, 2]), divisor(&[0, 0], &[1, 0]), divisor(&[0, 0], &[6, 0]));
     let other = divisor(&[0, 6], &[1, 3]); // (x² + 6x, 3x + 1): through (0, 1) and (1, 4)
     assert_eq!(repeat(&[&both, &other, &a, &b]), (0, 0));
     assert_eq!(repeat(&[&square, &a, &square_turned]), (1, 3));
@@ -403,15 +491,15 @@ fn small_curves_are_groups() {
     }
 }
 
-/// In genus 3, composed degree 6 that takes two reductions, on the largest field: (m + n)-fold is m-fold plus n-fold.
+/// In genus 3, composed degree 6 that takes two reductions, on the largest field of each version: (m + n)-fold is m-fold plus n-fold.
 #[test]
 fn multiples_add_up_on_the_largest_field() {
-    for genus in [2u8, 3] {
+    for (genus, p) in [(2u8, 2_147_483_647), (3, 2_147_483_647), (2, P61), (3, P61)] {
         let mut f = vec![0; 2 * usize::from(genus) + 1];
         f[0] = 4;
-        f[1] = 2_147_483_646;
+        f[1] = p - 1;
         f[2 * usize::from(genus)] = 17;
-        let c = curve(genus, 2_147_483_647, &f);
+        let c = if p == P61 { largest(genus, &f) } else { curve(genus, p, &f) };
         let point = divisor(&[0], &[2]);
         let mut last = neutral();
         for n in 0..200 {

@@ -36,8 +36,8 @@ pub use refusal::Refusal;
 /// Bytes that hold any divisor record.
 pub const DIVISOR_ROOM: usize = 49;
 
-/// Bytes that hold any curve record.
-pub const CURVE_ROOM: usize = 70;
+/// Bytes that hold any curve record, of version 1 or 2.
+pub const CURVE_ROOM: usize = 199;
 
 /// Bytes of the longest scalar.
 pub const SCALAR_ROOM: usize = 32;
@@ -84,6 +84,18 @@ fn length_of(answer: raw::YubiAnswer) -> Result<usize, Refusal> {
 /// use yubisorade::{check_curve, Refusal};
 /// assert_eq!(check_curve(b"HJC"), Err(Refusal::CurveLength));
 /// assert_eq!(check_curve(b"JPEG\x00\x10"), Err(Refusal::Mark));
+/// // Version 2 with p = 7, f = x^5 + 1, and a witness: the base 3 and the primes 2 and 3 of p - 1.
+/// let mut curve = b"HJC\x00\x02\x02".to_vec();
+/// for number in [7u64, 1, 0, 0, 0, 0, 3] {
+///     curve.extend_from_slice(&number.to_be_bytes());
+/// }
+/// curve.push(2);
+/// for prime in [2u64, 3] {
+///     curve.extend_from_slice(&prime.to_be_bytes());
+/// }
+/// assert_eq!(check_curve(&curve), Ok(()));
+/// curve[61] = 2; // 2 has order 3
+/// assert_eq!(check_curve(&curve), Err(Refusal::Witness));
 /// ```
 pub fn check_curve(curve: &[u8]) -> Result<(), Refusal> {
     length_of(raw::check_curve(curve)).map(|_| ())

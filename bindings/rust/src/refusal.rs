@@ -6,15 +6,15 @@ use std::fmt;
 /// A refusal. Its text is the contract's; `place` is the divisor at fault, counted from 1.
 #[derive(Clone, Copy, Debug, PartialEq, Eq, Hash)]
 pub enum Refusal {
-    /// 1: curve record shorter than 6 bytes, or not 54 or 70 as its g says.
+    /// 1: curve record shorter than 6 bytes, or not 54 or 70 as its g says; in version 2, not 63 + 8k or 79 + 8k, or ends before k.
     CurveLength,
     /// 2: mark isn't `HJC`.
     Mark,
-    /// 3: version isn't 1.
+    /// 3: version isn't 1 or 2.
     Version,
     /// 4: g isn't 2 or 3.
     Genus,
-    /// 5: p out of range or no odd prime.
+    /// 5: p out of range or no odd prime; in version 2, even or out of range.
     Prime,
     /// 6: some f_i ≥ p.
     CurveCoefficient,
@@ -37,6 +37,8 @@ pub enum Refusal {
     /// 15: a running total's own divisor has a number of p or more or isn't valid on the curve given, or its count is
     /// over 4,096.
     RunningTotal,
+    /// 18: in version 2, k isn't 1 to 15 or the witness doesn't show p prime.
+    Witness,
     /// 19: the divisor given or its multiple is neutral.
     EmptyKey,
 }
@@ -64,12 +66,13 @@ impl Refusal {
             13 => Refusal::OutputLength,
             14 => Refusal::Full,
             15 => Refusal::RunningTotal,
+            18 => Refusal::Witness,
             19 => Refusal::EmptyKey,
             other => panic!("libtablet.a answered {}, which isn't a number of the contract", other),
         })
     }
 
-    /// The contract's number, 1 to 15 or 19.
+    /// The contract's number, 1 to 15, 18 or 19.
     pub fn number(self) -> u64 {
         match self {
             Refusal::CurveLength => 1,
@@ -87,6 +90,7 @@ impl Refusal {
             Refusal::OutputLength => 13,
             Refusal::Full => 14,
             Refusal::RunningTotal => 15,
+            Refusal::Witness => 18,
             Refusal::EmptyKey => 19,
         }
     }
@@ -105,11 +109,14 @@ impl Refusal {
     /// The contract's words.
     pub fn words(self) -> &'static str {
         match self {
-            Refusal::CurveLength => "curve record shorter than 6 bytes, or not 54 or 70 as its g says",
+            Refusal::CurveLength => {
+                "curve record shorter than 6 bytes, or not 54 or 70 as its g says; in version 2, not 63 + 8k or 79 + 8k, \
+                 or ends before k"
+            }
             Refusal::Mark => "mark isn't `HJC`",
-            Refusal::Version => "version isn't 1",
+            Refusal::Version => "version isn't 1 or 2",
             Refusal::Genus => "g isn't 2 or 3",
-            Refusal::Prime => "p out of range or no odd prime",
+            Refusal::Prime => "p out of range or no odd prime; in version 2, even or out of range",
             Refusal::CurveCoefficient => "some f_i ≥ p",
             Refusal::RepeatedFactor => {
                 "f has a repeated factor: f and its derivative share a factor of degree 1 or more"
@@ -127,6 +134,7 @@ impl Refusal {
                 "a running total's own divisor has a number of p or more or isn't valid on the curve given, \
                  or its count is over 4,096"
             }
+            Refusal::Witness => "in version 2, k isn't 1 to 15 or the witness doesn't show p prime",
             Refusal::EmptyKey => "the divisor given or its multiple is neutral",
         }
     }
@@ -147,7 +155,7 @@ mod tests {
     #[test]
     fn numbers_and_places_come_back() {
         assert_eq!(Refusal::check(0, 0), Ok(()));
-        for number in (1..=15).chain([19]) {
+        for number in (1..=15).chain([18, 19]) {
             let place = if (8..=11).contains(&number) { 7 } else { 0 };
             let refusal = Refusal::check(number, place).unwrap_err();
             assert_eq!((refusal.number(), refusal.place()), (number, place));

@@ -10,6 +10,16 @@ fn curve(genus: u8, p: u64, f: &[u64]) -> Vec<u8> {
     bytes
 }
 
+/// The record in version 2, with a base and primes.
+fn witnessed(genus: u8, p: u64, f: &[u64], base: u64, primes: &[u64]) -> Vec<u8> {
+    let mut bytes = curve(genus, p, f);
+    bytes[4] = 2;
+    bytes.extend_from_slice(&base.to_be_bytes());
+    bytes.push(primes.len() as u8);
+    bytes.extend(primes.iter().flat_map(|q| q.to_be_bytes()));
+    bytes
+}
+
 fn divisor(u: &[u64], v: &[u64]) -> Vec<u8> {
     let mut bytes = vec![u.len() as u8];
     for number in u.iter().chain(v) {
@@ -61,6 +71,38 @@ fn multiples() {
         assert_eq!(call(&c, &a, &[0; SCALAR_ROOM + 1], &mut out), Err(Refusal::ScalarLength));
         assert_eq!(call(&c, &a, &[2], &mut out[..32]), Err(Refusal::OutputLength));
     }
+}
+
+/// Curves with a witness: rewritten with it, refused without, and sums on them.
+#[test]
+fn witnesses() {
+    let (ones, seventh) = ([1, 0, 0, 0, 0], [1, 0, 0, 0, 0, 0, 0]);
+    let p = (1 << 61) - 1;
+    let primes = [2, 3, 5, 7, 11, 13, 31, 41, 61, 151, 331, 1321];
+    let fifteen = [2, 3, 5, 7, 11, 13, 17, 19, 23, 29, 31, 37, 41, 43, 53];
+    for c in [
+        witnessed(2, 7, &ones, 3, &[2, 3]),
+        witnessed(2, p, &ones, 37, &primes),
+        witnessed(3, p, &seventh, 37, &primes),
+        witnessed(3, 693_386_350_578_511_591, &seventh, 14, &fifteen),
+    ] {
+        assert_eq!(written(|out| rewrite_curve(&c, out)), c);
+        assert_eq!(rewrite_curve(&c, &mut vec![0; c.len() - 1]), Err(Refusal::OutputLength));
+        assert_eq!(check_curve(&c[..c.len() - 1]), Err(Refusal::CurveLength));
+        // (x, 1) twice is (x², 1), and with its opposite it is neutral.
+        let p = u64::from_be_bytes(c[6..14].try_into().unwrap());
+        let (a, turned) = (divisor(&[0], &[1]), divisor(&[0], &[p - 1]));
+        assert_eq!(written(|out| double(&c, &a, out)), divisor(&[0, 0], &[1, 0]));
+        assert_eq!(written(|out| opposite(&c, &a, out)), turned);
+        assert_eq!(written(|out| add(&c, &a, &turned, out)), [0]);
+    }
+    assert_eq!(check_curve(&witnessed(2, p, &ones, 36, &primes)), Err(Refusal::Witness));
+    assert_eq!(check_curve(&witnessed(2, p, &ones, 37, &primes[..11])), Err(Refusal::Witness));
+    assert_eq!(check_curve(&witnessed(2, 9, &ones, 8, &[2])), Err(Refusal::Witness));
+    assert_eq!(check_curve(&witnessed(2, 8, &ones, 3, &[2, 3])), Err(Refusal::Prime));
+    assert_eq!(check_curve(&witnessed(2, p + 1, &ones, 37, &primes)), Err(Refusal::Prime));
+    assert_eq!(check_curve(&witnessed(2, 8, &ones, 3, &[])), Err(Refusal::Witness));
+    assert_eq!(check_curve(&curve(2, p, &ones)), Err(Refusal::Prime));
 }
 
 #[test]
