@@ -15,9 +15,13 @@ import tempfile
 
 import reference
 from records import curve_record, divisor_record
-from streets import CASE_P, CURVE_A, CURVE_B, CURVE_L, CURVE_M, LARGEST, NEUTRAL, X1_0, X6_3, X_1, X_2, X_6, flipped, meters, points
+from streets import (
+    CASE_P, CURVE_A, CURVE_B, CURVE_L, CURVE_M, CURVE_V, CURVE_W, NEUTRAL, OF_VERSION_2, WITNESS, X1_0, X6_3, X_1, X_2, X_6, flipped, meters,
+    points,
+)  # fmt: skip
 
 MISSING, DIRECTORY = None, "directory"
+P_LINES = "count 3\nrepeat 1 3\ntotal 02 %016x %016x %016x %016x\n" % (4, 4, 0, 1)
 HOME = os.path.normpath(os.path.join(os.path.dirname(os.path.abspath(__file__)), "..", "crates", "scenarios"))
 
 scenarios = []  # name, curve, batch, what the document says of it: a beginning of the text
@@ -62,7 +66,7 @@ def put_curves():
     refused("curve-with-one-more", CURVE_A + b"\0", CASE_P, 1)
     refused("curve-of-the-other-length", CURVE_B[:54], CASE_P, 1)
     refused("wrong-mark", curve_record(2, 7, f, mark=b"HJD"), CASE_P, 2)
-    refused("wrong-version", curve_record(2, 7, f, version=2), CASE_P, 3)
+    refused("wrong-version", curve_record(2, 7, f, version=3), CASE_P, 3)
     refused("genus-4", curve_record(4, 7, f), CASE_P, 4)
     refused("p-9", curve_record(2, 9, f), CASE_P, 5)
     refused("p-2", curve_record(2, 2, f), CASE_P, 5)
@@ -70,6 +74,28 @@ def put_curves():
     refused("f-of-p", curve_record(2, 7, [7, 0, 0, 0, 0]), CASE_P, 6)
     refused("repeated-factor", curve_record(2, 5, f), CASE_P, 7)
     refused("wrong-curve-wrong-batch", curve_record(2, 5, f), b"\x09", 7)
+
+
+def put_witnesses():
+    """Curve records of version 2."""
+    f, by_7 = [1, 0, 0, 0, 0], (3, (2, 3))
+    scenario("case-p-with-a-witness", curve_record(2, 7, f, witness=by_7), CASE_P, P_LINES)
+    refused("version-3-with-a-witness", curve_record(2, 7, f, version=3, witness=by_7), CASE_P, 3)
+    refused("version-2-without-a-witness", curve_record(2, 7, f, version=2), CASE_P, 1)
+    refused("witness-cut", CURVE_W[:-1], CASE_P, 1)
+    refused("witness-with-one-more", CURVE_W + b"\0", CASE_P, 1)
+    refused("witness-of-none", curve_record(2, 8, f, witness=(3, ())), CASE_P, 18)
+    refused("witness-of-16", curve_record(2, 8, f, witness=by_7, k=16), CASE_P, 18)
+    refused("witness-for-8", curve_record(2, 8, f, witness=by_7), CASE_P, 5)
+    refused("witness-past-the-limit", curve_record(2, OF_VERSION_2 + 1, f, witness=WITNESS), CASE_P, 5)
+    refused("witness-for-9", curve_record(2, 9, f, witness=(8, (2,))), CASE_P, 18)
+    refused("witness-for-561", curve_record(2, 561, f, witness=(2, (2, 5, 7))), CASE_P, 18)
+    refused("witness-lists-6", curve_record(2, 7, f, witness=(3, (6,))), CASE_P, 18)
+    refused("witness-of-a-lower-order", curve_record(2, OF_VERSION_2, f, witness=(37 * 37, WITNESS[1])), CASE_P, 18)
+    refused("wrong-witness-wrong-f-wrong-batch", curve_record(2, 7, [7] * 5, witness=(2, (2, 3))), b"\x09", 18)
+    refused("good-witness-f-of-p", curve_record(2, 7, [7, 0, 0, 0, 0], witness=by_7), CASE_P, 6)
+    refused("good-witness-repeated-factor", curve_record(2, 5, f, witness=(2, (2,))), CASE_P, 7)
+    refused("good-witness-not-on-the-curve", CURVE_W, X_1, 11, 1)
 
 
 def put_batches():
@@ -93,7 +119,7 @@ def put_batches():
 
 
 def put_streets():
-    for name, curve, weight in (("two", CURVE_L, 2), ("three", CURVE_M, 3)):
+    for name, curve, weight in (("two", CURVE_L, 2), ("three", CURVE_M, 3), ("new-two", CURVE_W, 2), ("new-three", CURVE_V, 3)):
         street = meters(curve, 100, weight)
         scenario("street-of-" + name, curve, b"".join(street), "count 100\nrepeat none\ntotal 0%d " % weight)
         scenario("street-of-%s-with-a-repeat" % name, curve, b"".join(street + street[41:42]), "count 101\nrepeat 42 101\n")
@@ -145,9 +171,8 @@ def content_of(home):
 
 
 def main():
-    p_lines = "count 3\nrepeat 1 3\ntotal 02 %016x %016x %016x %016x\n" % (4, 4, 0, 1)
-    scenario("case-p", CURVE_A, CASE_P, p_lines)
-    for each in (put_files, put_curves, put_batches, put_streets):
+    scenario("case-p", CURVE_A, CASE_P, P_LINES)
+    for each in (put_files, put_curves, put_witnesses, put_batches, put_streets):
         each()
     with tempfile.TemporaryDirectory() as fresh:
         write(fresh)
