@@ -16,12 +16,12 @@ import sys
 import ideals
 import reference as r
 from corner_table import (
-    CASE_P, CASE_P_COUNT, CASE_P_REPEAT, CASE_P_TOTAL, CURVE_A, CURVES, DIVISORS, FLIPPED, KEYS, NEUTRAL, SCALARS, X6_3, X_1, X_6,
-    XX6X, XX_1, XX_6, each_example, power_and_1,
+    BY_LARGEST, CASE_P, CASE_P_COUNT, CASE_P_REPEAT, CASE_P_TOTAL, CURVE_A, CURVES, DIVISORS, FLIPPED, KEYS, LARGEST, NEUTRAL, SCALARS,
+    WITNESSED, X6_3, X_1, X_6, XX6X, XX_1, XX_6, each_example, power_and_1,
 )  # fmt: skip
 from frames import (
     ADD, CHECK_CURVE, CHECK_DIVISOR, DOUBLE, FIRST_REPEAT, GUARD, MULTIPLY, OPPOSITE, REWRITE_CURVE, REWRITE_DIVISOR, SCAN,
-    TOTAL_BATCH, WITH_OUTPUT, Frame, answer, decoded, encoded, label, text_of,
+    MOST_PART, TOTAL_BATCH, WITH_OUTPUT, Frame, answer, decoded, encoded, label, text_of,
 )  # fmt: skip
 from records import curve_record, divisor_record
 
@@ -116,6 +116,25 @@ def put_curves():
         corner("p=%d-double" % p, Frame(DOUBLE, curve, X_1, b"", 33), 0, 0, XX_1)
 
 
+THROUGH_EVERY_CALL = ("base-1", "k=0")
+
+
+def put_witnessed():
+    """W-201: curve records of version 2; the sums of (x, 1) are the same on every x^(2g+1) + 1."""
+    for name, curve, number in WITNESSED:
+        if number == 0:
+            taken_curve("v2-" + name, curve)
+        elif name in THROUGH_EVERY_CALL:
+            every_call("v2-" + name, curve, X_1, number)
+        else:
+            corner("v2-" + name, Frame(REWRITE_CURVE, curve, b"", b"", 199), number)
+    for g in (2, 3):
+        curve = power_and_1(g, LARGEST, BY_LARGEST)
+        corner("v2-genus-%d-cancel" % g, Frame(ADD, curve, X_1, divisor_record([0], [LARGEST - 1]), 9), 0, 0, NEUTRAL)
+        corner("v2-genus-%d-double" % g, Frame(DOUBLE, curve, X_1, b"", 33), 0, 0, XX_1)
+        corner("v2-genus-%d-room" % g, Frame(REWRITE_CURVE, curve, b"", b"", len(curve) - 1), 13)
+
+
 def put_bounds():
     for name, record, number in DIVISORS:
         if number:
@@ -187,10 +206,12 @@ def put_slips():
 def made():
     """The data and the text that the corners are answered by."""
     if not frames:
-        for put in (put_sums, put_curves, put_bounds, put_case_p, put_flipped, put_slips):
+        for put in (put_sums, put_curves, put_witnessed, put_bounds, put_case_p, put_flipped, put_slips):
             put()
     data = b"".join(map(encoded, frames))
-    return data, "".join(map(text_of, decoded(data)))
+    text = "".join(map(text_of, decoded(data)))
+    assert len(data) <= MOST_PART and len(text) <= MOST_PART  # one part
+    return data, text
 
 
 def main():

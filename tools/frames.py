@@ -33,7 +33,7 @@ WITH_SECOND = {ADD, MULTIPLY}
 
 GUARD = 0xA5
 MOST_PAYLOAD = 65515
-MOST_OUTPUT = 128
+MOST_OUTPUT = 208  # a curve record has at most 199
 
 # output: a length; total: None or a tuple of eight numbers
 Frame = namedtuple("Frame", "operation curve first second output total", defaults=(b"", b"", 0, None))
@@ -110,18 +110,20 @@ def text_of(frame, answered=None):
     return line + "\n"
 
 
-# A file of frames in parts of at most 65,536 bytes, which is what the program has room for at a time: PATH.a, PATH.b and on.
+# A file of frames in parts of at most 65,536 bytes, with no more text, which is what the program has room for at a time: PATH.a, PATH.b and on.
 MOST_PART = 65536
 
 
-def in_parts(frames):
-    """The frames' bytes, cut between frames."""
-    parts = [b""]
-    for data in map(encoded, frames):
-        assert len(data) <= MOST_PART
-        if len(parts[-1]) + len(data) > MOST_PART:
+def in_parts(frames, lines):
+    """The frames' bytes, cut between frames; `lines` has what each prints."""
+    parts, printed = [b""], 0
+    for data, line in zip(map(encoded, frames), lines):
+        assert len(data) <= MOST_PART and len(line) <= MOST_PART
+        if len(parts[-1]) + len(data) > MOST_PART or printed + len(line) > MOST_PART:
             parts.append(b"")
+            printed = 0
         parts[-1] += data
+        printed += len(line)
     return parts
 
 

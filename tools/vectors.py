@@ -22,6 +22,10 @@ import classes
 import corners
 import ideals
 import reference as r
+import witnesses
+from corner_table import (
+    BY_FIFTEEN, BY_LARGEST, BY_MORE, BY_SAFE, BY_TWOS, BY_VERSION_1S_LARGEST, FIFTEEN, LARGEST, LISTS_MORE, SAFE, TWOS,
+)  # fmt: skip
 from frames import (
     ADD, CHECK_CURVE, CHECK_DIVISOR, DOUBLE, FIRST_REPEAT, GUARD, MOST_OUTPUT, MULTIPLY, NAMES, OPPOSITE, REWRITE_CURVE,
     REWRITE_DIVISOR, SCAN, TOTAL_BATCH, WITH_OUTPUT, Frame, answer, decoded, encoded, in_parts, part_paths, read_parts, text_of,
@@ -30,10 +34,12 @@ from records import curve_record, divisor_record
 
 PRIMES = classes.PRIMES
 GENERA = (2, 3)
-MOST_BYTES = 990000  # of input and expected text together: both stand in the repository, with some 55,000 of the corners
+MOST_BYTES = 990000  # of input; it stands in the repository, with the expected text and some 70,000 of the corners
 ENOUGH = 20  # of each main kind of sum, per genus and prime
 NEUTRAL_RECORD = r.write_divisor(r.NEUTRAL)
-NUMBERS = tuple(range(16)) + (19,)  # that the calls answer
+NUMBERS = tuple(range(16)) + (18, 19)  # that the calls answer
+# Primes of version 2, with witnesses
+LARGE = {2147483647: BY_VERSION_1S_LARGEST, LARGEST: BY_LARGEST, TWOS: BY_TWOS, FIFTEEN: BY_FIFTEEN}
 
 
 class Dice:
@@ -576,13 +582,17 @@ def put_scans(dice, collection, pools):
 # Frames that are refused, with one fault and with two
 # ---------------------------------------------------------------------------------------------------------
 
-# Faults of a curve record in document 01's order. 1 stands twice: short (a) and of a wrong length (b).
-CURVE_FAULTS = ("1a", "2", "3", "4", "1b", "5", "6", "7")
+# Faults of a curve record in their order, by version. 1 stands twice: short (a) and of a wrong length (b), in version 2 also before k
+# (k), where 18 stands for k itself (k) and for the witness.
+CURVE_FAULTS = {
+    1: ("1a", "2", "3", "4", "1b", "5", "6", "7"),
+    2: ("1a", "2", "3", "4", "1k", "18k", "1b", "5", "18", "6", "7"),
+}
 # Faults of a divisor record; 8 stands twice: empty (a) and of a wrong length (b).
 DIVISOR_FAULTS = ("8a", "9", "8b", "10", "11")
 
 WRONG_MARKS = (b"HJD", b"hjc", b"\0\0\0", b"CJH", b"HKC", b"IJC", b"HJ\xc3")
-WRONG_VERSIONS = (0, 2, 256, 257, 65535)
+WRONG_VERSIONS = (0, 3, 256, 257, 258, 65535)
 WRONG_GENERA = (0, 1, 4, 5, 130, 255)
 WRONG_PRIMES = (
     0, 1, 2, 4, 8, 9, 15, 25, 49, 121, 561, 65536, 25326001, 46337 * 46337, 46327 * 46337, 2147483645, 2147483646,
@@ -591,17 +601,45 @@ WRONG_PRIMES = (
 
 
 def number_of(fault):
-    return int(fault.rstrip("ab"))
+    return int(fault.rstrip("abk"))
+
+
+# Even, or out of version 2's range
+NOT_IN_VERSION_2 = (0, 1, 2, 4, 6, 8, 2147483648, 2**61 - 2, 2**61, 2**61 + 1, 2**61 + 15, 2**63, 2**64 - 1)
+
+
+def faulty_witness(dice, p, a, primes):
+    """p, a base and a list with something wrong."""
+    i = dice.below(len(primes))
+    wrong = [
+        (p, dice.pick([0, 1, p, p + a, 2**64 - 1]), primes),
+        (p, pow(a, primes[i], p), primes),  # of a lower order
+        (p, a, primes[:i] + (primes[i] * primes[-1],) + primes[i + 1 :]),  # no prime
+        (p, a, primes[:i] + primes[i:][::-1] if i + 1 < len(primes) else primes + primes[-1:]),  # falling, or one twice
+        (p, a, primes + (dice.pick([1009, 2147483659, 2**31, 2**64 - 1]),)),  # doesn't divide p - 1
+        (p, a, dice.pick([(0,), (1,)]) + primes),
+        (561, 2, (2, 5, 7)),
+    ]
+    if len(primes) > 1:
+        wrong.append((p, a, primes[:i] + primes[i + 1 :]))
+    p, a, primes = dice.pick(wrong)
+    return p, (a, primes[:15])
 
 
 def faulty_curve(dice, curve, faults):
     """The curve's record with all the given faults at once, or None where they can't go together."""
-    g, p, stored = curve.g, curve.p, list(curve.f[:-1])
-    mark, version, genus = b"HJC", 1, g
+    g, p, stored, witness = curve.g, curve.p, list(curve.f[:-1]), curve.witness
+    mark, version, genus, k = b"HJC", 1 if witness is None else 2, g, None
+    if "1k" in faults and {"18k", "1b", "5", "18", "6", "7"} & set(faults):
+        return None  # there is no k, and all the rest is 1
+    if "18" in faults:
+        p, witness = faulty_witness(dice, p, *witness)
+    if "18k" in faults:
+        k = dice.pick([0, 16, 17, 255])
     if "7" in faults:
         stored = [0] * len(stored) if dice.below(2) else [0, 0] + stored[2:]
     if "5" in faults:
-        p = dice.pick(WRONG_PRIMES)
+        p = dice.pick(WRONG_PRIMES if witness is None else NOT_IN_VERSION_2)
     if "6" in faults:
         i = dice.below(len(stored))
         stored[i] = dice.pick([p, p + 1, p + stored[i], 2**64 - 1])
@@ -614,13 +652,16 @@ def faulty_curve(dice, curve, faults):
         version = dice.pick(WRONG_VERSIONS)
     if "4" in faults:
         genus = dice.pick(WRONG_GENERA)
-    record = curve_record(genus, p, stored, mark, version)
+    record = curve_record(genus, p, stored, mark, version, witness, k)
     if "1b" in faults:
-        record = dice.pick([record[:-1], record + b"\0", record + bytes(16), record[: max(14, len(record) - 16)]])
-        if record[5:6] in (b"\2", b"\3") and len(record) == {2: 54, 3: 70}[record[5]]:
+        least = 14 if witness is None else 14 + 8 * len(stored) + 9
+        record = dice.pick([record[:-1], record + b"\0", record + bytes(16), record[: max(least, len(record) - 16)]])
+        if witness is None and record[5:6] in (b"\2", b"\3") and len(record) == {2: 54, 3: 70}[record[5]]:
             record += b"\0"
+    if "1k" in faults:
+        record = record[: 14 + 8 * len(stored) + dice.below(9)]
     if "1a" in faults:
-        if set(faults) & {"4", "1b", "5", "6", "7"}:
+        if set(faults) & {"4", "1k", "18k", "1b", "5", "18", "6", "7"}:
             return None
         least = 5 if "3" in faults else 3 if "2" in faults else 0
         record = record[: least + dice.below(6 - least)]
@@ -662,9 +703,9 @@ def faulty_divisor(dice, curve, a, faults, in_batch=False):
 class Base:
     """One good call of an operation and its stages: where a fault may stand, in document 01's order."""
 
-    def __init__(self, dice, operation, pool):
+    def __init__(self, dice, operation, pool, version):
         self.dice, self.operation, self.pool = dice, operation, pool
-        stages = [("curve", fault) for fault in CURVE_FAULTS]
+        stages = [("curve", fault) for fault in CURVE_FAULTS[version]]
         first = [("first", fault) for fault in DIVISOR_FAULTS]
         second = [("second", fault) for fault in DIVISOR_FAULTS]
         if operation in (CHECK_DIVISOR, REWRITE_DIVISOR, DOUBLE, OPPOSITE, MULTIPLY):
@@ -739,7 +780,7 @@ class Base:
         output = 0
         if operation in WITH_OUTPUT:
             # one that would fit or, mostly, one that wouldn't: the earlier fault wins over that too
-            fits = 70 if operation == REWRITE_CURVE else 49
+            fits = 199 if operation == REWRITE_CURVE else 49
             output = 0 if by_part.get("output") else dice.pick([fits, 2, 4, 8])
             if by_part.get("output") and len(faults) == 1:
                 # the only fault: one byte short of the need, or shorter
@@ -776,15 +817,28 @@ class Base:
         return tuple(total)
 
 
-def put_refusals(dice, collection, pools):
-    """Every stage of every call by itself, and every pair of stages that can go together: the earlier must win."""
-    for operation in range(CHECK_CURVE, SCAN + 1):
-        stages = Base(dice, operation, pools[0]).stages
-        for faults in itertools.chain(
-            ((stage,) for stage in stages), itertools.combinations(stages, 2)
-        ):
-            for _ in range(12):
-                made = Base(dice, operation, dice.pick(pools)).frame(faults)
+def is_asked(operation, version, stages, faults):
+    """All stages and pairs of them in the two calls of a curve alone. In the others those of a curve that stand next to each other, since they
+    read it by the same function; and in version 2 what is its own, with the first and the last of the other stages."""
+    if operation in (CHECK_CURVE, REWRITE_CURVE):
+        return True
+    curve_stages = len(CURVE_FAULTS[version])
+    at = [stages.index(fault) for fault in faults]
+    if len(at) == 2 and at[1] < curve_stages:
+        return at[1] == at[0] + 1
+    if version == 1:
+        return True
+    own = faults[0][1] in ("1k", "18k", "18") and faults[0][0] == "curve"
+    return own and (len(at) == 1 or at[1] in (curve_stages, len(stages) - 1)) or at == [curve_stages - 1, curve_stages]
+
+
+def put_refusals(dice, collection, pools_by_version):
+    """Every stage of every call by itself, and every pair of stages that is asked for and can go together: the earlier must win."""
+    for operation, (version, pools) in itertools.product(range(CHECK_CURVE, SCAN + 1), pools_by_version.items()):
+        stages = Base(dice, operation, pools[0], version).stages
+        for faults in itertools.chain(((stage,) for stage in stages), itertools.combinations(stages, 2)):
+            for _ in range(12 if is_asked(operation, version, stages, faults) else 0):
+                made = Base(dice, operation, dice.pick(pools), version).frame(faults)
                 if made is None:
                     continue
                 frame, place = made
@@ -794,7 +848,7 @@ def put_refusals(dice, collection, pools):
                     wanted = (number, place if 8 <= number <= 11 else 0)
                     if fields[:2] != wanted:
                         raise AssertionError("%s %s: %s" % (NAMES[operation], faults, fields))
-                    collection.orders[(NAMES[operation],) + tuple("%s %s" % f for f in faults)] += 1
+                    collection.orders[(NAMES[operation], version) + tuple("%s %s" % f for f in faults)] += 1
                     break
 
 
@@ -818,7 +872,7 @@ def put_every_curve_fault(dice, collection):
         for record in wrong[:: 5]:
             collection.put(Frame(REWRITE_CURVE, record, b"", b"", MOST_OUTPUT))
         # six bytes are looked at, five are not
-        for mark, version, genus in itertools.product((b"HJC", b"HJX"), (1, 2), (g, 4)):
+        for mark, version, genus in itertools.product((b"HJC", b"HJX"), (1, 3), (g, 4)):
             for length in (5, 6, 7, len(good) - 1):
                 collection.put(Frame(CHECK_CURVE, curve_record(genus, p, f, mark, version)[:length]))
     # repeated factors: (x - a)²·rest, a derivative of 0, a quadratic factor twice
@@ -833,6 +887,73 @@ def put_every_curve_fault(dice, collection):
             collection.put(Frame(REWRITE_CURVE, record, b"", b"", dice.pick([0, 9, 54, 70])))
         if p == 2 * g + 1 or (g == 3 and p == 7):
             collection.put(Frame(CHECK_CURVE, curve_record(g, p, [p - 1] + [0] * (2 * g))))
+
+
+def put_witnesses(dice, collection):
+    """Good witnesses, and each made wrong in every way: the base, each prime left out, and all that `faulty_witness` has."""
+    for g, p in itertools.product(GENERA, (3, 5, 7, 11, 19, 2311, 65537, *LARGE)):
+        a, primes = LARGE.get(p) or witnesses.witness_of(p)
+        f = [1, 2] + [0] * (2 * g - 1)
+        tried = [(p, (a, primes))] + [(p, (base, primes)) for base in (0, 1, a * a % p, p - 1, p, p + a)]
+        if g == 2:
+            tried += [(p, (pow(a, q, p), primes)) for q in primes]
+        elif len(primes) > 1:
+            tried += [(p, (a, primes[:i] + primes[i + 1 :])) for i in range(len(primes))]
+        tried += [faulty_witness(dice, p, a, primes) for _ in range(4)]
+        for n, witness in tried:
+            collection.put(Frame(CHECK_CURVE, curve_record(g, n, f, witness=witness)))
+        good = curve_record(g, p, f, witness=(a, primes))
+        for output in (len(good), len(good) - 1, MOST_OUTPUT):
+            collection.put(Frame(REWRITE_CURVE, good, b"", b"", output))
+
+
+    for g, (p, witness) in itertools.product(GENERA, BY_ONE_FAULT):
+        collection.put(Frame(CHECK_CURVE, curve_record(g, p, [1] + [0] * (2 * g), witness=witness)))
+
+
+# Faults that a witness seldom has alone: a prime of 2^31 or more that would do, a composite number that would, a prime that doesn't divide
+# p - 1, a^(p-1)
+BY_ONE_FAULT = (
+    (LISTS_MORE, BY_MORE), (LISTS_MORE, (2**7, BY_MORE[1])), (SAFE, BY_SAFE), (7, (3, (6,))), (5, (2, (4,))), (19, (2, (2, 9))),
+    (36847, (3, (2, 3, 2047))), (7, (3, (2, 3, 5))), (15, (2, (2, 7))), (21, (2, (2, 5))), (33, (2, (2,))), (2147483649, (2, (2,))),
+)  # fmt: skip
+
+
+def put_composites(collection):
+    """Every odd composite number below 3,000 for p, with the primes of one less and the base that gets furthest."""
+    for n in filter(witnesses.is_composite, range(3, 3000, 2)):
+        collection.put(Frame(CHECK_CURVE, curve_record(2, n, [1, 0, 0, 0, 0], witness=witnesses.furthest(n))))
+
+
+def witnessed_pool(dice, g, p, roots=1, top=True):
+    """A pool on a curve of version 2."""
+    while True:
+        curve, chosen = drawn_curve(dice, g, p, roots, top)
+        pool = Pool(dice, curve._replace(witness=r.Witness(*(LARGE.get(p) or witnesses.witness_of(p)))), chosen)
+        if pool.has_divisors:
+            return pool
+
+
+def put_on_witnessed(dice, collection, pools, recipes):
+    """Every call on curves of version 2: sums of so many recipes, doubles, opposites, multiples, batches, repeats, scans."""
+    for pool in pools:
+        for recipe in dice.turned(RECIPES)[:recipes]:
+            pair = recipe(pool)
+            if pair is not None:
+                put_sum(dice, collection, pool.curve, *pair)
+        a, b = pool.heavy(), pool.anything()
+        put_sum(dice, collection, pool.curve, a, None)
+        one, other = map(r.write_divisor, (a, b))
+        put_with_outputs(dice, collection, Frame(OPPOSITE, pool.record, one), [enough_output])
+        for scalar in (dice.some_bytes(2), dice.pick([dice.some_bytes(32), b"\xff" * 32])):
+            put_with_outputs(dice, collection, Frame(MULTIPLY, pool.record, one, scalar), [enough_output])
+        batch = b"".join(map(r.write_divisor, drawn_batch(dice, pool, 5)))
+        put_with_outputs(dice, collection, Frame(TOTAL_BATCH, pool.record, batch), [enough_output])
+        collection.put(Frame(FIRST_REPEAT, pool.record, batch + r.write_divisor(pool.opposite(a)) + one))
+        collection.put(Frame(CHECK_DIVISOR, pool.record, one))
+        put_with_outputs(dice, collection, Frame(REWRITE_DIVISOR, pool.record, other), [enough_output])
+        collection.put(Frame(SCAN, pool.record, one, b"", 0, r.fresh_total()))
+        collection.put(Frame(SCAN, pool.record, other, b"", 0, r.flat_total(a, dice.pick([1, 4095]))))
 
 
 def put_every_divisor_fault(dice, collection, pools):
@@ -898,18 +1019,18 @@ def put_every_total_fault(dice, collection, pools):
 
 
 def put_long_batches(dice, collection, pools_of):
-    """4,096 and 4,097 records, kept small by neutral ones; seven hundred different points."""
+    """4,096 and 4,097 records, kept small by neutral ones; four hundred different points."""
     pool = pools_of[2, 2147483647][0]
     points = []
     x = 1
-    while len(points) < 700:
+    while len(points) < 400:
         x += 1 + dice.below(1000)
         y = square_root(value_at(pool.curve.f, x, pool.curve.p), pool.curve.p)
         if y:
             points.append(divisor_record([pool.curve.p - x], [y if dice.below(2) else pool.curve.p - y]))
     collection.put(Frame(FIRST_REPEAT, pool.record, b"".join(points)))
-    collection.put(Frame(FIRST_REPEAT, pool.record, b"".join(points[:400] + points[199:200])))
-    collection.put(Frame(TOTAL_BATCH, pool.record, b"".join(points[:300]), b"", 33))
+    collection.put(Frame(FIRST_REPEAT, pool.record, b"".join(points[:250] + points[199:200])))
+    collection.put(Frame(TOTAL_BATCH, pool.record, b"".join(points[:200]), b"", 33))
     pool = pools_of[3, 11][0]
     heavy = [r.write_divisor(pool.anything()) for _ in range(10)]
     full = dice.turned(heavy + [NEUTRAL_RECORD] * 4086)
@@ -963,8 +1084,17 @@ def made(seed):
         put_scans(dice, collection, pools)
         put_checks(dice, collection, pools)
     faulty = [pools_of[g, p][k] for g in GENERA for p in (7, 11, 65537, 2147483647) for k in (0, 1)]
-    put_refusals(dice, collection, faulty)
+    witnessed = {(g, p): witnessed_pool(dice, g, p) for g in GENERA for p in (3, 5, 7, 11, *LARGE)}
+    put_refusals(dice, collection, {1: faulty, 2: [witnessed[g, p] for g in GENERA for p in (7, 11)]})
     put_every_curve_fault(dice, collection)
+    put_witnesses(dice, collection)
+    put_composites(collection)
+    for (g, p), pool in witnessed.items():
+        if p == LARGEST:
+            more = [witnessed_pool(dice, g, p, *shape) for shape in ((3, False), (2, True))]
+            put_on_witnessed(dice, collection, [pool] + more, len(RECIPES))
+        else:
+            put_on_witnessed(dice, collection, [pool], 3)
     put_every_divisor_fault(dice, collection, [pools_of[key][1] for key in ((2, 7), (3, 2147483647))])
     put_every_total_fault(dice, collection, [pools_of[key][1] for key in ((3, 11), (2, 2147483647))])
     put_long_batches(dice, collection, pools_of)
@@ -1005,6 +1135,8 @@ class Census:
         self.shapes = Counter()
         self.classes = Counter()
         self.multiples = Counter()
+        self.witnessed = Counter()
+        self.composites = set()
         self.text = []
         for frame in frames:
             self.take(frame)
@@ -1042,6 +1174,7 @@ class Census:
                 self.batches["a cut last record"] += 1
             elif number == 14:
                 self.batches["over 4,096"] += 1
+        self.take_witness(frame, number)
         if operation == MULTIPLY and number in (0, 19):
             self.multiples[r.read_curve(frame.curve).g, frame.second] += 1  # 0 as a scalar is 19
         if number != 0:
@@ -1066,6 +1199,28 @@ class Census:
             self.multiples["with a digit -1"] += -1 in digits
             for order in (2, 3):
                 self.multiples["of a divisor of order %d" % order] += order_below_four(curve, a) == order
+
+    def take_witness(self, frame, number):
+        """What a curve record of version 2 has: its witness's faults where that is what is answered, the calls that are done."""
+        curve = frame.curve
+        if curve[:5] != b"HJC\0\2" or number not in (0, 18):
+            return
+        g, p = curve[5], r.number_at(curve, 6)
+        end = 14 + 8 * (2 * g + 1)
+        k = curve[end + 8]
+        if number == 0:
+            self.witnessed[g, "done, " + NAMES[frame.operation]] += 1
+            self.witnessed["p = %d" % p] += 1
+            self.witnessed["k = %d" % k] += 1
+        elif not 1 <= k <= 15:
+            self.witnessed["k is %s" % (k if k in (0, 16) else "over 16")] += 1
+        else:
+            primes = tuple(r.number_at(curve, end + 9 + 8 * i) for i in range(k))
+            faults = witnesses.faults_of(p, r.number_at(curve, end), primes)
+            self.witnessed.update(faults)
+            self.witnessed.update(fault + ", alone" for fault in faults if len(faults) == 1)
+            if primes == witnesses.primes_of(p - 1) if p < 3000 else False:
+                self.composites.add(p)
 
     def shortfalls(self):
         short = []
@@ -1107,14 +1262,24 @@ class Census:
         for g in GENERA:
             for what in ["a repeat by sign, an equal pair behind it"] + ["%s, weight %d" % (kind, w) for kind in REPEATS for w in range(1, g + 1)]:
                 need("g = %d: %s" % (g, what), self.repeats[g, what], 5)
-        # Neighbours in the order: each two stages that follow each other and can go together, in every call.
-        for operation in range(CHECK_CURVE, SCAN + 1):
-            stages = ["%s %s" % stage for stage in Base(None, operation, None).stages]
+        for fault in witnesses.FAULTS:
+            need("version 2: " + fault + ", alone", self.witnessed[fault + ", alone"], 5)
+        for what in ["k is 0", "k is 16", "k is over 16"] + ["p = %d" % p for p in (3, 5, 7, *LARGE)] + ["k = 1", "k = 2", "k = 12", "k = 15"]:
+            need("version 2: " + what, self.witnessed[what], 5)
+        for g, operation in itertools.product(GENERA, range(CHECK_CURVE, SCAN + 1)):
+            need("version 2, g = %d: %s" % (g, NAMES[operation]), self.witnessed[g, "done, " + NAMES[operation]], 5)
+            need("g = %d, p = 2^61 - 1: %s" % (g, NAMES[operation]), self.done_per_curve[(g, LARGEST), operation], 1)
+        composites = set(filter(witnesses.is_composite, range(3, 3000, 2)))
+        need("version 2: composite numbers below 3,000", len(self.composites & composites), len(composites))
+        # Neighbours in the order: each two stages that follow each other and can go together, in every call and version.
+        for operation, version in itertools.product(range(CHECK_CURVE, SCAN + 1), CURVE_FAULTS):
+            stages = Base(None, operation, None, version).stages
             for one, other in zip(stages, stages[1:]):
-                empty_with_more = one.endswith("8a")  # an empty record has no other fault
-                in_batch = operation in (TOTAL_BATCH, FIRST_REPEAT) and (one.endswith("8a") or other.endswith("8a"))
-                if not empty_with_more and not in_batch:
-                    need("%s: %s before %s" % (NAMES[operation], one, other), self.orders[NAMES[operation], one, other], 1)
+                cut_with_more = one[1] in ("8a", "1k")  # an empty record has no other fault, nor has one that ends before k
+                in_batch = operation in (TOTAL_BATCH, FIRST_REPEAT) and "8a" in (one[1], other[1])
+                if not cut_with_more and not in_batch and is_asked(operation, version, stages, (one, other)):
+                    names = tuple("%s %s" % stage for stage in (one, other))
+                    need("%s, version %d: %s before %s" % (NAMES[operation], version, *names), self.orders[(NAMES[operation], version) + names], 1)
         return short
 
     def lines(self, size):
@@ -1157,7 +1322,12 @@ class Census:
             yield "repeats, g = %d: " % g + ", ".join("%s %d" % (what, n) for (h, what), n in sorted(self.repeats.items()) if h == g)
         named = sorted((what, n) for what, n in self.multiples.items() if isinstance(what, str))
         yield "multiples: " + ", ".join("%s %d" % pair for pair in named)
-        singles = sum(1 for order in self.orders if len(order) == 2)
+        for g in GENERA:
+            done = sorted((what[1][6:], n) for what, n in self.witnessed.items() if isinstance(what, tuple) and what[0] == g)
+            yield "version 2, g = %d, done: " % g + ", ".join("%s %d" % pair for pair in done)
+        yield "version 2: " + ", ".join("%s %d" % (what, n) for what, n in sorted((k, n) for k, n in self.witnessed.items() if isinstance(k, str)))
+        yield "version 2: %d composite numbers below 3,000 refused with the primes of one less" % len(self.composites)
+        singles = sum(1 for order in self.orders if len(order) == 3)
         yield "refusals: %d stages by themselves, %d pairs of faults where the earlier must win" % (
             singles,
             len(self.orders) - singles,
@@ -1206,8 +1376,8 @@ def main():
     for line in census.lines(len(given)):
         print(line)
     short = census.shortfalls()
-    if len(given) + len(text) > MOST_BYTES:
-        short.append("%d bytes in all, over %d" % (len(given) + len(text), MOST_BYTES))
+    if len(given) > MOST_BYTES:
+        short.append("%d bytes of input, over %d" % (len(given), MOST_BYTES))
     if options.check:
         if given != data:
             short.append("the input isn't what seed %s makes" % options.seed)
@@ -1215,7 +1385,7 @@ def main():
             short.append("the expected text isn't what the frames answer")
         print("%d sums and doubles agree with ideals.py" % sums_by_ideals(census.frames))
     else:
-        parts = in_parts(collection.frames)
+        parts = in_parts(collection.frames, census.text)
         files = list(zip(part_paths(options.input, len(parts)), parts)) + [(options.expected, (text + corners.made()[1]).encode("ascii"))]
         for path, content in files:
             os.makedirs(os.path.dirname(os.path.abspath(path)), exist_ok=True)
