@@ -90,13 +90,15 @@ fn corners_of_curve_b() {
     assert_eq!(times(&c, &x1, 7), neutral()); // B3
 }
 
+/// What a curve record is answered.
+fn number(curve: &[u8]) -> u64 {
+    let answer = check_curve(curve);
+    assert_eq!((answer.place, answer.length), (0, 0));
+    answer.number
+}
+
 #[test]
 fn curves_refused_in_order() {
-    let number = |c: &[u8]| {
-        let answer = check_curve(c);
-        assert_eq!((answer.place, answer.length), (0, 0));
-        answer.number
-    };
     let ones = [1, 0, 0, 0, 0];
     let seventh = [1, 0, 0, 0, 0, 0, 0];
     for p in [1, 2, 9, 2_147_483_648, 0, u64::MAX] {
@@ -164,11 +166,6 @@ fn largest(genus: u8, f: &[u64]) -> Vec<u8> {
 
 #[test]
 fn witnesses_refused_in_order() {
-    let number = |c: &[u8]| {
-        let answer = check_curve(c);
-        assert_eq!((answer.place, answer.length), (0, 0));
-        answer.number
-    };
     let (ones, seventh) = ([1, 0, 0, 0, 0], [1, 0, 0, 0, 0, 0, 0]);
     assert_eq!(number(&witnessed(2, 3, &ones, 2, 1, &[2])), 0);
     assert_eq!(number(&witnessed(3, 5, &seventh, 2, 1, &[2])), 0);
