@@ -24,13 +24,11 @@ objdump=objdump binutils=binutils
 want $objdump $binutils
 say "multiplications in the library's products"
 $objdump -d --no-show-raw-insn "$YUBI_LIB_DIR/libtablet.a" | awk '
-    function known(short, products, sums) { source[short] = 3 * products + 4 * sums; most[short] = 4 * (products + sums) }
+    function known(name, products, sums) { source[name] = 3 * products + 4 * sums; most[name] = 4 * (products + sums) }
     BEGIN { known("genus2::rest", 2, 2); known("opens3::times", 1, 6); known("genus3::rest", 1, 4); known("genus3::second", 4, 3) }
     /^[0-9a-f]+ <.*>:$/ {
         name = $2
         gsub(/^<|>:$/, "", name)
-        short = name
-        sub(/^.*::/, "", short)
         if (name in most) { seen[name] = 1 }
         at = 0
         wide = 0
@@ -39,7 +37,7 @@ $objdump -d --no-show-raw-insn "$YUBI_LIB_DIR/libtablet.a" | awk '
         at++
         if ($2 ~ /^(mul|imul|mulx)q?$/) { of[name]++ }
         # The modulus is made by six squares in a row: from one to the next is a product whole.
-        if (short == "read_curve" && $2 ~ /^mulq?$/) {
+        if (name == "field::Modulus::of" && $2 ~ /^mulq?$/) {
             place[++wide] = at
             if (wide > 2 && ++times[at - place[wide - 2]] > times[step]) { step = at - place[wide - 2] }
         }
