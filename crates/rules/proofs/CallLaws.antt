@@ -36,6 +36,8 @@ use Rattle.rules.proofs.calls.Scans.{ScanDone, running-result, scans, A
 use Rattle.rules.proofs.calls.Delivered.{Kept}
 use Rattle.rules.proofs.calls.Taken.{total-result}
 use Rattle.rules.proofs.calls.Keys.{EmptyKey}
+use Rattle.rules.specs.Calls.{check-order}
+use Rattle.rules.proofs.calls.Orders.{OrderDone, NotOrder}
 use Rattle.rules.proofs.calls.Rewrites
 use Rattle.rules.proofs.calls.Written
 use Rattle.rules.proofs.calls.Delivered
@@ -43,6 +45,7 @@ use Rattle.rules.proofs.calls.Repeats
 use Rattle.rules.proofs.calls.Same as SameLaws
 use Rattle.rules.proofs.calls.Taken
 use Rattle.rules.proofs.calls.Keys
+use Rattle.rules.proofs.calls.Orders
 use Rattle.rules.proofs.calls.Done
 use Rattle.rules.proofs.calls.Sums
 use Rattle.rules.proofs.calls.Totals
@@ -148,6 +151,17 @@ module _ (s : List ℕ) where
   -- no empty keys (W-207): 19 exactly where the divisor given or the multiple is neutral, the earlier checks passing, whatever the output; so for scalar 0
   pub refuses-empty : (a n out : List ℕ) → (answered (multiply-call s a n out) ≡ 19) ↔ EmptyKey s a n
   refuses-empty = Keys.empty-key s
+
+-- ---- a key's order (W-214)
+module _ (s a order primes : List ℕ) where
+  -- 0 exactly where the curve and the divisor were taken, the order has at most 32 bytes, the list is whole, of at most 32 numbers and each below 2^31, and n is the order, with that list its primes
+  -- (`ordered`); and then for every m the m-fold of the divisor is neutral exactly when n divides m (`exactly`)
+  pub order-accepted : (check-order s a order primes .number ≡ 0) ↔ OrderDone s a order primes
+  order-accepted = Orders.order-done s a order primes
+
+  -- 27 exactly where what is checked before passed, and that isn't so
+  pub order-refused : (check-order s a order primes .number ≡ 27) ↔ NotOrder s a order primes
+  order-refused = Orders.order-27 s a order primes
 
 -- ---- demand 3: totals
 module _ (s : List ℕ) {c : CurveRecord} (ec : read-curve s ≡ taken c) (rs : List (List ℕ)) (good : AllRecords c rs) where

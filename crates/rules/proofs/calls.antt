@@ -24,6 +24,7 @@ pub mod Repeats
 -- the calls
 pub mod Taken
 pub mod Keys
+pub mod Orders
 pub mod Done
 pub mod Sums
 pub mod ListLaws

@@ -21,6 +21,11 @@ unfolding word64
 words s a zero = []
 words s a (suc n) = word64 s a ∷ words s (a + 8) n
 
+-- the same of four bytes each
+unfoldable pub words32 : List ℕ → ℕ → ℕ → List ℕ
+words32 s a zero = []
+words32 s a (suc n) = word32 s a ∷ words32 s (a + 4) n
+
 -- the eight bytes of a number
 unfoldable pub bytes64 : ℕ → List ℕ
 bytes64 x =

@@ -1,13 +1,15 @@
 -- Document 01, "Numbers the tablet shows": each call as a function from the bytes lent to its whole answer and to every byte of the output as it
 -- returns. A call's rule is what it comes to, its checks in their order and then a result; `deliver` makes the answer of it, the same for every call: 13
--- where the output is too short, and a refusal has length 0, none of the call's own numbers, and leaves the output as it was. Here are the numbers 12 to 15 and 19;
+-- where the output is too short, and a refusal has length 0, none of the call's own numbers, and leaves the output as it was. Here are the numbers 12 to 15, 19 and 27;
 -- 16 and 17 are the program's (texts). At the end, of "The pole's list", the running total and the scan.
-use Prim.Native.Nat.{ℕ, _+_}
+use Prim.Native.Nat.{ℕ, _+_, _/_, _%_}
 use mathlib.Core.List.{List, [], _∷_, _++_}
+use mathlib.Core.Bool.{Bool, not}
 use lib.Dec.{eqb, ltb, leb}
 use lib.ListN.{length}
 use lib.Seq.{sets}
-use Rattle.rules.specs.Bytes.{number}
+use Rattle.orders.specs.Tests.{order?}
+use Rattle.rules.specs.Bytes.{number, words32}
 use Rattle.rules.specs.Pair.{neutral, opposite}
 use Rattle.rules.specs.Sum.{sum, double}
 use Rattle.rules.specs.Multiple.{multiple, doublings, additions}
@@ -105,6 +107,32 @@ multiply-call s a scalar out = deliver (0, 0) out (
     let y : PairOf c = multiple (curve c) (number scalar) x in
     first-failed (multiply-checks c scalar x y)
     (record { bytes = divisor-bytes (c .p) y; own = (doublings (number scalar), additions (number scalar)) }))))
+
+-- ---- W-214, a key's order: n, the number of the bytes `order`, and the primes that it is made of, 4 bytes each, at most 32 of them and each below 2^31, as the test of crate
+-- `orders` has it. 12 where the order has over 32 bytes, then 27 for every other fault of it, of the list and of the multiples; nothing is written
+abbrev pub listed : List ℕ → List ℕ
+listed primes = words32 primes 0 (length primes / 4)
+
+-- the m-fold is neutral
+abbrev pub neutral-fold? : (c : CurveRecord) → PairOf c → ℕ → Bool
+neutral-fold? c x m = not (weighs? (multiple (curve c) m x))
+
+abbrev pub order-checks : (c : CurveRecord) → List ℕ → List ℕ → PairOf c → List Check
+order-checks c order primes x =
+    (leb (length order) 32, 12, 0) ∷
+    (eqb (length primes % 4) 0, 27, 0) ∷
+    (leb (length primes) 128, 27, 0) ∷
+    (below? 2147483648 (listed primes), 27, 0) ∷
+    (order? (neutral-fold? c x) (number order) (listed primes), 27, 0) ∷
+    []
+
+unfoldable pub check-order : List ℕ → List ℕ → List ℕ → List ℕ → Answer
+unfolding number words32 read-curve below? multiple order?
+check-order s a order primes = (deliver (tt {0}) [] (
+    go-on (read-curve s) (λ c.
+    go-on (read-divisor c 1 a) (λ x.
+    first-failed (order-checks c order primes x)
+    (record { bytes = []; own = tt }))))) .answer
 
 -- ---- a batch: its total with the count of records, its first repeat
 unfoldable pub total-call : List ℕ → List ℕ → List ℕ → Reply ℕ

@@ -1,7 +1,7 @@
 -- "Place is k for 8 to 11 where the k-th divisor (from 1) is at fault, otherwise 0": of each call's rule. What a call delivers has the place of what was refused
 -- (`delivered-place`); here is what each call may refuse, and where.
 -- Open: `Alone`, `OfTwo`, `On`.
-use Prim.Native.Nat.{ℕ}
+use Prim.Native.Nat.{ℕ, _<_}
 use mathlib.Core.Path.{_≡_, refl, ap, _∙_}
 use mathlib.Core.List.{List, [], _∷_, _++_}
 use mathlib.Core.Bool.{true}
@@ -14,10 +14,12 @@ use Rattle.rules.specs.Multiple.{multiple}
 use Rattle.rules.specs.Checks.{Checked, refused, taken, first-failed, go-on}
 use Rattle.rules.specs.Records.{CurveRecord, curve, PairOf, read-curve, read-divisor}
 use Rattle.rules.specs.Lists.{batch}
+use Rattle.rules.specs.Calls.{order-checks, check-order}
 use Rattle.rules.specs.Calls.{Result, Reply, deliver, check-curve, check-divisor, rewrite-curve, from-one, rewrite-divisor, double-call, opposite-call, add-call, multiply-checks, multiply-call, total-call, repeat-call, Running, resume, scan-call}
 use Rattle.rules.proofs.calls.Checks.{refused-as}
 use Rattle.rules.proofs.calls.Places.{At, None, Placed, elsewhere, placed-on, placed-taken, curve-place, divisor-place, resume-place, Faulty, batch-place}
 use Rattle.rules.proofs.calls.Delivered.{delivered-place}
+use Rattle.rules.proofs.calls.Written.{only}
 use Rattle.rules.proofs.calls.Taken.{no-counts, multiple-result}
 
 -- the one divisor of a call; the first or the second of two
@@ -109,3 +111,12 @@ module _ (s : List ℕ) where
   unfolding scan-call
   scan-place t a = delivered-place t [] Alone _ (on-curve Alone s _ (λ c e.
       placed-on Alone None (resume c t) _ (resume-place c t) (λ n j e h. absurd h) (λ x e. alone c a _ (λ y. placed-taken Alone _))))
+
+  -- 12 and 27 have place 0
+  pub order-place : (a order primes : List ℕ) → At Alone (check-order s a order primes .number) (check-order s a order primes .place)
+  unfolding check-order
+  order-place a order primes = delivered-place tt [] Alone _ (on-curve Alone s _ (λ c e. alone c a _ (λ x n j q.
+      refused-as (only []) (At Alone) (order-checks c order primes x) (high 12 (omega arith), (high 27 (omega arith), (high 27 (omega arith), (high 27 (omega arith), (high 27 (omega arith), tt))))) q)))
+    where
+      high : (n : ℕ) → 11 < n → At Alone n 0
+      high n h = elsewhere Alone (λ l u. omega arith) refl
