@@ -108,7 +108,7 @@ fn write_multiple(y: Multiple, m: Modulus, out: &mut [u8]) -> MultipleAnswer
 }
 
 // The engine that takes fewer instructions (docs/BENCH.md): in genus 2 the one without inversions.
-fn quicker(c: Curve, a: Divisor, s: &[u8]) -> Multiple
+pub fn quicker(c: Curve, a: Divisor, s: &[u8]) -> Multiple
     requires { ⌜ ToMultiply c a (now s) ⌝ }
     ensures { λ r. ⌜ Multiplied c a (number (now (s .entry))) r ⌝ }
 {

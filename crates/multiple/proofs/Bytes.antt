@@ -2,16 +2,15 @@
 -- number can be (`below`).
 use Prim.Native.Nat.{ℕ, zero, suc, _+_, _-_, _*_, _/_, _%_, _^_, _≤_, _<_}
 use mathlib.Core.Path.{_≡_, sym, ap, _∙_}
-use mathlib.Core.List.{List, [], _∷_, foldl-append}
-use native.Mathlib.Numerals.{add-one}
+use mathlib.Core.List.{List}
 use native.Mathlib.Omega.{arith}
 use native.Mathlib.Nat.{mod-lt, div-one, div-add-mod, zero-div, div-lt-iff-lt-mul}
 use lib.ListN.{length, take, getD}
-use lib.Seq.{take-suc, take-length}
+use lib.Seq.{take-length}
 use lib.Pow.{pow-pos, shr-shr, high}
 use lib.Bits.{block-half, block-odd}
 use Rattle.rules.specs.Bytes.{number}
-use Rattle.rules.proofs.calls.Bytes.{AreBytes}
+use Rattle.rules.proofs.calls.Bytes.{AreBytes, number-more}
 
 -- ---- the bits below a block
 bit-below : (w r a b : ℕ) → r < w → (a * 2 ^ w + b) / 2 ^ r % 2 ≡ b / 2 ^ r % 2
@@ -23,14 +22,9 @@ bit-below (suc w) (suc r) a b l = ap (λ n. n % 2) (lower (a * 2 ^ suc w + b) �
     lower n = ap (λ k. n / 2 ^ k) {x = suc r} {y = 1 + r} (omega arith) ∙ sym (shr-shr n 1 r)
 
 module _ (s : List ℕ) where
-  -- ---- one byte more
-  number-more : (i : ℕ) → i < length s → number (take (i + 1) s) ≡ 256 * number (take i s) + getD s i 0
-  unfolding number
-  number-more i l = ap (λ n. number (take n s)) (add-one i) ∙ ap number (take-suc s i 0 l) ∙ foldl-append (λ n b. 256 * n + b) 0 (take i s) (getD s i 0 ∷ [])
-
-  -- the same in bits
+  -- ---- one byte more, in bits
   more-bits : (i : ℕ) → i < length s → number (take (i + 1) s) ≡ number (take i s) * 2 ^ 8 + getD s i 0
-  more-bits i l = omega (arith, number-more i l)
+  more-bits i l = omega (arith, number-more s i l)
 
   number-all : number (take (length s) s) ≡ number s
   number-all = ap number (take-length s)

@@ -1,14 +1,17 @@
 -- Document 01, "Street corners": those with a star, A1 to A9 and B1 to B3, as rows of a single list under a single claim that is
 -- computed. A row is a curve, an operation, its operands and its answer, all in numbers. A second list has two sums of a separate
--- implementation, for slips that no starred corner shows: a u that isn't monic before it is made so, and a second reduction.
+-- implementation, for slips that no starred corner shows: a u that isn't monic before it is made so, and a second reduction. Last, W-214's order of (x, 1), by the call.
 use Prim.Native.Nat.{ℕ}
 use mathlib.Core.Path.{_≡_, refl}
-use mathlib.Core.List.{List, [], _∷_, map}
+use mathlib.Core.List.{List, [], _∷_, _++_, map}
 use Rattle.algebra.proofs.zmod.Zmod.{zmod, emb, num, zmod-dec}
+use Rattle.algebra.proofs.zmod.Prime.{is-prime}
 use Rattle.algebra.proofs.zmod.PrimeField.{modulo, inv}
 use Rattle.rules.specs.Pair.{Pair}
 use Rattle.rules.specs.Sum.{sum, double}
 use Rattle.rules.specs.Multiple.{multiple}
+use Rattle.rules.specs.Records.{divisor-at}
+use Rattle.rules.specs.Calls.{refusal, done, check-order}
 
 -- (u, v) by lower coefficients, the constant's first
 pub record Numbers : Type 0 where
@@ -94,3 +97,21 @@ more-rows =
 pub more-corners : map ruled more-rows ≡ map (λ r. r .answer) more-rows
 unfolding ruled zmod emb num zmod-dec inv sum
 more-corners = refl
+
+-- ---- W-214, by the call's rule: on curve A the record of (x, 1) has order 5, with the list of the one prime 5; with 10, and 2 and 5, it is refused
+abbrev word : ℕ → List ℕ
+word n = 0 ∷ 0 ∷ 0 ∷ 0 ∷ 0 ∷ 0 ∷ 0 ∷ n ∷ []
+
+abbrev curve-A : List ℕ
+curve-A = 72 ∷ 74 ∷ 67 ∷ 0 ∷ 1 ∷ 2 ∷ (word 7 ++ (word 1 ++ (word 0 ++ (word 0 ++ (word 0 ++ word 0)))))
+
+abbrev x-A : List ℕ
+x-A = 1 ∷ (word 0 ++ word 1)
+
+pub order-corner : check-order curve-A x-A (5 ∷ []) (0 ∷ 0 ∷ 0 ∷ 5 ∷ []) ≡ done 0
+unfolding check-order divisor-at is-prime zmod emb num zmod-dec inv
+order-corner = refl
+
+pub not-order-corner : check-order curve-A x-A (10 ∷ []) (0 ∷ 0 ∷ 0 ∷ 2 ∷ 0 ∷ 0 ∷ 0 ∷ 5 ∷ []) ≡ refusal 27 0
+unfolding check-order divisor-at is-prime zmod emb num zmod-dec inv
+not-order-corner = refl

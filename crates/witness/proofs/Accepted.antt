@@ -46,18 +46,18 @@ some-at l i x r h e = first (drop i l) (dropped l i h) e
 
 -- ---- the whole test
 module _ (t : ℕ → Bool) (n : ℕ) (l : List ℕ) where
-  record Parts : Type 0 where
-    made : factors? 0 n l ≡ true
-    here : t n ≡ true
+  pub record Parts : Type 0 where
+    pub made : factors? 0 n l ≡ true
+    pub here : t n ≡ true
 
-  parts : order? t n l ≡ true → Parts
+  pub parts : order? t n l ≡ true → Parts
   unfolding order?
   parts e =
       let u = and-eq-true-iff (ltb 0 n && factors? 0 n l && t n) (none-below? t n l) .0 e in
       let v = and-eq-true-iff (ltb 0 n && factors? 0 n l) (t n) .0 (u .0) in
       record { made = and-eq-true-iff (ltb 0 n) (factors? 0 n l) .0 (v .0) .1; here = v .1 }
 
-  comes-to : 0 < n → factors? 0 n l ≡ true → t n ≡ true → order? t n l ≡ none-below? t n l
+  pub comes-to : 0 < n → factors? 0 n l ≡ true → t n ≡ true → order? t n l ≡ none-below? t n l
   unfolding order?
   comes-to pos made one = rw (lt-ltb 0 n pos, made, one)
 
