@@ -1,8 +1,8 @@
 -- Numbers by their bytes, from the highest on. Gives: what the loops over the bytes keep: bytes copied behind zeros (`Copied`), a number
 -- looked at up to its first nonzero byte (`Capping`), a number divided (`Dividing`); and so their results.
 use Prim.Native.Nat.{ℕ, zero, suc, _+_, _*_, _/_, _%_, _≤_, _<_}
-use mathlib.Core.Path.{_≡_, refl, sym, ap, ap₂, _∙_}
-use mathlib.Core.List.{List, [], _∷_, _++_, foldl, foldl-append}
+use mathlib.Core.Path.{_≡_, refl, sym, ap, _∙_}
+use mathlib.Core.List.{List, [], _∷_, foldl, foldl-append}
 use native.Mathlib.Numerals.{add-one}
 use native.Mathlib.Omega.{arith}
 use native.Mathlib.Nat.{div-add-mod, mod-lt, div-lt-iff-lt-mul, mul-add-div, mul-add-mod-self-left, mod-eq-of-lt, div-eq-of-lt}
@@ -10,7 +10,6 @@ use lib.ListN.{length, take, drop, getD, set, replicate, length-set}
 use lib.Seq.{take-suc-set, take-all, split-at}
 use Rattle.rules.specs.Bytes.{number}
 use Rattle.rules.proofs.calls.Bytes.{number-more}
-use Rattle.big_numbers.specs.declared.Divided.{Divided}
 use Rattle.big_numbers.specs.Numbers.{Capped, DividedBy}
 
 -- ---- one byte more

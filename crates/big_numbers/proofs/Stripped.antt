@@ -1,9 +1,9 @@
 -- A number of 32 bytes divided by a prime as often as it goes (`strip-turn`, `strip-end`), and tested for being made up of primes that stand in a row of four bytes each (`Looking`): from crate witness'
 -- laws on plain numbers (Listed). The row itself, one of it after the other (`row-next`).
 -- Open: `row`.
-use Prim.Native.Nat.{ℕ, zero, suc, _+_, _-_, _*_, _/_, _%_, _≤_, _<_}
-use mathlib.Core.Path.{_≡_, refl, sym, ap, ap₂, _∙_, subst}
-use mathlib.Core.Bool.{Bool, true, false}
+use Prim.Native.Nat.{ℕ, suc, _+_, _-_, _*_, _≤_, _<_}
+use mathlib.Core.Path.{_≡_, sym, ap, ap₂, _∙_, subst}
+use mathlib.Core.Bool.{Bool, false}
 use mathlib.Core.List.{List, [], _∷_}
 use native.Mathlib.Decide.{decLt}
 use native.Mathlib.Omega.{arith}
@@ -44,7 +44,22 @@ module _ (s : List ℕ) (k : ℕ) where
   unfolding words32
   row-end i l = ap (words32 s (4 * i)) {x = k - i} {y = 0} (omega arith)
 
--- the test for 1
+-- the tests for 0 and for 1
+module _ (n r : ℕ) (h : Capped n r) where
+  pub capped-none : r ≡ 0 → n ≡ 0
+  capped-none z = go (decLt n 256)
+    where
+      go : Dec (n < 256) → n ≡ 0
+      go (yes l) = sym (h .is l) ∙ z
+      go (no l) = absurd (omega (arith, z, h .most (omega arith)))
+
+  pub capped-some : (r ≡ 0 → ⊥) → 0 < n
+  capped-some ne = go (decLt 0 n)
+    where
+      go : Dec (0 < n) → 0 < n
+      go (yes l) = l
+      go (no l) = absurd (ne (h .is (omega arith) ∙ omega arith))
+
 pub capped-one : (n r : ℕ) → Capped n r → eqb n 1 ≡ eqb r 1
 capped-one n r h = go (decLt n 256)
   where

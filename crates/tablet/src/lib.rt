@@ -2,6 +2,7 @@
 // handed to it.
 ghost use mathlib.Core.Path.{_≡_};
 ghost use Rattle.rules.specs.Calls.{check-curve, check-divisor, rewrite-curve, rewrite-divisor, add-call, double-call, opposite-call, multiply-call, total-call, repeat-call};
+ghost use Rattle.rules.specs.Calls.{check-order};
 ghost use Rattle.rules.specs.Calls.{fresh};
 ghost use Rattle.scan_flat.specs.Flats.{flat-running, scanned-as, FlatScanIs};
 ghost use Rattle.c_answers.specs.Flat.{flat, flat-multiple, flat-total, flat-repeat};
@@ -92,6 +93,19 @@ pub extern "C" fn yubi_multiply_inversion_free(
     ensures output { λ r. ⌜ now (out .exit) ≡ multiply-call (now (curve .entry)) (now (a .entry)) (now (scalar .entry)) (now (out .entry)) .out ⌝ }
 {
     c_answers::flatten_multiple(call_group::multiply_inversion_free(curve, a, scalar, out))
+}
+
+// W-214: nothing is written.
+#[no_mangle]
+pub extern "C" fn yubi_check_order(
+    curve: &[u8],
+    divisor: &[u8],
+    order: &[u8],
+    primes: &[u8],
+) -> YubiAnswer
+    ensures { λ r. ⌜ r ≡ flat (check-order (now (curve .entry)) (now (divisor .entry)) (now (order .entry)) (now (primes .entry))) ⌝ }
+{
+    c_answers::flatten(call_order::check_order(curve, divisor, order, primes))
 }
 
 #[no_mangle]

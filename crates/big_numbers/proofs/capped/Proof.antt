@@ -6,9 +6,6 @@ use lib.ListN.{length}
 use Rattle.big_numbers.proofs.Numbers.{Capping, capping-begin, capping-stop, capping-turn, capping-end}
 use Rattle.big_numbers.proofs.capped.Statement.{statement}
 use Rattle.big_numbers.proofs.capped.Tie as tie
-use Rattle.big_numbers.proofs.capped.Reads as reads
-use Rattle.big_numbers.proofs.capped.Lts as lts
-use Rattle.big_endian.proofs.wide.Reads as wide-reads
 
 abbrev Inv-loop : tie.InvT-loop
 Inv-loop n t₀ k₀ t k = Capping n t k
@@ -16,35 +13,27 @@ Inv-loop n t₀ k₀ t k = Capping n t k
 abbrev μ-loop : tie.MeasureT-loop
 μ-loop n t₀ k₀ t k = 32 - k
 
--- src/lib.rt:40:5
 loop-holds : tie.Need-loop-holds Inv-loop μ-loop
 loop-holds c = capping-begin (c .args .t1)
 
--- src/lib.rt:42:13
 returns : tie.Need-returns Inv-loop μ-loop
 returns c = let v = c .before .before .loop in let e : length (c .before .before .before .args .t1) ≡ 32 = search needs in capping-stop (c .before .before .before .args .t1) e (v .t) (v .k) (v .inv) (c .before .loop-test .taken) (c .if1 .taken)
 
--- src/lib.rt:44:30
 array-read-wide : tie.Need-array-read-wide Inv-loop μ-loop
 array-read-wide c = search needs
 
--- src/lib.rt:44:9
 wide-requires : tie.Need-wide-requires Inv-loop μ-loop
 wide-requires c κs = search needs
 
--- src/lib.rt:45:9
 add-k : tie.Need-add-k Inv-loop μ-loop
 add-k c = search needs
 
--- src/lib.rt:40:5
 loop-less : tie.Need-loop-less Inv-loop μ-loop
 loop-less c = search needs
 
--- src/lib.rt:40:5
 loop-again : tie.Need-loop-again Inv-loop μ-loop
 loop-again c = let v = c .before .before .before .loop in let e : length (c .before .before .before .before .args .t1) ≡ 32 = search needs in capping-turn (c .before .before .before .before .args .t1) e (v .t) (v .k) (v .inv) (c .before .before .loop-test .taken) (omega (arith, c .before .if1 .left)) (c .wide .result) (c .wide .ensures .0) (c .wide .ensures .1)
 
--- src/lib.rt:35:1
 returns-2 : tie.Need-returns-2 Inv-loop μ-loop
 returns-2 c = let v = c .before .loop in let e : length (c .before .before .args .t1) ≡ 32 = search needs in capping-end (c .before .before .args .t1) e (v .t) (v .k) (v .inv) (c .loop-test .left)
 

@@ -1,14 +1,11 @@
 use native.Mathlib.Omega.{arith}
 use borrow.Author.Needs.{needs}
-use Prim.Native.Nat.{_-_, _*_, _+_}
-use mathlib.Core.Path.{_≡_, refl}
-use lib.ListN.{length, getD}
+use Prim.Native.Nat.{_-_}
+use mathlib.Core.Path.{_≡_}
+use lib.ListN.{length}
 use Rattle.big_numbers.proofs.Numbers.{Dividing, dividing-begin, next-byte, dividing-turn, dividing-end}
 use Rattle.big_numbers.proofs.divide.Statement.{statement}
 use Rattle.big_numbers.proofs.divide.Tie as tie
-use Rattle.big_numbers.proofs.divide.Reads as reads
-use Rattle.big_numbers.proofs.divide.Lts as lts
-use Rattle.big_endian.proofs.wide.Reads as wide-reads
 
 abbrev Inv-loop : tie.InvT-loop
 Inv-loop q n quotient₀ left₀ k₀ quotient left k = Dividing n q quotient left k
@@ -16,55 +13,42 @@ Inv-loop q n quotient₀ left₀ k₀ quotient left k = Dividing n q quotient le
 abbrev μ-loop : tie.MeasureT-loop
 μ-loop q n quotient₀ left₀ k₀ quotient left k = 32 - k
 
--- src/lib.rt:58:5
 loop-holds : tie.Need-loop-holds Inv-loop μ-loop
 loop-holds c = dividing-begin (c .args .t1) (c .args .q) (c .pre .0)
 
--- src/lib.rt:59:17
 mul-t : tie.Need-mul-t Inv-loop μ-loop
 mul-t c = search needs
 
--- src/lib.rt:59:47
 array-read-wide : tie.Need-array-read-wide Inv-loop μ-loop
 array-read-wide c = search needs
 
--- src/lib.rt:59:30
 wide-requires : tie.Need-wide-requires Inv-loop μ-loop
 wide-requires c κs = search needs
 
--- src/lib.rt:59:17
 add-t : tie.Need-add-t Inv-loop μ-loop
 add-t c = search needs
 
--- src/lib.rt:60:24
 div-quotient : tie.Need-div-quotient Inv-loop μ-loop
 div-quotient c = search needs
 
--- src/lib.rt:60:23
 cast-quotient : tie.Need-cast-quotient Inv-loop μ-loop
 cast-quotient c = let v = c .before .before .loop in omega (arith, next-byte (c .before .before .before .args .q) (v .left) (c .wide .result) (v .inv .less) (c .wide .ensures .1))
 
--- src/lib.rt:60:9
 array-write-quotient : tie.Need-array-write-quotient Inv-loop μ-loop
 array-write-quotient c = search needs
 
--- src/lib.rt:61:16
 rem-left : tie.Need-rem-left Inv-loop μ-loop
 rem-left c = search needs
 
--- src/lib.rt:62:9
 add-k : tie.Need-add-k Inv-loop μ-loop
 add-k c = search needs
 
--- src/lib.rt:58:5
 loop-less : tie.Need-loop-less Inv-loop μ-loop
 loop-less c = search needs
 
--- src/lib.rt:58:5
 loop-again : tie.Need-loop-again Inv-loop μ-loop
 loop-again c = let v = c .before .before .loop in let e : length (c .before .before .before .args .t1) ≡ 32 = search needs in dividing-turn (c .before .before .before .args .t1) (c .before .before .before .args .q) (v .quotient) (v .left) (v .k) (v .inv) e (c .before .loop-test .taken) (c .wide .result) (c .wide .ensures .0)
 
--- src/lib.rt:51:1
 returns : tie.Need-returns Inv-loop μ-loop
 returns c = let v = c .before .loop in let e : length (c .before .before .args .t1) ≡ 32 = search needs in dividing-end (c .before .before .args .t1) (c .before .before .args .q) (v .quotient) (v .left) (v .k) (v .inv) e (c .loop-test .left)
 

@@ -8,13 +8,6 @@ use Rattle.witness.specs.Witness.{SmallPrime}
 use Rattle.big_numbers.proofs.Stripped.{Looking, looking-begin, too-low, no-prime, no-divisor, looking-turn, looking-end}
 use Rattle.big_numbers.proofs.is_made_of.Statement.{statement}
 use Rattle.big_numbers.proofs.is_made_of.Tie as tie
-use Rattle.big_numbers.proofs.is_made_of.Reads as reads
-use Rattle.big_numbers.proofs.is_made_of.Lts as lts
-use Rattle.big_endian.proofs.read32.Reads as read32-reads
-use Rattle.big_numbers.proofs.capped.Reads as capped-reads
-use Rattle.big_numbers.proofs.divide.Reads as divide-reads
-use Rattle.big_numbers.proofs.without.Reads as without-reads
-use Rattle.witness.proofs.is_small_prime.Reads as is-small-prime-reads
 
 abbrev Inv-loop : tie.InvT-loop
 Inv-loop primes k left₀ last₀ i₀ left last i = Looking primes k (number left₀) last (number left) i
@@ -22,59 +15,45 @@ Inv-loop primes k left₀ last₀ i₀ left last i = Looking primes k (number le
 abbrev μ-loop : tie.MeasureT-loop
 μ-loop primes k left₀ last₀ i₀ left last i = k - i
 
--- src/lib.rt:94:5
 loop-holds : tie.Need-loop-holds Inv-loop μ-loop
 loop-holds c = looking-begin (c .before .args .primes .now) _ (number (c .before .args .n)) (c .before .pre)
 
--- src/lib.rt:95:44
 mul-read32 : tie.Need-mul-read32 Inv-loop μ-loop
 mul-read32 c = search needs
 
--- src/lib.rt:95:13
 read32-requires : tie.Need-read32-requires Inv-loop μ-loop
 read32-requires c κs = search needs
 
--- src/lib.rt:97:13
 returns : tie.Need-returns Inv-loop μ-loop
 returns c = let v = c .before .before .before .loop in too-low (c .before .before .before .before .before .args .primes .now) _ (number (c .before .before .before .before .before .args .n)) (v .last) (number (v .left)) (v .i) (v .inv) (c .before .before .loop-test .taken) (c .before .read32 .result) (c .before .read32 .ensures .1) (c .if1 .taken)
 
--- src/lib.rt:99:13
 is-small-prime-requires : tie.Need-is-small-prime-requires Inv-loop μ-loop
 is-small-prime-requires c κs = search needs
 
--- src/lib.rt:100:13
 returns-2 : tie.Need-returns-2 Inv-loop μ-loop
 returns-2 c = let v = c .before .before .before .before .before .loop in no-prime (c .before .before .before .before .before .before .before .args .primes .now) _ (number (c .before .before .before .before .before .before .before .args .n)) (v .last) (number (v .left)) (v .i) (v .inv) (c .before .before .before .before .loop-test .taken) (c .before .before .before .read32 .result) (c .before .before .before .read32 .ensures .1) (c .before .is-small-prime .result) (not-true (c .before .is-small-prime .result) (c .if2 .taken)) (c .before .is-small-prime .ensures)
 
--- src/lib.rt:102:13
 divide-requires : tie.Need-divide-requires Inv-loop μ-loop
 divide-requires c κs = let p = decided-yes {A = SmallPrime _} {b = c .before .is-small-prime .result} (not-false (c .before .is-small-prime .result) (c .if2 .left)) (c .before .is-small-prime .ensures) in (omega (arith, p .is .two), omega (arith, p .small))
 
--- src/lib.rt:104:13
 returns-3 : tie.Need-returns-3 Inv-loop μ-loop
 returns-3 c = let v = c .before .before .before .before .before .before .before .before .loop in no-divisor (c .before .before .before .before .before .before .before .before .before .before .args .primes .now) _ (number (c .before .before .before .before .before .before .before .before .before .before .args .n)) (v .last) (number (v .left)) (v .i) (v .inv) (c .before .before .before .before .before .before .before .loop-test .taken) (c .before .before .before .before .before .before .read32 .result) (c .before .before .before .before .before .before .read32 .ensures .1) (c .before .before .divide .result) (c .before .before .divide .ensures) (c .if3 .taken)
 
--- src/lib.rt:106:13
 without-requires : tie.Need-without-requires Inv-loop μ-loop
 without-requires c κs = let p = decided-yes {A = SmallPrime _} {b = c .before .before .before .before .is-small-prime .result} (not-false (c .before .before .before .before .is-small-prime .result) (c .before .before .before .if2 .left)) (c .before .before .before .before .is-small-prime .ensures) in (c .before .before .before .before .before .before .before .before .loop .inv .is .some, (p .is .two, omega (arith, p .small)))
 
--- src/lib.rt:109:9
 add-i : tie.Need-add-i Inv-loop μ-loop
 add-i c = search needs
 
--- src/lib.rt:94:5
 loop-less : tie.Need-loop-less Inv-loop μ-loop
 loop-less c = search needs
 
--- src/lib.rt:94:5
 loop-again : tie.Need-loop-again Inv-loop μ-loop
 loop-again c = let v = c .before .before .before .before .before .before .before .before .before .loop in let p = decided-yes {A = SmallPrime _} {b = c .before .before .before .before .before .is-small-prime .result} (not-false (c .before .before .before .before .before .is-small-prime .result) (c .before .before .before .before .if2 .left)) (c .before .before .before .before .before .is-small-prime .ensures) in looking-turn (c .before .before .before .before .before .before .before .before .before .before .before .args .primes .now) _ (number (c .before .before .before .before .before .before .before .before .before .before .before .args .n)) (v .last) (number (v .left)) (v .i) (v .inv) (c .before .before .before .before .before .before .before .before .loop-test .taken) (c .before .before .before .before .before .before .before .read32 .result) (c .before .before .before .before .before .before .before .read32 .ensures .1) (omega (arith, c .before .before .before .before .before .before .if1 .left)) p (c .before .before .before .divide .result) (c .before .before .before .divide .ensures) (c .before .if3 .left) (number (c .without .result)) (c .without .ensures)
 
--- src/lib.rt:111:5
 capped-requires : tie.Need-capped-requires Inv-loop μ-loop
 capped-requires c κs = search needs
 
--- src/lib.rt:86:1
 returns-4 : tie.Need-returns-4 Inv-loop μ-loop
 returns-4 c = let v = c .before .before .loop in looking-end (c .before .before .before .before .args .primes .now) _ (number (c .before .before .before .before .args .n)) (v .last) (number (v .left)) (v .i) (v .inv) (c .before .loop-test .left) (c .capped .result) (c .capped .ensures)
 

@@ -5,8 +5,6 @@ use lib.ListN.{length}
 use Rattle.big_numbers.proofs.Numbers.{Copied, copy-begin, copy-turn, copy-end}
 use Rattle.big_numbers.proofs.of.Statement.{statement}
 use Rattle.big_numbers.proofs.of.Tie as tie
-use Rattle.big_numbers.proofs.of.Reads as reads
-use Rattle.big_numbers.proofs.of.Lts as lts
 
 abbrev Inv-loop : tie.InvT-loop
 Inv-loop s n₀ from k₀ n k = Copied s n from k
@@ -14,39 +12,30 @@ Inv-loop s n₀ from k₀ n k = Copied s n from k
 abbrev μ-loop : tie.MeasureT-loop
 μ-loop s n₀ from k₀ n k = length s - k
 
--- src/lib.rt:25:16
 sub-from : tie.Need-sub-from Inv-loop μ-loop
 sub-from c = search needs
 
--- src/lib.rt:27:5
 loop-holds : tie.Need-loop-holds Inv-loop μ-loop
 loop-holds c = copy-begin (c .args .s .now) _
 
--- src/lib.rt:28:23
 shared-slice-read-n : tie.Need-shared-slice-read-n Inv-loop μ-loop
 shared-slice-read-n c = search needs
 
--- src/lib.rt:28:11
 add-n : tie.Need-add-n Inv-loop μ-loop
 add-n c = search needs
 
--- src/lib.rt:28:9
 array-write-n : tie.Need-array-write-n Inv-loop μ-loop
 array-write-n c = search needs
 
--- src/lib.rt:29:9
 add-k : tie.Need-add-k Inv-loop μ-loop
 add-k c = search needs
 
--- src/lib.rt:27:5
 loop-less : tie.Need-loop-less Inv-loop μ-loop
 loop-less c = search needs
 
--- src/lib.rt:27:5
 loop-again : tie.Need-loop-again Inv-loop μ-loop
 loop-again c = let v = c .before .before .loop in copy-turn (c .before .before .before .args .s .now) (v .n) _ (v .k) (v .inv) (omega (arith, c .before .before .before .pre)) (c .before .loop-test .taken)
 
--- src/lib.rt:20:1
 returns : tie.Need-returns Inv-loop μ-loop
 returns c = let v = c .before .loop in copy-end (c .before .before .args .s .now) (v .n) _ (v .k) (v .inv) (omega (arith, c .before .before .pre)) (c .loop-test .left)
 

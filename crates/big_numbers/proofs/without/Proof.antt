@@ -4,9 +4,6 @@ use Rattle.witness.proofs.Listed.{Out, out-begin}
 use Rattle.big_numbers.proofs.Stripped.{strip-turn, strip-less, strip-end}
 use Rattle.big_numbers.proofs.without.Statement.{statement}
 use Rattle.big_numbers.proofs.without.Tie as tie
-use Rattle.big_numbers.proofs.without.Reads as reads
-use Rattle.big_numbers.proofs.without.Lts as lts
-use Rattle.big_numbers.proofs.divide.Reads as divide-reads
 
 abbrev Inv-loop : tie.InvT-loop
 Inv-loop q k₀ k = Out (number k₀) q (number k)
@@ -14,23 +11,18 @@ Inv-loop q k₀ k = Out (number k₀) q (number k)
 abbrev μ-loop : tie.MeasureT-loop
 μ-loop q k₀ k = number k
 
--- src/lib.rt:76:5
 loop-holds : tie.Need-loop-holds Inv-loop μ-loop
 loop-holds c = out-begin (number (c .args .n)) (c .args .q) (c .pre .0)
 
--- src/lib.rt:77:13
 divide-requires : tie.Need-divide-requires Inv-loop μ-loop
 divide-requires c κs = (omega (arith, c .before .pre .1 .0), c .before .pre .1 .1)
 
--- src/lib.rt:79:13
 returns : tie.Need-returns Inv-loop μ-loop
 returns c = strip-end (number (c .before .before .before .before .args .n)) (c .before .before .before .before .args .q) (number (c .before .before .before .loop .k)) (c .before .before .divide .result) (c .before .before .divide .ensures) (c .before .before .before .before .pre .1 .0) (c .before .before .before .loop .inv) (c .if1 .taken)
 
--- src/lib.rt:76:5
 loop-less : tie.Need-loop-less Inv-loop μ-loop
 loop-less c = strip-less (number (c .before .before .before .before .before .args .n)) (c .before .before .before .before .before .args .q) (number (c .before .before .before .before .loop .k)) (c .before .before .before .divide .result) (c .before .before .before .divide .ensures) (c .before .before .before .before .before .pre .1 .0) (c .before .before .before .before .loop .inv)
 
--- src/lib.rt:76:5
 loop-again : tie.Need-loop-again Inv-loop μ-loop
 loop-again c = strip-turn (number (c .before .before .before .before .before .args .n)) (c .before .before .before .before .before .args .q) (number (c .before .before .before .before .loop .k)) (c .before .before .before .divide .result) (c .before .before .before .divide .ensures) (c .before .before .before .before .before .pre .1 .0) (c .before .before .before .before .loop .inv) (c .before .if1 .left)
 

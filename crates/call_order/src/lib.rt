@@ -1,0 +1,90 @@
+// The call inside Rattle that checks a divisor's order (W-214): n by its bytes, and the primes that it is made of, 4 bytes each. Its promise is an equation with the call's rule.
+ghost use mathlib.Core.Path.{_≡_};
+ghost use Rattle.rules.specs.Bytes.{number};
+ghost use Rattle.rules.specs.Calls.{listed, check-order};
+ghost use Rattle.rules.proofs.calls.Orders.{Tested};
+ghost use Rattle.field.specs.Primes.{Decides};
+ghost use Rattle.divisor.specs.Divisors.{pair};
+ghost use Rattle.curve.specs.Record.{recordOf};
+ghost use Rattle.multiple.specs.Contracts.{ToMultiply};
+ghost use Rattle.call_one.specs.Answers.{answerOf};
+ghost use Rattle.call_order.specs.Folds.{Folding, ToLook, Folded, NoneBelow};
+use big_numbers::SIZE;
+use call_one::Answer;
+use curve::Curve;
+use divisor::Divisor;
+
+// The most bytes of a list of primes: 32 primes.
+const MOST: usize = 128;
+
+fn is_neutral_fold(c: Curve, a: Divisor, n: [u8; SIZE]) -> bool
+    requires { ⌜ Folding c a ⌝ }
+    ensures { λ r. ⌜ Folded c a (number n) r ⌝ }
+{
+    let y = call_group::quicker(c, a, &n);
+    let d = y.divisor;
+    let w = d.weight();
+    w == 0
+}
+
+// Whether no n / q-fold is neutral, for each listed q.
+fn is_none_below(c: Curve, a: Divisor, n: [u8; SIZE], primes: &[u8]) -> bool
+    requires { ⌜ ToLook c a (listed (now primes)) ⌝ }
+    ensures { λ r. ⌜ NoneBelow c a (number n) (listed (now (primes .entry))) r ⌝ }
+{
+    let k = primes.len() / 4;
+    let mut j: usize = 0;
+    while j < k {
+        let q = big_endian::read32(primes, 4 * j);
+        let d = big_numbers::divide(n, q);
+        let m = d.quotient;
+        if is_neutral_fold(c, a, m) {
+            return false;
+        }
+        j += 1;
+    }
+    true
+}
+
+// Whether n is the order, and the list has its primes.
+fn is_order(c: Curve, a: Divisor, order: &[u8], primes: &[u8]) -> bool
+    requires { ⌜ ToMultiply c a (now order) ⌝ }
+    ensures { λ r. ⌜ Decides r (Tested (recordOf c) (pair (c .m) a) (now (order .entry)) (now (primes .entry))) ⌝ }
+{
+    if primes.len() % 4 != 0 {
+        return false;
+    }
+    if MOST < primes.len() {
+        return false;
+    }
+    let n = big_numbers::of(order);
+    let low = big_numbers::capped(n);
+    if low == 0 {
+        return false;
+    }
+    if !big_numbers::is_made_of(n, primes) {
+        return false;
+    }
+    if !is_neutral_fold(c, a, n) {
+        return false;
+    }
+    is_none_below(c, a, n, primes)
+}
+
+pub fn check_order(curve: &[u8], divisor: &[u8], order: &[u8], primes: &[u8]) -> Answer
+    ensures { λ r. ⌜ answerOf r ≡ check-order (now (curve .entry)) (now (divisor .entry)) (now (order .entry)) (now (primes .entry)) ⌝ }
+{
+    let x = call_one::read_curve_and_divisor(curve, divisor);
+    if x.number != 0 {
+        return Answer::Refused(x.number, x.place);
+    }
+    if SIZE < order.len() {
+        return Answer::Refused(refusals::SCALAR_LENGTH, 0);
+    }
+    let c = x.curve;
+    let d = x.divisor;
+    if is_order(c, d, order, primes) {
+        return Answer::Done(0);
+    }
+    Answer::Refused(refusals::ORDER, 0)
+}
