@@ -168,6 +168,7 @@ pub fn line(
         }
         13 => scan_lent(text, curve, first, total),
         14 => scan_inside(text, curve, first, total),
+        15 => checked(text, tablet::yubi_check_order(curve, first, second, total)),
         _ => 0,
     }
 }

@@ -170,7 +170,7 @@ module _ (s a order primes : List ℕ) where
   reached : (l : ℕ) → ((n : ℕ) → 1 ≤ n → n ≤ 26 → n ≡ l → ⊥) → check-order s a order primes .number ≡ l → Reached l
   unfolding check-order
   reached l other e =
-      let t = came-past tt [] l (read-curve s) _ (λ n k q z. let r = curve-refused s q in other n (r .0) (omega (arith, r .1)) z) e in
+      let t = came-past tt [] l (read-curve s) _ (λ n k q z. let r = curve-refused s q in other n (r .some) (omega (arith, r .most)) z) e in
       let d = came-past tt [] l (read-divisor (t .0) 1 a) _ (λ n k q z. let r = divisor-refused (t .0) 1 true a 0 q in other n (omega (arith, r .0)) (omega (arith, r .1)) z) (t .2) in
       record { c = t .0; s-is = t .1; x = d .0; a-is = d .1; says = d .2 }
 

@@ -60,14 +60,15 @@ within l u = (l, u, refl)
 -- (18 stands alone above 7)
 pub record OfCurve (n k : ℕ) : Type 0 where
   pub some : 1 ≤ n
+  pub most : n ≤ 18
   pub apart : 7 < n → n ≡ 18
   pub place : k ≡ 0
 
 to-seven : {n : ℕ} → 1 ≤ n → n ≤ 7 → OfCurve n 0
-to-seven l u = record { some = l; apart = λ z. absurd (omega arith); place = refl }
+to-seven l u = record { some = l; most = omega arith; apart = λ z. absurd (omega arith); place = refl }
 
 eighteen : OfCurve 18 0
-eighteen = record { some = omega arith; apart = λ z. refl; place = refl }
+eighteen = record { some = omega arith; most = omega arith; apart = λ z. refl; place = refl }
 
 pub curve-refused : (s : List ℕ) {n k : ℕ} → read-curve s ≡ refused n k → OfCurve n k
 unfolding read-curve
