@@ -2,7 +2,7 @@
 -- to the whole answer and output (specs.Calls). `read-curve s ≡ taken c` says that s is a curve record, and c what it says;
 -- `AllRecords c rs` that each of rs is a divisor record on c, and `pair-of c r` is the pair of one; `answered w ≡ 0` that a call
 -- answered 0, and `front w` is then what it left at the front of its output. The proofs are in calls/.
-use Prim.Native.Nat.{ℕ, suc, _+_, _*_, _≤_, _<_}
+use Prim.Native.Nat.{ℕ, suc, _+_, _*_, _%_, _≤_, _<_}
 use mathlib.Core.Path.{_≡_, sym, _∙_, subst}
 use mathlib.Core.List.{List, [], _∷_, _++_, map, foldl, flatten, Perm}
 use mathlib.Core.Bool.{true}
@@ -12,7 +12,7 @@ use Rattle.algebra.proofs.ring.Field.{Arith}
 use Rattle.algebra.proofs.zmod.Prime.{Prime}
 use Rattle.algebra.proofs.zmod.PrimeField.{modulo}
 use Rattle.rules.specs.Bytes.{number}
-use Rattle.rules.specs.Pair.{Pair, Valid, opposite}
+use Rattle.rules.specs.Pair.{Pair, Valid, neutral, opposite}
 use Rattle.rules.specs.Sum.{double}
 use Rattle.rules.specs.Multiple.{multiple}
 use Rattle.rules.specs.Records.{Checked, taken, CurveRecord, curve, PairOf, Form, form-of, read-curve, read-divisor, curve-bytes, divisor-bytes}
@@ -37,7 +37,7 @@ use Rattle.rules.proofs.calls.Delivered.{Kept}
 use Rattle.rules.proofs.calls.Taken.{total-result}
 use Rattle.rules.proofs.calls.Keys.{EmptyKey}
 use Rattle.rules.specs.Calls.{check-order}
-use Rattle.rules.proofs.calls.Orders.{OrderDone, NotOrder}
+use Rattle.rules.proofs.calls.Orders.{Ordered, OrderDone, NotOrder}
 use Rattle.rules.proofs.calls.Rewrites
 use Rattle.rules.proofs.calls.Written
 use Rattle.rules.proofs.calls.Delivered
@@ -154,12 +154,19 @@ module _ (s : List ℕ) where
 
 -- ---- a key's order (W-214)
 module _ (s a order primes : List ℕ) where
-  -- 0 exactly where the curve and the divisor were taken, the order has at most 32 bytes, the list is whole, of at most 32 numbers and each below 2^31, and n is the order, with that list its primes
-  -- (`ordered`); and then for every m the m-fold of the divisor is neutral exactly when n divides m (`exactly`)
+  -- of a curve and a divisor that were taken: where n is accepted, for every m the m-fold is neutral exactly when n divides m
+  pub order-exactly : {c : CurveRecord} → read-curve s ≡ taken c → {x : PairOf c} → read-divisor c 1 a ≡ taken x
+      → check-order s a order primes .number ≡ 0 → (m : ℕ) → (multiple (curve c) m x ≡ neutral) ↔ (m % number order ≡ 0)
+  order-exactly ec ea = Orders.order-exactly s a order primes ec ea
+
+  -- and n is accepted where it has at most 32 bytes and is the order, with the list its primes, whole, at most 32 and each below 2^31
+  pub order-answers : {c : CurveRecord} → read-curve s ≡ taken c → {x : PairOf c} → read-divisor c 1 a ≡ taken x → length order ≤ 32 → Ordered c x order primes → check-order s a order primes ≡ done 0
+  order-answers ec ea = Orders.order-accepts s a order primes ec ea
+
+  -- 0 exactly then, and 27 exactly where what is checked before passed, and that isn't so
   pub order-accepted : (check-order s a order primes .number ≡ 0) ↔ OrderDone s a order primes
   order-accepted = Orders.order-done s a order primes
 
-  -- 27 exactly where what is checked before passed, and that isn't so
   pub order-refused : (check-order s a order primes .number ≡ 27) ↔ NotOrder s a order primes
   order-refused = Orders.order-27 s a order primes
 

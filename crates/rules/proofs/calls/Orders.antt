@@ -1,6 +1,6 @@
 -- W-214, a key's order. Gives, of the check where the curve and the divisor are taken: 12 where the order has over 32 bytes (`order-long`), else 0 where n is the order and the list, whole, at most 32
--- and each below 2^31, has its primes (`order-accepts`), and 27 where that isn't so (`order-refuses`). So of every check: it answers 0 exactly then, and for every m the m-fold is neutral exactly when n divides
--- m (`order-done`); it answers 27 exactly where the curve, the divisor and the order's length passed and the test fails (`order-27`). (The place is in CallPlaces.)
+-- and each below 2^31, has its primes (`order-accepts`), and 27 where that isn't so (`order-refuses`). So of every check: it answers 0 exactly then (`order-done`), and for every m the m-fold is neutral exactly when n divides
+-- m (`order-exactly`); it answers 27 exactly where the curve, the divisor and the order's length passed and the test fails (`order-27`). (The place is in CallPlaces.)
 -- Open: `NeutralFold`.
 use Prim.Native.Nat.{ℕ, _%_, _≤_, _<_}
 use mathlib.Core.Path.{_≡_, refl, sym, ap, ap₂, _∙_}
@@ -147,8 +147,6 @@ pub record OrderDone (s a order primes : List ℕ) : Type 0 where
   pub a-is : read-divisor c 1 a ≡ taken x
   pub short : length order ≤ 32
   pub ordered : Ordered c x order primes
-  -- the theorem: for every m the m-fold is neutral exactly when n divides m
-  pub exactly : (m : ℕ) → (multiple (curve c) m x ≡ neutral) ↔ (m % number order ≡ 0)
 
 pub record NotOrder (s a order primes : List ℕ) : Type 0 where
   pub c : CurveRecord
@@ -185,7 +183,7 @@ module _ (s a order primes : List ℕ) where
       let r = reached 0 (λ n l u z. omega (arith, l, z)) e in
       let t = passed r in
       let o = tested s a order primes (r .s-is) (r .a-is) .0 (t .1) in
-      record { c = r .c; s-is = r .s-is; x = r .x; a-is = r .a-is; short = t .0; ordered = o; exactly = o .is .exactly }
+      record { c = r .c; s-is = r .s-is; x = r .x; a-is = r .a-is; short = t .0; ordered = o }
 
   pub order-done : (check-order s a order primes .number ≡ 0) ↔ OrderDone s a order primes
   order-done = (done-as, λ d. ap (λ (t : Answer). t .number) (order-accepts s a order primes (d .s-is) (d .a-is) (d .short) (d .ordered)))
@@ -212,3 +210,10 @@ module _ (s a order primes : List ℕ) where
 
   pub order-27 : (check-order s a order primes .number ≡ 27) ↔ NotOrder s a order primes
   order-27 = (not-order, λ d. ap (λ (t : Answer). t .number) (order-refuses s a order primes (d .s-is) (d .a-is) (d .short) (d .fails)))
+
+-- the theorem, of the curve and the divisor that were taken
+module _ (s a order primes : List ℕ) {c : CurveRecord} (ec : read-curve s ≡ taken c) {x : PairOf c} (ea : read-divisor c 1 a ≡ taken x) where
+  pub order-exactly : check-order s a order primes .number ≡ 0 → (m : ℕ) → (multiple (curve c) m x ≡ neutral) ↔ (m % number order ≡ 0)
+  order-exactly e =
+      let r : Reached s a order primes 0 = record { c = c; s-is = ec; x = x; a-is = ea; says = ap (λ (t : Answer). t .number) (sym (answers s a order primes ec ea refl)) ∙ e } in
+      (tested s a order primes ec ea .0 (passed s a order primes r .1)) .is .exactly
