@@ -1,8 +1,8 @@
 """corner_table.py: document 01's "Street corners" as tables, line by line, and the records they speak of; corners.py runs them
 through the calls of the product, selfcheck.py holds reference.py to them. All is written out by hand from the document, the
-witnesses and what breaks them from W-201.
+witnesses and what breaks them from W-201, the orders and what breaks them from W-214.
 """
-from records import curve_record, divisor_record
+from records import curve_record, divisor_record, in_4_bytes
 
 CURVE_A = curve_record(2, 7, [1, 0, 0, 0, 0])
 CURVE_B = curve_record(3, 11, [1, 0, 0, 0, 0, 0, 0])
@@ -13,6 +13,7 @@ X1_0 = divisor_record([1], [0])  # (x + 1, 0)
 XX_1 = divisor_record([0, 0], [1, 0])  # (x², 1)
 XX_6 = divisor_record([0, 0], [6, 0])  # (x², 6)
 XX6X = divisor_record([0, 6], [1, 2])  # (x² + 6x, 2x + 1)
+XXX_X1 = divisor_record([0, 1], [1, 1])  # (x² + x, x + 1), the sum of (x, 1) and (x + 1, 0)
 XX4X4 = divisor_record([4, 4], [0, 1])  # (x² + 4x + 4, x)
 B_X_10 = divisor_record([0], [10])  # (x, 10)
 B_XXX_1 = divisor_record([0, 0, 0], [1, 0, 0])  # (x³, 1)
@@ -145,6 +146,87 @@ FIFTEEN, BY_FIFTEEN = 693386350578511591, (14, (2, 3, 5, 7, 11, 13, 17, 19, 23, 
 LISTS_2_31_LESS_1, BY_2_31_LESS_1 = 46 * (2**31 - 1) + 1, (2, (2, 23, 2**31 - 1))  # the largest prime that may be listed
 LISTS_MORE, BY_MORE = 30 * 2147483659 + 1, (2, (2, 3, 5, 2147483659))  # a prime above 2^31 must be
 SAFE, BY_SAFE = 2305843009213691579, (2, (2, 1152921504606845789))  # 2q + 1
+
+# W-214: 15 primes in p + 1; the largest prime that may be listed in it; one that is too large; orders of over 100 bits in genus 2, and in 3
+MANY, BY_MANY = 693386350578511589, (2, (2, 43597, 330103, 12045067))
+LARGEST_LISTED, BY_LARGEST_LISTED = 300647710579, (2, (2, 3, 499, 100416737))
+PRIME_OVER = 2**31 + 11
+OVER, BY_OVER = 1803886273559, (13, (2, 309583, 2913413))
+LONG_2, BY_LONG_2 = 4675407297987523, (5, (2, 3, 31, 1201, 2417, 8659381))
+LONG_3, BY_LONG_3 = 61588730771713, (5, (2, 3, 83, 257, 417721))
+
+
+def with_lists(*rows):
+    """The primes, where they aren't bytes already, as a list's."""
+    return tuple((*row[:4], row[4] if isinstance(row[4], bytes) else in_4_bytes(row[4]), row[5]) for row in rows)
+
+
+# W-214: name, curve, divisor, order, primes, number. (x, 1) has order 5 on A and 7 on B, (x + 1, 0) has 2 on both, so their sum has 10 and 14.
+# The corners' program runs these.
+ORDERS = with_lists(
+    ("order-A-5", CURVE_A, X_1, b"\5", (5,), 0),
+    ("order-A-10", CURVE_A, X_1, b"\n", (2, 5), 27),
+    ("order-A-2", CURVE_A, X_1, b"\2", (2,), 27),
+    ("order-A-y=0", CURVE_A, X1_0, b"\2", (2,), 0),
+    ("order-A-y=0-4", CURVE_A, X1_0, b"\4", (2,), 27),
+    ("order-A-1", CURVE_A, X_1, b"\1", (), 27),
+    ("order-A-neutral", CURVE_A, NEUTRAL, b"\1", (), 0),
+    ("order-A-neutral-5", CURVE_A, NEUTRAL, b"\5", (5,), 27),
+    ("order-A-33-bytes", CURVE_A, X_1, b"\5".rjust(33, b"\0"), (5, 5), 12),
+    ("order-B-7", CURVE_B, X_1, b"\7", (7,), 0),
+    ("order-B-5", CURVE_B, X_1, b"\5", (5,), 27),
+)
+
+# The same, run with the vectors: what breaks an order
+BROKEN_ORDERS = with_lists(
+    ("10", CURVE_A, XXX_X1, b"\n", (2, 5), 0),
+    ("10 in 32 bytes", CURVE_A, XXX_X1, b"\n".rjust(32, b"\0"), (2, 5), 0),
+    ("10 in 33 bytes", CURVE_A, XXX_X1, b"\n".rjust(33, b"\0"), (2, 5), 12),
+    ("14 on B", CURVE_B, XXX_X1, b"\0\x0e", (2, 7), 0),
+    ("10 on B", CURVE_B, XXX_X1, b"\n", (2, 5), 27),
+    ("half", CURVE_A, XXX_X1, b"\5", (5,), 27),
+    ("a fifth", CURVE_A, XXX_X1, b"\2", (2,), 27),
+    ("twice", CURVE_A, XXX_X1, b"\x14", (2, 5), 27),
+    ("thrice", CURVE_A, XXX_X1, b"\x1e", (2, 3, 5), 27),
+    ("five times", CURVE_A, XXX_X1, b"\x32", (2, 5), 27),
+    ("one more", CURVE_A, XXX_X1, b"\x0b", (11,), 27),
+    ("1", CURVE_A, XXX_X1, b"\1", (), 27),
+    ("1 with a list", CURVE_A, NEUTRAL, b"\1", (2,), 27),
+    ("1 in 32 bytes", CURVE_A, NEUTRAL, b"\1".rjust(32, b"\0"), (), 0),
+    ("1 on B", CURVE_B, NEUTRAL, b"\1", (), 0),
+    ("neutral and 2", CURVE_A, NEUTRAL, b"\2", (2,), 27),
+    ("0", CURVE_A, XXX_X1, b"\0", (2, 5), 27),
+    ("0 and no list", CURVE_A, XXX_X1, b"\0", (), 27),
+    ("empty", CURVE_A, XXX_X1, b"", (2, 5), 27),
+    ("empty and no list", CURVE_A, XXX_X1, b"", (), 27),
+    ("neutral and 0", CURVE_A, NEUTRAL, b"\0", (), 27),
+    ("neutral and empty", CURVE_A, NEUTRAL, b"", (), 27),
+    ("33 zeros", CURVE_A, XXX_X1, bytes(33), (), 12),
+    ("33 bytes and not whole", CURVE_A, XXX_X1, bytes(33), b"\0\0\0", 12),
+    ("no list", CURVE_A, XXX_X1, b"\n", (), 27),
+    ("without 2", CURVE_A, XXX_X1, b"\n", (5,), 27),
+    ("without 5", CURVE_A, XXX_X1, b"\n", (2,), 27),
+    ("with 3", CURVE_A, XXX_X1, b"\n", (2, 3, 5), 27),
+    ("with 7", CURVE_A, XXX_X1, b"\n", (2, 5, 7), 27),
+    ("falling", CURVE_A, XXX_X1, b"\n", (5, 2), 27),
+    ("twice 2", CURVE_A, XXX_X1, b"\n", (2, 2, 5), 27),
+    ("twice 5", CURVE_A, XXX_X1, b"\n", (2, 5, 5), 27),
+    ("lists 10", CURVE_A, XXX_X1, b"\n", (10,), 27),
+    ("lists 10 too", CURVE_A, XXX_X1, b"\n", (2, 5, 10), 27),
+    ("lists 0", CURVE_A, XXX_X1, b"\n", (0, 2, 5), 27),
+    ("lists 0 alone", CURVE_A, NEUTRAL, b"\1", (0,), 27),
+    ("lists 1", CURVE_A, XXX_X1, b"\n", (1, 2, 5), 27),
+    ("lists 1 alone", CURVE_A, NEUTRAL, b"\1", (1,), 27),
+    ("lists 2^31", CURVE_A, XXX_X1, b"\n", (2, 5, 2**31), 27),
+    ("lists a prime over 2^31", CURVE_A, XXX_X1, b"\n", (2, 5, PRIME_OVER), 27),
+    ("lists 2^32 - 1", CURVE_A, XXX_X1, b"\n", (2, 5, 2**32 - 1), 27),
+    ("lists 46337^2", CURVE_A, XXX_X1, (10 * 46337**2).to_bytes(5, "big"), (2, 5, 46337**2), 27),
+    ("a byte over", CURVE_A, XXX_X1, b"\n", b"\0\0\0\2\0\0\0\5\0", 27),
+    ("a byte less", CURVE_A, XXX_X1, b"\n", b"\0\0\0\2\0\0\5", 27),
+    ("a byte alone", CURVE_A, NEUTRAL, b"\1", b"\0", 27),
+    ("32 listed", CURVE_A, XXX_X1, b"\n", (2, 5) * 16, 27),
+    ("33 listed", CURVE_A, XXX_X1, b"\n", (2, 5) * 16 + (5,), 27),
+)
 
 # Version 2: name, curve, number. Those that have 18 are a fault each, where it can stand alone.
 WITNESSED = (

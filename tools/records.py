@@ -1,8 +1,12 @@
-"""records.py: curve and divisor records from their parts, also wrong ones: nothing is checked here."""
+"""records.py: curve and divisor records and lists of primes from their parts, also wrong ones: nothing is checked here."""
 
 
 def in_8_bytes(numbers):
     return b"".join(n.to_bytes(8, "big") for n in numbers)
+
+
+def in_4_bytes(numbers):
+    return b"".join(n.to_bytes(4, "big") for n in numbers)
 
 
 def curve_record(g, p, f, mark=b"HJC", version=None, witness=None, k=None):

@@ -3,7 +3,7 @@
 
     python3 tools/reference.py tally DIR    prints what the program prints for DIR's files `curve` and `batch`
 
-It was written from document 01 and, of document 02, W-201, W-205, W-207 and W-208, and shares no code with the product. Where the document leaves a choice (the flat
+It was written from document 01 and, of document 02, W-201, W-205, W-207, W-208 and W-214, and shares no code with the product. Where the document leaves a choice (the flat
 running total, the place in a double, an opposite or a multiple, the order of 16 and 17) it follows the project's settled
 readings, as the product does: on those the two agreeing says nothing about the reading. Headings in quotes are the document's own. Each public call is one
 function from the bytes lent to it to a pair: the answer's fields in the order of the call's answer, and the
@@ -17,6 +17,7 @@ from functools import lru_cache
 MARK = b"HJC"
 GREATEST_PRIME = {1: 2147483647, 2: 2**61 - 1}  # by the version of the curve record
 MOST_LISTED = 15  # primes of a witness
+MOST_OF_AN_ORDER = 32  # primes
 LISTED_BELOW = 2**31
 MOST_RECORDS = 4096
 MOST_SCALAR_BYTES = 32
@@ -139,25 +140,30 @@ def is_odd_and_in_range(p, version):
     return p % 2 == 1 and 3 <= p <= GREATEST_PRIME[version]
 
 
-@lru_cache(maxsize=None)
-def is_shown_prime(p, witness):
-    """W-201: "Accept p, whoever proposed the witness, when each listed number is a prime below 2^31, p - 1 is made up of powers of
-    just these, each of them dividing it, a^(p-1) is 1 and no a^((p-1)/q) is 1 modulo p"; a is "1 to p - 1", the primes "distinct"
-    and "in rising order"."""
-    a, primes = witness
-    if not 1 <= a <= p - 1:
-        return False
+def is_made_up_of(n, primes):
+    """W-201 and W-214: "each listed number is a prime below 2^31", "distinct", "in rising order"; n, above 0, "is made up of powers of just
+    these, each of them dividing it"."""
     if not all(q < LISTED_BELOW and is_prime(q) for q in primes):
         return False
     if list(primes) != sorted(set(primes)):
         return False
-    left = p - 1
+    left = n
     for q in primes:
         if left % q != 0:
             return False
         while left % q == 0:
             left //= q
-    return left == 1 and pow(a, p - 1, p) == 1 and all(pow(a, (p - 1) // q, p) != 1 for q in primes)
+    return left == 1
+
+
+@lru_cache(maxsize=None)
+def is_shown_prime(p, witness):
+    """W-201: "Accept p, whoever proposed the witness, when" p - 1 is made up of the listed primes, "a^(p-1) is 1 and no a^((p-1)/q) is 1
+    modulo p"; a is "1 to p - 1"."""
+    a, primes = witness
+    if not 1 <= a <= p - 1 or not is_made_up_of(p - 1, primes):
+        return False
+    return pow(a, p - 1, p) == 1 and all(pow(a, (p - 1) // q, p) != 1 for q in primes)
 
 
 @lru_cache(maxsize=None)
@@ -254,6 +260,18 @@ def multiple_of(curve, divisor, n):
             added = divisor if digit == 1 else opposite_of(curve, divisor)
             result, additions = sum_of(curve, result, added), additions + 1
     return result, doublings, additions
+
+
+def is_order_of(curve, divisor, n, primes):
+    """W-214: "accept n as the order when n > 0, n is made up of powers of just these primes, each of them dividing n, the n-fold is neutral
+    and no n/q-fold is"."""
+    if n == 0 or not is_made_up_of(n, primes):
+        return False
+
+    def is_neutral(m):
+        return multiple_of(curve, divisor, m)[0] == NEUTRAL
+
+    return is_neutral(n) and not any(is_neutral(n // q) for q in primes)
 
 
 def total_of(curve, divisors):
@@ -408,6 +426,13 @@ def read_scalar(scalar):
     return int.from_bytes(scalar, "big")
 
 
+def read_primes(primes):
+    """W-214: "a list of up to 32" numbers, "4 bytes each"; 27 where it is "too long" or "not whole"."""
+    if len(primes) % 4 != 0 or len(primes) > 4 * MOST_OF_AN_ORDER:
+        raise Refused(27)
+    return [int.from_bytes(primes[i : i + 4], "big") for i in range(0, len(primes), 4)]
+
+
 # ---------------------------------------------------------------------------------------------------------
 # The public calls
 # ---------------------------------------------------------------------------------------------------------
@@ -503,6 +528,20 @@ def multiply(curve, a, scalar, out):
         return write_divisor(result), (doublings, additions)
 
     return answered(work, out, extra=2)
+
+
+def check_order(curve, divisor, order, primes):
+    """number, place, length. W-214: 27 comes "after the divisor checks", "a scalar of 33 bytes stays 12, before 27"; 19 doesn't touch it."""
+
+    def work():
+        on = read_curve(curve)
+        a = read_divisor(on, divisor, 1)
+        n = read_scalar(order)
+        if not is_order_of(on, a, n, read_primes(primes)):
+            raise Refused(27)
+        return None, ()
+
+    return answered(work)
 
 
 def total_batch(curve, batch, out):

@@ -11,13 +11,14 @@ import math
 import sys
 
 import ideals
+import orders
 import reference as r
 import witnesses
 from corner_table import (
-    B_X_10, B_XXX_1, B_XXX_10, BY_7, CASE_P, CASE_P_COUNT, CASE_P_REPEAT, CASE_P_TOTAL, CURVE_A, CURVE_B, CURVES, DIVISORS, KEYS,
-    BY_LARGEST, LARGEST, NEUTRAL, SCALARS, WITNESSED, X1_0, X6_3, X_1, X_6, XX6X, XX_1, XX_6, each_example,
+    B_X_10, B_XXX_1, B_XXX_10, BROKEN_ORDERS, BY_7, CASE_P, CASE_P_COUNT, CASE_P_REPEAT, CASE_P_TOTAL, CURVE_A, CURVE_B, CURVES, DIVISORS,
+    BY_LARGEST, KEYS, LARGEST, NEUTRAL, ORDERS, SCALARS, WITNESSED, X1_0, X6_3, X_1, X_6, XX6X, XX_1, XX_6, XXX_X1, each_example,
 )  # fmt: skip
-from records import curve_record, divisor_record
+from records import curve_record, divisor_record, in_4_bytes
 
 held = 0
 failures = []
@@ -122,6 +123,8 @@ def check_corners():
     for name, curve, a, scalar, length, number in KEYS:
         out = GUARD * length
         expect(name, r.multiply(curve, a, scalar, out), ((number, 0, 0, 0, 0), out))
+    for name, curve, a, order, primes, number in ORDERS + BROKEN_ORDERS:
+        expect(name, r.check_order(curve, a, order, primes), ((number, 0, 0), None))
     expect("12 before 13", r.multiply(CURVE_A, X_1, bytes(33), b""), ((12, 0, 0, 0, 0), b""))
     out = GUARD * 32
     expect("output of 32", r.double(CURVE_A, X_1, out), ((13, 0, 0), out))
@@ -189,6 +192,7 @@ def check_order():
             expect("curve first", r.double(curve, wrong, b""), ((number, 0, 0), b""))
             expect("curve first", r.opposite(curve, wrong, b""), ((number, 0, 0), b""))
             expect("curve first", r.multiply(curve, wrong, bytes(33), b""), ((number, 0, 0, 0, 0), b""))
+            expect("curve first", r.check_order(curve, wrong, bytes(33), b"\0"), ((number, 0, 0), None))
             expect("curve first", r.total_batch(curve, wrong, b""), ((number, 0, 0, 0), b""))
             expect("curve first", r.first_repeat(curve, wrong), ((number, 0, 0, 0, 0), None))
     for number, wrong in wrong_divisors:
@@ -197,6 +201,8 @@ def check_order():
         expect("second divisor", r.add(CURVE_A, X_1, wrong, b""), ((number, 2, 0), b""))
         expect("before 12", r.multiply(CURVE_A, wrong, bytes(33), b""), ((number, 1, 0, 0, 0), b""))
         expect("before 19", r.multiply(CURVE_A, wrong, b"", b""), ((number, 1, 0, 0, 0), b""))
+        for order, primes in ((bytes(33), b""), (b"", b""), (b"\5", b"\0\0\0\5"), (b"\5", b"\0"), (b"\n", bytes(132))):
+            expect("before 12 and 27", r.check_order(CURVE_A, wrong, order, primes), ((number, 1, 0), None))
         expect("before 13", r.double(CURVE_A, wrong, b""), ((number, 1, 0), b""))
         expect("before 13", r.opposite(CURVE_A, wrong, b""), ((number, 1, 0), b""))
         expect("before 13", r.rewrite_divisor(CURVE_A, wrong, b""), ((number, 1, 0), b""))
@@ -229,6 +235,37 @@ def check_witnesses():
         liars = [a for a in range(1, n) if math.gcd(a, n) == 1]
         expect("liars of %d" % n, all(pow(a, n - 1, n) == 1 for a in liars), True)
         expect("furthest for %d" % n, r.is_shown_prime(n, witnesses.furthest(n)), False)
+
+
+def check_key_orders():
+    """Every divisor of small curves, in both versions: counted out by ideals.py, its order is accepted with its primes, and no other number up
+    to a bound with its own. On curve A, numbers with every list of up to three, right and wrong."""
+    curves = [
+        (2, 3, (1, 1, 0, 0, 1), None, 1), (2, 5, (0, 4, 0, 0, 0), None, 3), (2, 7, (1, 0, 0, 0, 0), BY_7, 1), (3, 3, (1, 2, 0, 0, 0, 0, 0), None, 1),
+        (3, 3, (0, 1, 1, 0, 0, 1, 1), (2, (2,)), 3),
+    ]  # fmt: skip
+    for g, p, stored, witness, stride in curves:
+        record = curve_record(g, p, stored, witness=witness)
+        curve = r.read_curve(record)
+        for divisor in all_divisors(curve)[::stride]:
+            a, order, total = r.write_divisor(divisor), 1, tuple(divisor)
+            while total != tuple(r.NEUTRAL):
+                total, order = ideals.sum_by_ideals(g, p, curve.f, total, divisor), order + 1
+            accepted = [
+                n for n in range(2 * order + 12)
+                if r.check_order(record, a, orders.in_bytes(n), in_4_bytes(witnesses.primes_of(n) if n else ())) == ((0, 0, 0), None)
+            ]  # fmt: skip
+            expect("orders of %s" % a.hex(), accepted, [order])
+            for spread in (1, 2, 31, 32):
+                spelled = order.to_bytes(spread, "big")
+                expect("%d in %d bytes" % (order, spread), r.check_order(record, a, spelled, in_4_bytes(witnesses.primes_of(order))), ((0, 0, 0), None))
+    lists = [primes for length in range(4) for primes in itertools.product((0, 1, 2, 3, 5, 10, 25), repeat=length)]
+    for a, order, right in ((NEUTRAL, 1, ()), (X1_0, 2, (2,)), (X_1, 5, (5,)), (XXX_X1, 10, (2, 5))):
+        for n in (1, 2, 5, 10, 20, 30):
+            accepted = [primes for primes in lists if r.check_order(CURVE_A, a, bytes([n]), in_4_bytes(primes)) == ((0, 0, 0), None)]
+            expect("lists for %d of %d" % (n, order), accepted, [right] if n == order else [])
+            faultless = [primes for primes in lists if not orders.faults_of(order, n, in_4_bytes(primes))]
+            expect("lists without a fault for %d of %d" % (n, order), faultless, accepted)
 
 
 def check_batches():
@@ -543,6 +580,7 @@ def main():
         check_corners,
         check_order,
         check_witnesses,
+        check_key_orders,
         check_batches,
         check_running_totals,
         check_program,
