@@ -16,11 +16,11 @@ import sys
 import ideals
 import reference as r
 from corner_table import (
-    BY_LARGEST, CASE_P, CASE_P_COUNT, CASE_P_REPEAT, CASE_P_TOTAL, CURVE_A, CURVES, DIVISORS, FLIPPED, KEYS, LARGEST, NEUTRAL, SCALARS,
+    BY_LARGEST, CASE_P, CASE_P_COUNT, CASE_P_REPEAT, CASE_P_TOTAL, CURVE_A, CURVES, DIVISORS, FLIPPED, KEYS, LARGEST, NEUTRAL, ORDERS, SCALARS,
     WITNESSED, X6_3, X_1, X_6, XX6X, XX_1, XX_6, each_example, power_and_1,
 )  # fmt: skip
 from frames import (
-    ADD, CHECK_CURVE, CHECK_DIVISOR, DOUBLE, FIRST_REPEAT, GUARD, MULTIPLY, OPPOSITE, REWRITE_CURVE, REWRITE_DIVISOR, SCAN,
+    ADD, CHECK_CURVE, CHECK_DIVISOR, CHECK_ORDER, DOUBLE, FIRST_REPEAT, GUARD, MULTIPLY, OPPOSITE, REWRITE_CURVE, REWRITE_DIVISOR, SCAN,
     MOST_PART, TOTAL_BATCH, WITH_OUTPUT, Frame, answer, decoded, encoded, label, text_of,
 )  # fmt: skip
 from records import curve_record, divisor_record
@@ -177,6 +177,11 @@ def put_flipped():
         corner(name, Frame(FIRST_REPEAT, curve, b"".join(batch)), 0, more=pair)
 
 
+def put_orders():
+    for name, curve, a, order, primes, number in ORDERS:
+        corner(name, Frame(CHECK_ORDER, curve, a, order, primes=primes), number)
+
+
 def put_slips():
     """ "Slips a fitter would make", those that the corners above don't show: two reductions in genus 3, f_6 ≠ 0 with
     p = 7. The sums' results come from ideals.py."""
@@ -206,7 +211,7 @@ def put_slips():
 def made():
     """The data and the text that the corners are answered by."""
     if not frames:
-        for put in (put_sums, put_curves, put_witnessed, put_bounds, put_case_p, put_flipped, put_slips):
+        for put in (put_sums, put_curves, put_witnessed, put_bounds, put_case_p, put_flipped, put_orders, put_slips):
             put()
     data = b"".join(map(encoded, frames))
     text = "".join(map(text_of, decoded(data)))

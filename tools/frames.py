@@ -7,7 +7,8 @@ A file is a sequence of frames. A frame is
     bytes     of the curve, the first, the second and the running total, in this order
 
 The output is only a length: the program lends a buffer of that many bytes, each 0xA5. The running total is
-0 bytes or 64: eight big-endian 64-bit numbers weight, u0, u1, u2, v0, v1, v2, count; only a scan has one.
+64 bytes of a scan, eight big-endian 64-bit numbers weight, u0, u1, u2, v0, v1, v2, count; a check of an order has its
+primes there, any number of bytes; every other frame has none.
 
 Each frame is answered by one line: the answer's fields in decimal with one space between; a scan's total after
 number, place and length; for a call with an output one space and the whole buffer in lower-case hexadecimal, `-` for an
@@ -22,21 +23,24 @@ import reference
 
 LABEL, CHECK_CURVE, CHECK_DIVISOR, REWRITE_CURVE, REWRITE_DIVISOR, ADD = 0, 1, 2, 3, 4, 5
 DOUBLE, OPPOSITE, MULTIPLY, TOTAL_BATCH, FIRST_REPEAT, SCAN = 6, 7, 8, 9, 10, 11
+CHECK_ORDER = 15  # 12 to 14 are the program's own
 
-NAMES = [
-    "label", "check_curve", "check_divisor", "rewrite_curve", "rewrite_divisor", "add",
-    "double", "opposite", "multiply", "total_batch", "first_repeat", "scan",
-]  # fmt: skip
+NAMES = {
+    LABEL: "label", CHECK_CURVE: "check_curve", CHECK_DIVISOR: "check_divisor", REWRITE_CURVE: "rewrite_curve",
+    REWRITE_DIVISOR: "rewrite_divisor", ADD: "add", DOUBLE: "double", OPPOSITE: "opposite", MULTIPLY: "multiply",
+    TOTAL_BATCH: "total_batch", FIRST_REPEAT: "first_repeat", SCAN: "scan", CHECK_ORDER: "check_order",
+}  # fmt: skip
+CALLS = tuple(operation for operation in NAMES if operation != LABEL)
 WITH_OUTPUT = {REWRITE_CURVE, REWRITE_DIVISOR, ADD, DOUBLE, OPPOSITE, MULTIPLY, TOTAL_BATCH}
-WITH_FIRST = {CHECK_DIVISOR, REWRITE_DIVISOR, ADD, DOUBLE, OPPOSITE, MULTIPLY, TOTAL_BATCH, FIRST_REPEAT, SCAN}
-WITH_SECOND = {ADD, MULTIPLY}
+WITH_FIRST = set(CALLS) - {CHECK_CURVE, REWRITE_CURVE}
+WITH_SECOND = {ADD, MULTIPLY, CHECK_ORDER}
 
 GUARD = 0xA5
 MOST_PAYLOAD = 65515
 MOST_OUTPUT = 208  # a curve record has at most 199
 
-# output: a length; total: None or a tuple of eight numbers
-Frame = namedtuple("Frame", "operation curve first second output total", defaults=(b"", b"", 0, None))
+# output: a length; total: None or a tuple of eight numbers; primes: bytes
+Frame = namedtuple("Frame", "operation curve first second output total primes", defaults=(b"", b"", 0, None, b""))
 
 
 def label(text):
@@ -53,10 +57,11 @@ def encoded(frame):
     assert frame.second == b"" or frame.operation in WITH_SECOND
     assert frame.output == 0 or frame.operation in WITH_OUTPUT
     assert (frame.total is not None) == (frame.operation == SCAN)
-    total = running_total_bytes(frame.total)
-    payload = frame.curve + frame.first + frame.second + total
+    assert frame.primes == b"" or frame.operation == CHECK_ORDER
+    last = running_total_bytes(frame.total) + frame.primes
+    payload = frame.curve + frame.first + frame.second + last
     assert len(payload) <= MOST_PAYLOAD and frame.output <= MOST_OUTPUT
-    lengths = (len(frame.curve), len(frame.first), len(frame.second), frame.output, len(total))
+    lengths = (len(frame.curve), len(frame.first), len(frame.second), frame.output, len(last))
     return bytes([frame.operation]) + b"".join(n.to_bytes(4, "big") for n in lengths) + payload
 
 
@@ -76,10 +81,11 @@ def decoded(data):
                 raise ValueError("a cut frame")
             parts.append(part)
             at += lengths[k]
-        if len(parts[3]) not in (0, 64):
-            raise ValueError("a running total of %d bytes" % len(parts[3]))
-        total = tuple(reference.number_at(parts[3], 8 * i) for i in range(8)) if parts[3] else None
-        frames.append(Frame(head[0], parts[0], parts[1], parts[2], lengths[3], total))
+        operation, last = head[0], parts.pop()
+        if operation != CHECK_ORDER and len(last) != (64 if operation == SCAN else 0):
+            raise ValueError("a running total of %d bytes" % len(last))
+        total = tuple(reference.number_at(last, 8 * i) for i in range(8)) if operation == SCAN else None
+        frames.append(Frame(operation, *parts, lengths[3], total, last if operation == CHECK_ORDER else b""))
     return frames
 
 
@@ -87,7 +93,7 @@ def answer(frame):
     """The fields and the output as it returns, or None. reference.py's functions have the calls' names, and take what
     the frame has in its order, a scan its total first."""
     operation = frame.operation
-    if not CHECK_CURVE <= operation <= SCAN:
+    if operation not in CALLS:
         raise ValueError("operation %d" % operation)
     given = (
         (operation == SCAN, frame.total),
@@ -95,6 +101,7 @@ def answer(frame):
         (operation in WITH_FIRST, frame.first),
         (operation in WITH_SECOND, frame.second),
         (operation in WITH_OUTPUT, bytes([GUARD]) * frame.output),
+        (operation == CHECK_ORDER, frame.primes),
     )
     return getattr(reference, NAMES[operation])(*(part for taken, part in given if taken))
 

@@ -21,23 +21,27 @@ from collections import Counter
 import classes
 import corners
 import ideals
+import orders
 import reference as r
 import witnesses
 from corner_table import (
-    BY_FIFTEEN, BY_LARGEST, BY_MORE, BY_SAFE, BY_TWOS, BY_VERSION_1S_LARGEST, FIFTEEN, LARGEST, LISTS_MORE, SAFE, TWOS,
+    BROKEN_ORDERS, BY_FIFTEEN, BY_LARGEST, BY_LARGEST_LISTED, BY_LONG_2, BY_LONG_3, BY_MANY, BY_MORE, BY_OVER, BY_SAFE, BY_TWOS,
+    BY_VERSION_1S_LARGEST, FIFTEEN, LARGEST, LARGEST_LISTED, LISTS_MORE, LONG_2, LONG_3, MANY, ORDERS, OVER, SAFE, TWOS, power_and_1,
 )  # fmt: skip
 from frames import (
-    ADD, CHECK_CURVE, CHECK_DIVISOR, DOUBLE, FIRST_REPEAT, GUARD, MOST_OUTPUT, MULTIPLY, NAMES, OPPOSITE, REWRITE_CURVE,
+    ADD, CALLS, CHECK_CURVE, CHECK_DIVISOR, CHECK_ORDER, DOUBLE, FIRST_REPEAT, GUARD, MOST_OUTPUT, MULTIPLY, NAMES, OPPOSITE, REWRITE_CURVE,
     REWRITE_DIVISOR, SCAN, TOTAL_BATCH, WITH_OUTPUT, Frame, answer, decoded, encoded, in_parts, part_paths, read_parts, text_of,
 )  # fmt: skip
-from records import curve_record, divisor_record
+from records import curve_record, divisor_record, in_4_bytes
 
 PRIMES = classes.PRIMES
 GENERA = (2, 3)
-MOST_BYTES = 990000  # of input; it stands in the repository, with the expected text and some 70,000 of the corners
+# Of input, which stands in the repository, with the expected text and some 65,000 of the corners: under a megabyte, 1,048,576. W-201's composite
+# numbers are 112,000 of it.
+MOST_BYTES = 1035000
 ENOUGH = 20  # of each main kind of sum, per genus and prime
 NEUTRAL_RECORD = r.write_divisor(r.NEUTRAL)
-NUMBERS = tuple(range(16)) + (18, 19)  # that the calls answer
+NUMBERS = tuple(range(16)) + (18, 19, 27)  # that the calls answer
 # Primes of version 2, with witnesses
 LARGE = {2147483647: BY_VERSION_1S_LARGEST, LARGEST: BY_LARGEST, TWOS: BY_TWOS, FIFTEEN: BY_FIFTEEN}
 
@@ -708,7 +712,7 @@ class Base:
         stages = [("curve", fault) for fault in CURVE_FAULTS[version]]
         first = [("first", fault) for fault in DIVISOR_FAULTS]
         second = [("second", fault) for fault in DIVISOR_FAULTS]
-        if operation in (CHECK_DIVISOR, REWRITE_DIVISOR, DOUBLE, OPPOSITE, MULTIPLY):
+        if operation in (CHECK_DIVISOR, REWRITE_DIVISOR, DOUBLE, OPPOSITE, MULTIPLY, CHECK_ORDER):
             stages += first
         elif operation in (ADD, TOTAL_BATCH, FIRST_REPEAT):
             stages += first + second
@@ -716,14 +720,25 @@ class Base:
             stages += [("total", "15"), ("total", "14")] + first
         if operation == MULTIPLY:
             stages += [("scalar", "12"), ("key", "19")]
+        if operation == CHECK_ORDER:
+            stages += [("scalar", "12"), ("order", "27")]
         if operation in WITH_OUTPUT:
             stages.append(("output", "13"))
         self.stages = stages
 
-    def divisor(self, faults, in_batch=False):
+    def divisor(self, faults, in_batch=False, of=None):
+        a = of or self.pool.heavy()
         if not faults:
-            return r.write_divisor(self.pool.heavy())
-        return faulty_divisor(self.dice, self.pool.curve, self.pool.heavy(), faults, in_batch)
+            return r.write_divisor(a)
+        return faulty_divisor(self.dice, self.pool.curve, a, faults, in_batch)
+
+    def order(self, a, too_long, wrong):
+        """An order's bytes and its list's: of the divisor a, as it was before any fault."""
+        n, primes = order_and_primes(self.pool.curve, a)
+        listed = in_4_bytes(primes)
+        if wrong:
+            n, listed = self.dice.pick(orders.wrong(self.dice, n, primes))
+        return orders.in_bytes(n).rjust(33 if too_long else 0, b"\0"), listed
 
     def frame(self, faults):
         """The frame with these faults and the place that the first of them must give; None where they can't go
@@ -733,7 +748,8 @@ class Base:
         curve = faulty_curve(dice, pool.curve, by_part["curve"]) if by_part["curve"] else pool.record
         if curve is None:
             return None
-        first = second = b""
+        first = second = primes = b""
+        known = pool.heavy() if operation == CHECK_ORDER else None
         total, places = None, {"first": 1, "second": 2}
         if operation in (TOTAL_BATCH, FIRST_REPEAT):
             # good records, the first fault, good records, the second fault; 8 can stand only at the end
@@ -754,7 +770,7 @@ class Base:
             first = b"".join(batch)
         else:
             if any(part == "first" for part, _ in self.stages):
-                first = self.divisor(by_part["first"])
+                first = self.divisor(by_part["first"], of=known)
             if operation == ADD:
                 second = self.divisor(by_part["second"])
             if first is None or second is None:
@@ -773,6 +789,8 @@ class Base:
                 second = second.rjust(33, b"\0")
             elif by_part["scalar"]:
                 second = dice.pick([bytes(33), b"\0" + dice.some_bytes(32), dice.some_bytes(40), b"\xff" * 33])
+        if operation == CHECK_ORDER:
+            second, primes = self.order(known, by_part["scalar"], by_part["order"])
         if operation == SCAN:
             total = self.running_total(by_part["total"])
             if total is None:
@@ -786,7 +804,7 @@ class Base:
                 # the only fault: one byte short of the need, or shorter
                 good = Frame(operation, curve, first, second, MOST_OUTPUT)
                 output = dice.pick([need_of(good) - 1, dice.below(need_of(good)), 0])
-        return Frame(operation, curve, first, second, output, total), places.get(faults[0][0], 0)
+        return Frame(operation, curve, first, second, output, total, primes), places.get(faults[0][0], 0)
 
     def running_total(self, faults):
         dice, curve = self.dice, self.pool.curve
@@ -819,22 +837,24 @@ class Base:
 
 def is_asked(operation, version, stages, faults):
     """All stages and pairs of them in the two calls of a curve alone. In the others those of a curve that stand next to each other, since they
-    read it by the same function; and in version 2 what is its own, with the first and the last of the other stages."""
+    read it by the same function; and in version 2 what is its own, with the first and the last of the other stages. An order's check has a
+    curve's stages with these two in both versions."""
     if operation in (CHECK_CURVE, REWRITE_CURVE):
         return True
     curve_stages = len(CURVE_FAULTS[version])
     at = [stages.index(fault) for fault in faults]
     if len(at) == 2 and at[1] < curve_stages:
         return at[1] == at[0] + 1
+    ends = (curve_stages, len(stages) - 1)
     if version == 1:
-        return True
+        return operation != CHECK_ORDER or len(at) == 1 or at[0] >= curve_stages or at[1] in ends
     own = faults[0][1] in ("1k", "18k", "18") and faults[0][0] == "curve"
-    return own and (len(at) == 1 or at[1] in (curve_stages, len(stages) - 1)) or at == [curve_stages - 1, curve_stages]
+    return own and (len(at) == 1 or at[1] in ends) or at == [curve_stages - 1, curve_stages]
 
 
-def put_refusals(dice, collection, pools_by_version):
-    """Every stage of every call by itself, and every pair of stages that is asked for and can go together: the earlier must win."""
-    for operation, (version, pools) in itertools.product(range(CHECK_CURVE, SCAN + 1), pools_by_version.items()):
+def put_refusals(dice, collection, operations, pools_by_version):
+    """Every stage of these calls by itself, and every pair of stages that is asked for and can go together: the earlier must win."""
+    for operation, (version, pools) in itertools.product(operations, pools_by_version.items()):
         stages = Base(dice, operation, pools[0], version).stages
         for faults in itertools.chain(((stage,) for stage in stages), itertools.combinations(stages, 2)):
             for _ in range(12 if is_asked(operation, version, stages, faults) else 0):
@@ -954,6 +974,49 @@ def put_on_witnessed(dice, collection, pools, recipes):
         put_with_outputs(dice, collection, Frame(REWRITE_DIVISOR, pool.record, other), [enough_output])
         collection.put(Frame(SCAN, pool.record, one, b"", 0, r.fresh_total()))
         collection.put(Frame(SCAN, pool.record, other, b"", 0, r.flat_total(a, dice.pick([1, 4095]))))
+
+
+def order_and_primes(curve, a):
+    n = orders.order_of(curve, a)
+    multiple, primes = orders.MULTIPLES.get((curve.g, curve.p), (n, None))
+    return n, orders.dividing(n, primes) if primes and multiple % n == 0 else witnesses.primes_of(n)
+
+
+def put_order(dice, collection, curve, a, wrong):
+    """The order of a divisor, as short as can be and with leading zeros, and so many that are wrong."""
+    n, primes = order_and_primes(curve, a)
+    record, divisor, order, listed = r.write_curve(curve), r.write_divisor(a), orders.in_bytes(n), in_4_bytes(primes)
+    for spelled in (order, order.rjust(dice.pick([2, 8, 32]), b"\0")):
+        collection.put(Frame(CHECK_ORDER, record, divisor, spelled, primes=listed))
+    for m, other in dice.turned(orders.wrong(dice, n, primes))[:wrong]:
+        collection.put(Frame(CHECK_ORDER, record, divisor, orders.in_bytes(m), primes=other))
+
+
+def put_orders(dice, collection, pools):
+    """Right and wrong orders: what breaks one, by hand; divisors of small curves, whose orders are counted out."""
+    for _, curve, a, order, primes, _ in ORDERS + BROKEN_ORDERS:
+        collection.put(Frame(CHECK_ORDER, curve, a, order, primes=primes))
+    for pool in pools:
+        for a in (r.NEUTRAL, pool.heavy(), pool.heavy()):
+            put_order(dice, collection, pool.curve, a, 1 if a == r.NEUTRAL else 4)
+
+
+def put_known_orders(dice, collection):
+    """x^(2g+1) + 1 at large primes: (x, 1) has order 2g + 1, (x + 1, 0) order 2, their sum both; where a multiple of every order is known, the
+    largest of a few that are drawn, or an order that is a prime about 2^31."""
+    for g in GENERA:
+        for p, witness in ((2147483647, None), (LARGEST, BY_LARGEST)):
+            curve = r.read_curve(power_and_1(g, p, witness))
+            put_order(dice, collection, curve, r.sum_of(curve, r.Divisor((0, 1), (1,)), r.Divisor((1, 1), r.ZERO)), 4)
+        for p, witness in ((65537, None), (MANY, BY_MANY), (LONG_2, BY_LONG_2) if g == 2 else (LONG_3, BY_LONG_3)):
+            curve = r.read_curve(power_and_1(g, p, witness))
+            pool = Pool(dice, curve, [])
+            put_order(dice, collection, curve, max((pool.heavy() for _ in range(3)), key=lambda a: orders.order_of(curve, a)), 4)
+        for p, witness in ((LARGEST_LISTED, BY_LARGEST_LISTED), (OVER, BY_OVER)):
+            curve = r.read_curve(power_and_1(g, p, witness))
+            multiple, (*_, q) = orders.MULTIPLES[g, p]
+            a = r.multiple_of(curve, Pool(dice, curve, []).heavy(), multiple // q)[0]
+            put_order(dice, collection, curve, a, 1)
 
 
 def put_every_divisor_fault(dice, collection, pools):
@@ -1085,7 +1148,7 @@ def made(seed):
         put_checks(dice, collection, pools)
     faulty = [pools_of[g, p][k] for g in GENERA for p in (7, 11, 65537, 2147483647) for k in (0, 1)]
     witnessed = {(g, p): witnessed_pool(dice, g, p) for g in GENERA for p in (3, 5, 7, 11, *LARGE)}
-    put_refusals(dice, collection, {1: faulty, 2: [witnessed[g, p] for g in GENERA for p in (7, 11)]})
+    put_refusals(dice, collection, range(CHECK_CURVE, SCAN + 1), {1: faulty, 2: [witnessed[g, p] for g in GENERA for p in (7, 11)]})
     put_every_curve_fault(dice, collection)
     put_witnesses(dice, collection)
     put_composites(collection)
@@ -1101,6 +1164,11 @@ def made(seed):
     put_repeats(dice, collection, pools_of)
     put_keys(dice, collection, [pools_of[key][1] for key in ((2, 5), (3, 2147483647))])
     put_small_orders(dice, collection, pools_of)
+    small = ((2, 5), (3, 5), (2, 7))  # whose orders are counted out
+    with_orders = {1: [pools_of[key][k] for key in small for k in (0, 3)], 2: [witnessed[key] for key in small]}
+    put_refusals(dice, collection, [CHECK_ORDER], with_orders)
+    put_known_orders(dice, collection)
+    put_orders(dice, collection, with_orders[1][::2] + with_orders[2] + [pools_of[3, 3][1], witnessed[3, 3]])
     return collection
 
 
@@ -1137,6 +1205,7 @@ class Census:
         self.multiples = Counter()
         self.witnessed = Counter()
         self.composites = set()
+        self.key_orders = Counter()
         self.text = []
         for frame in frames:
             self.take(frame)
@@ -1146,7 +1215,7 @@ class Census:
         self.text.append(text_of(frame, answered))
         number, operation = fields[0], frame.operation
         self.numbers[operation, number] += 1
-        for name in ("curve", "first", "second"):
+        for name in ("curve", "first", "second", "primes"):
             self.longest[NAMES[operation], name] = max(self.longest[NAMES[operation], name], len(getattr(frame, name)))
         if operation in WITH_OUTPUT:
             if number == 13:
@@ -1175,6 +1244,7 @@ class Census:
             elif number == 14:
                 self.batches["over 4,096"] += 1
         self.take_witness(frame, number)
+        self.take_order(frame, number)
         if operation == MULTIPLY and number in (0, 19):
             self.multiples[r.read_curve(frame.curve).g, frame.second] += 1  # 0 as a scalar is 19
         if number != 0:
@@ -1222,6 +1292,26 @@ class Census:
             if primes == witnesses.primes_of(p - 1) if p < 3000 else False:
                 self.composites.add(p)
 
+    def take_order(self, frame, number):
+        """What an order and its list have, by the divisor's true order; an answer that doesn't fit it is an error."""
+        if frame.operation != CHECK_ORDER or number not in (0, 27):
+            return
+        curve = r.read_curve(frame.curve)
+        order = orders.order_of(curve, r.read_divisor(curve, frame.first, 1))
+        faults = orders.faults_of(order, int.from_bytes(frame.second, "big"), frame.primes)
+        if (number == 0) != (not faults):
+            raise AssertionError("order %d: %r answers %d" % (order, frame, number))
+        kind = curve.g, 1 if curve.witness is None else 2
+        self.key_orders[kind + ("right" if number == 0 else "wrong",)] += 1
+        self.key_orders.update(faults)
+        self.key_orders.update(fault + ", alone" for fault in faults if len(faults) == 1)
+        if number == 0:
+            for what, holds in (
+                ("n = 1", order == 1), ("with leading zeros", frame.second[:1] == b"\0"), ("of 32 bytes", len(frame.second) == 32),
+                ("of over 100 bits", order >= 2**100), ("15 primes", len(frame.primes) == 60), ("2^31 - 1 listed", frame.primes[-4:] == b"\x7f\xff\xff\xff"),
+            ):  # fmt: skip
+                self.key_orders[what] += holds
+
     def shortfalls(self):
         short = []
 
@@ -1266,13 +1356,20 @@ class Census:
             need("version 2: " + fault + ", alone", self.witnessed[fault + ", alone"], 5)
         for what in ["k is 0", "k is 16", "k is over 16"] + ["p = %d" % p for p in (3, 5, 7, *LARGE)] + ["k = 1", "k = 2", "k = 12", "k = 15"]:
             need("version 2: " + what, self.witnessed[what], 5)
-        for g, operation in itertools.product(GENERA, range(CHECK_CURVE, SCAN + 1)):
+        for g, operation in itertools.product(GENERA, CALLS):
             need("version 2, g = %d: %s" % (g, NAMES[operation]), self.witnessed[g, "done, " + NAMES[operation]], 5)
             need("g = %d, p = 2^61 - 1: %s" % (g, NAMES[operation]), self.done_per_curve[(g, LARGEST), operation], 1)
         composites = set(filter(witnesses.is_composite, range(3, 3000, 2)))
         need("version 2: composite numbers below 3,000", len(self.composites & composites), len(composites))
+        for g, version, what in itertools.product(GENERA, (1, 2), ("right", "wrong")):
+            need("orders, g = %d, version %d: %s" % (g, version, what), self.key_orders[g, version, what], 15)
+        for fault in orders.FAULTS:
+            alone = fault + ("" if fault == orders.MORE else ", alone")  # 33 primes are never just those of an order
+            need("orders: " + alone, self.key_orders[alone], 4)
+        for what, least in (("n = 1", 10), ("with leading zeros", 20), ("of 32 bytes", 5), ("of over 100 bits", 2), ("15 primes", 2), ("2^31 - 1 listed", 2)):
+            need("orders: " + what, self.key_orders[what], least)
         # Neighbours in the order: each two stages that follow each other and can go together, in every call and version.
-        for operation, version in itertools.product(range(CHECK_CURVE, SCAN + 1), CURVE_FAULTS):
+        for operation, version in itertools.product(CALLS, CURVE_FAULTS):
             stages = Base(None, operation, None, version).stages
             for one, other in zip(stages, stages[1:]):
                 cut_with_more = one[1] in ("8a", "1k")  # an empty record has no other fault, nor has one that ends before k
@@ -1287,10 +1384,10 @@ class Census:
         yield ""
         yield "calls by number answered"
         yield "%-16s" % "" + "".join("%6d" % number for number in NUMBERS) + "     all"
-        for operation in range(CHECK_CURVE, SCAN + 1):
+        for operation in CALLS:
             row = [self.numbers[operation, number] for number in NUMBERS]
             yield "%-16s" % NAMES[operation] + "".join("%6d" % n if n else "     ." for n in row) + "%8d" % sum(row)
-        row = [sum(self.numbers[o, number] for o in range(12)) for number in NUMBERS]
+        row = [sum(self.numbers[o, number] for o in CALLS) for number in NUMBERS]
         yield "%-16s" % "all" + "".join("%6d" % n for n in row) + "%8d" % sum(row)
         yield ""
         yield "sums that were done, by genus, prime and kind (a sum may be of several kinds)"
@@ -1327,12 +1424,15 @@ class Census:
             yield "version 2, g = %d, done: " % g + ", ".join("%s %d" % pair for pair in done)
         yield "version 2: " + ", ".join("%s %d" % (what, n) for what, n in sorted((k, n) for k, n in self.witnessed.items() if isinstance(k, str)))
         yield "version 2: %d composite numbers below 3,000 refused with the primes of one less" % len(self.composites)
+        for g, version in itertools.product(GENERA, (1, 2)):
+            yield "orders, g = %d, version %d: right %d, wrong %d" % (g, version, *(self.key_orders[g, version, what] for what in ("right", "wrong")))
+        yield "orders: " + ", ".join("%s %d" % (what, n) for what, n in sorted((k, n) for k, n in self.key_orders.items() if isinstance(k, str)))
         singles = sum(1 for order in self.orders if len(order) == 3)
         yield "refusals: %d stages by themselves, %d pairs of faults where the earlier must win" % (
             singles,
             len(self.orders) - singles,
         )
-        for name in ("curve", "first", "second"):
+        for name in ("curve", "first", "second", "primes"):
             yield "longest %s: %d bytes" % (name, max(n for (_, k), n in self.longest.items() if k == name))
 
 
