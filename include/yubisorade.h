@@ -21,6 +21,7 @@
  *   divisor   weight w in 1 byte, u_0 to u_(w-1), v_0 to v_(w-1) in 8 bytes each: 1 + 16w bytes, w <= g. u is monic of
  *             degree w, v has a smaller degree, and u divides f - v^2. The single byte 00 is the neutral divisor.
  *   scalar    0 to 32 bytes, unsigned. No bytes mean 0; leading zeros are allowed.
+ *   primes    of an order: 0 to 32 primes below 2^31 in 4 bytes each, rising. The order itself is 0 to 32 bytes, as a scalar.
  *   batch     0 to 4096 divisor records, one behind the other, nothing between them.
  *
  * ARGUMENTS
@@ -62,7 +63,7 @@
  *   10   some u_i or v_i is p or more                           check that meter and curve belong together; scan again
  *   11   u doesn't divide f - v^2                               scan again; if it stays, the meter isn't on this curve:
  *                                                               leave it out and report it
- *   12   the scalar has more than 32 bytes                      mend the caller: a scalar has at most 256 bits
+ *   12   the scalar or the order has more than 32 bytes         mend the caller: a scalar has at most 256 bits
  *   13   the output is shorter than the result                  mend the caller: lend YUBI_DIVISOR_ROOM or
  *                                                               YUBI_CURVE_ROOM bytes
  *   14   a batch goes on after 4096 good records, or a running  close this list and begin a new one
@@ -76,10 +77,16 @@
  *                                                               with a right witness
  *   19   the divisor given or its multiple is neutral, in       don't commission the meter: its key would be empty. Ask
  *        yubi_multiply or yubi_multiply_inversion_free          the office for a new key
+ *   27   in yubi_check_order: the order isn't shown to be the   don't rely on that order. Load order and list again; if
+ *        divisor's: it is 0, or not made up of powers of just   it stays, ask the office for the key's order
+ *        the listed primes, or its multiple isn't neutral, or
+ *        that of a q-th of it is, q listed; or the list isn't
+ *        whole, too long, not rising, or has a number that is
+ *        no prime below 2^31 or doesn't divide the order
  *
  *   Where several would fit, the first in this order is given: the curve's 1 (under 6 bytes), 2, 3, 4, then in version 1 1, 5,
  *   and in version 2 1 (ends before k), 18 (k), 1, 5, 18, then in both 6, 7; for a scan 15, 14; then the divisors from first to
- *   last, each 8 (empty), 9, 8 (length), 10, 11; then 12; then 19; then 13.
+ *   last, each 8 (empty), 9, 8 (length), 10, 11; then 12; then 19 or 27; then 13.
  */
 #ifndef YUBISORADE_H
 #define YUBISORADE_H
@@ -91,10 +98,13 @@
 extern "C" {
 #endif
 
-/* Bytes that hold any divisor record, any curve record, the longest scalar. */
+/* Bytes that hold any divisor record, any curve record, the longest scalar or order. */
 #define YUBI_DIVISOR_ROOM 49
 #define YUBI_CURVE_ROOM 199
 #define YUBI_SCALAR_ROOM 32
+
+/* The most primes of an order. */
+#define YUBI_MOST_PRIMES 32
 
 /* The most records of a batch, and the largest count of a running total. */
 #define YUBI_MOST_RECORDS 4096
@@ -188,6 +198,13 @@ YubiMultiple yubi_multiply(const uint8_t *curve, size_t curve_length, const uint
  * meets no special pair. Answer and output are those of yubi_multiply on the same bytes: 0 to 13, 19. */
 YubiMultiple yubi_multiply_inversion_free(const uint8_t *curve, size_t curve_length, const uint8_t *a, size_t a_length,
                                           const uint8_t *scalar, size_t scalar_length, uint8_t *out, size_t out_length);
+
+/* Checks that n, the order's bytes as a number, is the order of a divisor, by the list of n's primes, whoever proposed them: 0 to
+ * 12, 27. Accepted where n > 0, n is made up of powers of just the listed primes, each of them dividing it, the sum of n copies is
+ * neutral, and for no listed prime q that of n/q copies is. Then the sum of m copies is neutral exactly where n divides m. An empty
+ * list goes with n = 1, the order of the neutral divisor alone. Neutral sums are no reason for 19 here. Writes nothing. */
+YubiAnswer yubi_check_order(const uint8_t *curve, size_t curve_length, const uint8_t *divisor, size_t divisor_length,
+                            const uint8_t *order, size_t order_length, const uint8_t *primes, size_t primes_length);
 
 /* Writes the sum of a batch's divisors to out, neutral for an empty batch, and answers how many: 0 to 11, 13, 14. */
 YubiTotal yubi_total_batch(const uint8_t *curve, size_t curve_length, const uint8_t *batch, size_t batch_length,

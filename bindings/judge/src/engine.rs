@@ -14,6 +14,7 @@ pub enum Call<'a> {
     Opposite { curve: &'a [u8], a: &'a [u8] },
     Multiply { curve: &'a [u8], a: &'a [u8], scalar: &'a [u8] },
     MultiplyInversionFree { curve: &'a [u8], a: &'a [u8], scalar: &'a [u8] },
+    CheckOrder { curve: &'a [u8], divisor: &'a [u8], order: &'a [u8], primes: &'a [u8] },
     TotalBatch { curve: &'a [u8], batch: &'a [u8] },
     FirstRepeat { curve: &'a [u8], batch: &'a [u8] },
     FreshTotal,
@@ -40,7 +41,13 @@ impl Call<'_> {
         use Call::*;
         !matches!(
             self,
-            CheckCurve { .. } | CheckDivisor { .. } | FirstRepeat { .. } | FreshTotal | Scan { .. } | ScanLent { .. }
+            CheckCurve { .. }
+                | CheckDivisor { .. }
+                | CheckOrder { .. }
+                | FirstRepeat { .. }
+                | FreshTotal
+                | Scan { .. }
+                | ScanLent { .. }
         )
     }
 
@@ -100,6 +107,9 @@ macro_rules! answer_through {
             }
             Call::MultiplyInversionFree { curve, a, scalar } => {
                 reply!(calls::multiply_inversion_free(curve, a, scalar, $out), [doublings, additions])
+            }
+            Call::CheckOrder { curve, divisor, order, primes } => {
+                reply!(calls::check_order(curve, divisor, order, primes))
             }
             Call::TotalBatch { curve, batch } => reply!(calls::total_batch(curve, batch, $out), [count]),
             Call::FirstRepeat { curve, batch } => reply!(calls::first_repeat(curve, batch), [first, second]),

@@ -81,6 +81,26 @@ pub mod simple {
         Some(r)
     }
 
+    /// The primes of a number that has at most one large one, rising.
+    pub fn primes_of(n: u64) -> Vec<u64> {
+        let (mut rest, mut primes) = (n, Vec::new());
+        for q in 2.. {
+            if q * q > rest {
+                break;
+            }
+            if rest % q == 0 {
+                primes.push(q);
+            }
+            while rest % q == 0 {
+                rest /= q;
+            }
+        }
+        if rest > 1 {
+            primes.push(rest);
+        }
+        primes
+    }
+
     pub fn value(f: &[u64], x: u64, p: u64) -> u64 {
         f.iter().rev().fold(0, |sum, &c| (mul(sum, x, p) + c) % p)
     }
@@ -126,22 +146,7 @@ pub struct Witness {
 impl Witness {
     /// The least base that does; p is an odd prime, and p - 1 has at most one prime that is large.
     pub fn of(p: u64) -> Witness {
-        let (mut rest, mut primes) = (p - 1, Vec::new());
-        for q in 2.. {
-            if q * q > rest {
-                break;
-            }
-            if rest % q == 0 {
-                primes.push(q);
-            }
-            while rest % q == 0 {
-                rest /= q;
-            }
-        }
-        if rest > 1 {
-            primes.push(rest);
-        }
-        Witness { base: 2, primes }.with_a_good_base(p).expect("a prime has one")
+        Witness { base: 2, primes: simple::primes_of(p - 1) }.with_a_good_base(p).expect("a prime has one")
     }
 
     /// The same primes with the least base that shows p prime, if it is below 300.
@@ -317,6 +322,16 @@ impl Sample {
     /// One of the pool.
     pub fn any<'a>(&'a self, rng: &mut Rng) -> &'a [u8] {
         rng.pick::<Vec<u8>>(&self.pool)
+    }
+
+    /// The order of a good record, counted out by sums, where the curve is small enough for that.
+    pub fn order(&self, a: &[u8]) -> Option<u64> {
+        let (mut total, mut order) = (a.to_vec(), 1);
+        while self.p <= SMALL && total.len() > 1 {
+            total = self.sum(&total, a);
+            order += 1;
+        }
+        Some(order).filter(|_| self.p <= SMALL)
     }
 
     /// The plain sum of two good records.

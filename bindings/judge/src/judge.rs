@@ -30,6 +30,8 @@ pub struct Tally {
     pub differences: u64,
     /// Multiples made by both calls on the same bytes.
     pub twins: u64,
+    /// Orders that were accepted.
+    pub orders: u64,
     /// Calls by the number answered.
     pub numbers: BTreeMap<u64, u64>,
     pub census: BTreeMap<(usize, u64), Census>,
@@ -122,6 +124,7 @@ impl<'e> Judge<'e> {
 
         let reply = second.reply;
         *self.tally.numbers.entry(reply.number).or_default() += 1;
+        self.tally.orders += u64::from(matches!(call, Call::CheckOrder { .. }) && reply.number == 0);
         let moved = matches!(call, Call::Scan { .. } | Call::ScanLent { .. }) && reply.total.weight > 0;
         let wrote = !matches!(call, Call::RewriteCurve { .. }) && reply.length > 1;
         if reply.number == 0 && (moved || wrote) {
@@ -160,7 +163,9 @@ fn broken_rule(call: &Call, outcome: &Outcome, before: &[u8], guard: usize, room
         return Some("bytes behind the result changed");
     }
     let multiply = matches!(call, Call::Multiply { .. } | Call::MultiplyInversionFree { .. });
-    if !matches!(reply.number, 0..=15 | 18) && !(multiply && reply.number == 19) {
+    let order = matches!(call, Call::CheckOrder { .. });
+    let own = multiply && reply.number == 19 || order && reply.number == 27;
+    if !matches!(reply.number, 0..=15 | 18) && !own {
         return Some("a number that isn't in the call's table");
     }
     if multiply && written == 1 {
@@ -204,6 +209,9 @@ fn shown(call: &Call) -> String {
         Call::Multiply { curve, a, scalar } => format!("multiply {} {} {}", hex(curve), hex(a), hex(scalar)),
         Call::MultiplyInversionFree { curve, a, scalar } => {
             format!("multiply_inversion_free {} {} {}", hex(curve), hex(a), hex(scalar))
+        }
+        Call::CheckOrder { curve, divisor, order, primes } => {
+            format!("check_order {} {} {} {}", hex(curve), hex(divisor), hex(order), hex(primes))
         }
         Call::TotalBatch { curve, batch } => format!("total_batch {} {}", hex(curve), hex(batch)),
         Call::FirstRepeat { curve, batch } => format!("first_repeat {} {}", hex(curve), hex(batch)),

@@ -12,6 +12,7 @@ mod engine;
 mod inputs;
 mod judge;
 mod multiples;
+mod orders;
 mod plan;
 
 use engine::{Engine, Plain};
@@ -130,4 +131,5 @@ fn report_pairs(tally: &Tally) {
         println!("  {:2}: {}", number, calls);
     }
     println!("{} multiples by both multiply calls on the same bytes", tally.twins);
+    println!("{} orders accepted", tally.orders);
 }

@@ -3,6 +3,7 @@
 use crate::engine::Call;
 use crate::inputs::{curve_record, divisor_record, numbers_of, simple, Class, Rng, Sample, Witness};
 use crate::judge::Judge;
+use crate::orders::{self, Shown};
 use plain::Running;
 
 /// 2^61 - 1 and the last two are version 2's own; p - 1 has 56 twos in the first of the two and 15 primes in the second.
@@ -36,6 +37,8 @@ pub fn run(judge: &mut Judge, count: u64) {
         let sample = Sample::new(&mut judge.rng, genus, p);
         judge.put(Call::FreshTotal, 0);
         multiples(judge, &sample);
+        orders::of_sample(judge, &sample);
+        orders::of_known(judge, genus, p);
         small_batches(judge, &sample);
         large_batches(judge, &sample);
         output_lengths(judge, &sample);
@@ -521,6 +524,7 @@ struct Faults {
     b: u32,
     scalar: bool,
     key: bool,
+    order: bool,
     room: bool,
 }
 
@@ -535,6 +539,7 @@ impl Faults {
             b: self.b | other.b,
             scalar: self.scalar | other.scalar,
             key: self.key | other.key,
+            order: self.order | other.order,
             room: self.room | other.room,
         }
     }
@@ -543,7 +548,7 @@ impl Faults {
 /// Puts a call with these faults.
 type Put = fn(&mut Judge, &Sample, Faults);
 
-/// The refusals of add, multiply, total and scan, in their order: each alone, with its neighbour, and with all that follow.
+/// The refusals of add, multiply, an order's check, total and scan, in their order: each alone, with its neighbour, and with all that follow.
 fn neighbouring_faults(judge: &mut Judge, sample: &Sample) {
     let none = Faults::default();
     let curve: Vec<Faults> = curve_fault_kinds(sample).into_iter().map(|k| Faults { curve: 1 << k, ..none }).collect();
@@ -551,13 +556,15 @@ fn neighbouring_faults(judge: &mut Judge, sample: &Sample) {
     let b: Vec<Faults> = (0..DIVISOR_FAULTS).map(|k| Faults { b: 1 << k, ..none }).collect();
     let scalar = vec![Faults { scalar: true, ..none }];
     let key = vec![Faults { key: true, ..none }];
+    let order = vec![Faults { order: true, ..none }];
     let room = vec![Faults { room: true, ..none }];
     let totals: Vec<Faults> = (0..TOTAL_FAULTS).map(|k| Faults { total: 1 << k, ..none }).collect();
     let full = vec![Faults { full: true, ..none }];
 
-    let orders: [(Put, Vec<Faults>); 4] = [
+    let orders: [(Put, Vec<Faults>); 5] = [
         (put_add, [&curve[..], &a, &b, &room].concat()),
         (put_multiply, [&curve[..], &a, &scalar, &key, &room].concat()),
+        (put_order, [&curve[..], &a, &scalar, &order].concat()),
         (put_total, [&curve[..], &a, &b, &room].concat()),
         (put_scan, [&curve[..], &totals, &full, &a].concat()),
     ];
@@ -593,6 +600,23 @@ fn put_multiply(judge: &mut Judge, sample: &Sample, faults: Faults) {
     judge.put(Call::Multiply { curve: &curve, a: &a, scalar: &scalar }, if faults.room { 0 } else { ROOM });
 }
 
+fn put_order(judge: &mut Judge, sample: &Sample, faults: Faults) {
+    let curve = faulty_curve(&mut judge.rng, sample, faults.curve);
+    // Where the order isn't known, the neutral divisor has one that is.
+    let good = sample.any(&mut judge.rng).to_vec();
+    let (good, n) = sample.order(&good).map_or((vec![0], 1), |n| (good, n));
+    let divisor = if faults.a == 0 { good } else { faulty_divisor(&mut judge.rng, sample, faults.a) };
+    let mut shown = Shown::right(n);
+    if faults.order {
+        shown = shown.wrong(&mut judge.rng);
+    }
+    if faults.scalar {
+        let zeros = 33 + judge.rng.below(4) as usize - shown.order.len();
+        shown.order.splice(..0, vec![0; zeros]);
+    }
+    shown.put(judge, &curve, &divisor);
+}
+
 fn put_total(judge: &mut Judge, sample: &Sample, faults: Faults) {
     let curve = faulty_curve(&mut judge.rng, sample, faults.curve);
     let good = sample.any(&mut judge.rng).to_vec();
@@ -624,9 +648,10 @@ fn mixed_faults(judge: &mut Judge, sample: &Sample) {
             b: some_faults(rng, DIVISOR_FAULTS),
             scalar: rng.one_in(4),
             key: rng.one_in(4),
+            order: rng.one_in(2),
             room: rng.one_in(4),
         };
-        let put: Put = *rng.pick(&[put_add as Put, put_multiply, put_total, put_scan]);
+        let put: Put = *rng.pick(&[put_add as Put, put_multiply, put_order, put_total, put_scan]);
         put(judge, sample, faults);
     }
 }
@@ -753,10 +778,10 @@ mod tests {
 
     #[test]
     fn plain_agrees_with_itself() {
-        let mut judge = Judge::new(&Plain, &Plain, 1, true);
+        let mut judge = Judge::new(&Plain, &Plain, 2, true);
         run(&mut judge, 150_000);
         assert_eq!(judge.tally.differences, 0);
-        for number in (0..=15).chain([18, 19]) {
+        for number in (0..=15).chain([18, 19, 27]) {
             assert!(judge.tally.numbers[&number] >= 20, "{} {:?}", number, judge.tally.numbers);
         }
         assert_eq!(judge.tally.census.len(), 2 * PRIMES.len());

@@ -87,6 +87,11 @@ pub struct Small {
     bound: u64,
 }
 
+/// Whether a number is a prime below 2^31.
+pub fn is_prime(n: u64) -> bool {
+    n == 2 || Small::new(n).is_some()
+}
+
 impl Small {
     /// The largest modulus, 2^31 - 1.
     pub const LARGEST: u64 = 0x7fff_ffff;

@@ -29,6 +29,7 @@ mod curve;
 mod field;
 mod full;
 mod large;
+mod order;
 mod poly;
 mod record;
 mod witness;
@@ -40,7 +41,7 @@ use std::collections::hash_map::{Entry, HashMap};
 /// The most records of a batch, and the largest count of a running total.
 pub const MOST_RECORDS: u64 = 4096;
 
-/// The longest scalar in bytes.
+/// The longest scalar in bytes, and the longest order.
 pub const SCALAR_ROOM: usize = 32;
 
 /// What most calls answer.
@@ -185,6 +186,19 @@ pub fn multiply(curve: &[u8], a: &[u8], scalar: &[u8], out: &mut [u8]) -> Multip
 /// The same multiple: the library makes it by a second engine, here one does for both calls.
 pub fn multiply_inversion_free(curve: &[u8], a: &[u8], scalar: &[u8], out: &mut [u8]) -> Multiple {
     multiply(curve, a, scalar, out)
+}
+
+/// Checks that n is the order of a divisor: n has 0 to 32 bytes, big-endian, its primes 4 bytes each, rising. The n-fold sum is neutral, and
+/// for no listed q the n/q-fold is. Nothing is written.
+pub fn check_order(curve: &[u8], divisor: &[u8], order: &[u8], primes: &[u8]) -> Answer {
+    read_pair(curve, divisor)
+        .and_then(|(curve, a)| {
+            if order.len() > SCALAR_ROOM {
+                return Err(Refused::new(12));
+            }
+            Some(0).filter(|_| order::is_order(&curve, &a, order, primes)).ok_or(Refused::new(27))
+        })
+        .into()
 }
 
 /// The total of a batch: no or more divisor records one after the other, at most 4,096.

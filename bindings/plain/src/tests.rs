@@ -488,6 +488,135 @@ fn small_curves_are_groups() {
     }
 }
 
+/// A list of primes, 4 bytes each.
+fn listed(primes: &[u32]) -> Vec<u8> {
+    primes.iter().flat_map(|q| q.to_be_bytes()).collect()
+}
+
+fn primes_of(n: u32) -> Vec<u32> {
+    (2..=n).filter(|q| n % q == 0 && (2..*q).all(|d| q % d != 0)).collect()
+}
+
+/// The order of every divisor of small curves, counted out: it is accepted with its primes, and no other number up to a bound is.
+#[test]
+fn orders_of_every_divisor() {
+    let curves: [(u8, u64, Vec<u8>); 4] = [
+        (2, 7, curve_a()),
+        (2, 5, curve(2, 5, &[2, 1, 0, 0, 3])),
+        (3, 3, curve(3, 3, &[0, 2, 1, 0, 0, 1, 2])),
+        (2, 7, witnessed(2, 7, &[1, 0, 0, 0, 0], 3, 2, &[2, 3])),
+    ];
+    for (genus, p, c) in curves {
+        for a in every_divisor(&c, u32::from(genus), p) {
+            let (mut total, mut order) = (a.clone(), 1u32);
+            while total != neutral() {
+                total = sum(&c, &total, &a);
+                order += 1;
+            }
+            for n in 0..3 * order + 2 {
+                let wanted = Answer { number: if n == order { 0 } else { 27 }, ..Answer::default() };
+                assert_eq!(check_order(&c, &a, &n.to_be_bytes(), &listed(&primes_of(n))), wanted, "{:?} {}", a, n);
+            }
+        }
+    }
+}
+
+#[test]
+fn orders_refused_in_order() {
+    let (c, point, own) = (curve_a(), divisor(&[0], &[1]), divisor(&[1], &[0]));
+    let both = sum(&c, &point, &own); // of order 10
+    let number = |a: &[u8], n: &[u8], primes: &[u32]| {
+        let answer = check_order(&c, a, n, &listed(primes));
+        assert_eq!((answer.place, answer.length), (0, 0));
+        answer.number
+    };
+    assert_eq!((number(&point, &[5], &[5]), number(&own, &[2], &[2]), number(&both, &[10], &[2, 5])), (0, 0, 0));
+    assert_eq!(number(&both, &[&[0; 31][..], &[10]].concat(), &[2, 5]), 0);
+    assert_eq!(number(&both, &[&[0; 32][..], &[10]].concat(), &[2, 5]), 12);
+    assert_eq!(check_order(&c, &both, &[0; 33], &[0]).number, 12);
+    assert_eq!((number(&neutral(), &[1], &[]), number(&point, &[1], &[]), number(&neutral(), &[5], &[5])), (0, 27, 27));
+    for zero in [&[][..], &[0], &[0; 32]] {
+        for a in [&point, &neutral()] {
+            assert_eq!((number(a, zero, &[]), number(a, zero, &[5])), (27, 27));
+        }
+    }
+    let lists: [&[u32]; 12] = [
+        &[],
+        &[2],
+        &[5],
+        &[5, 2],
+        &[2, 2, 5],
+        &[2, 5, 5],
+        &[2, 3, 5],
+        &[10],
+        &[0, 2, 5],
+        &[1, 2, 5],
+        &[2, 5, 1 << 31],
+        &[2, 5, u32::MAX],
+    ];
+    for primes in lists {
+        assert_eq!(number(&both, &[10], primes), 27, "{:?}", primes);
+    }
+    for (n, primes) in [(5, &[5][..]), (2, &[2]), (20, &[2, 5]), (30, &[2, 3, 5]), (50, &[2, 5]), (1, &[])] {
+        assert_eq!(number(&both, &[n], primes), 27, "{}", n);
+    }
+    for length in [1, 2, 3, 5, 6, 7, 9] {
+        assert_eq!(check_order(&c, &both, &[10], &[&listed(&[2, 5])[..], &[0]].concat()[..length]).number, 27);
+    }
+    // The curve and the divisor come before all of that.
+    assert_eq!(check_order(&c[..53], &[], &[0; 33], &[0]), Answer { number: 1, ..Answer::default() });
+    for (wanted, wrong) in
+        [(8, vec![]), (9, vec![3]), (8, vec![1]), (10, divisor(&[7], &[2])), (11, divisor(&[0], &[2]))]
+    {
+        for (n, primes) in [(&[0; 33][..], &[0][..]), (&[], &[]), (&[5], &[0, 0, 0, 5])] {
+            assert_eq!(check_order(&c, &wrong, n, primes), Answer { number: wanted, place: 1, length: 0 });
+        }
+    }
+}
+
+/// x^(2g+1) + 1 modulo a p that is -1 modulo 2g + 1: every order divides p + 1, which is made up of 15 primes, or has 2^31 - 1 or 2^31 + 11.
+#[test]
+fn orders_of_large_divisors() {
+    let fifteen = [2, 3, 5, 7, 11, 13, 17, 19, 23, 29, 31, 37, 41, 43, 53];
+    let fields: [(u64, u64, &[u64], &[u32]); 3] = [
+        (693_386_350_578_511_589, 2, &[2, 43_597, 330_103, 12_045_067], &fifteen),
+        (300_647_710_579, 2, &[2, 3, 499, 100_416_737], &[2, 5, 7, 0x7fff_ffff]),
+        (1_803_886_273_559, 13, &[2, 309_583, 2_913_413], &[2, 3, 5, 7, 0x8000_000b]),
+    ];
+    for (genus, (p, base, of_less, primes)) in [2, 3].into_iter().flat_map(|g| fields.map(|field| (g, field))) {
+        let f: Vec<u64> = std::iter::once(1).chain(std::iter::repeat(0).take(2 * usize::from(genus))).collect();
+        let c = witnessed(genus, p, &f, base, of_less.len() as u8, of_less);
+        // Two points that are no multiples of (x, 1).
+        let points: Vec<Vec<u8>> = (2..).filter_map(|x| point_over(&c, genus, p, x)).take(2).collect();
+        let a = sum(&c, &points[0], &points[1]);
+        let mut order = p + 1;
+        for &q in primes {
+            while order % u64::from(q) == 0 && times(&c, &a, order / u64::from(q)) == neutral() {
+                order /= u64::from(q);
+            }
+        }
+        let its: Vec<u32> = primes.iter().copied().filter(|&q| order % u64::from(q) == 0).collect();
+        let number = |n: u64, primes: &[u32]| check_order(&c, &a, &n.to_be_bytes(), &listed(primes)).number;
+        let last = *its.last().unwrap();
+        assert_eq!(number(order, &its), if last < 1 << 31 { 0 } else { 27 }, "{} {}", p, order);
+        assert!(order > 1 << 31 && last > 40);
+        assert_eq!(
+            (number(order, &its[..its.len() - 1]), number(order / u64::from(last), &its[..its.len() - 1])),
+            (27, 27)
+        );
+        assert_eq!((number(2 * order, &its), number(order + 1, &its)), (27, 27));
+    }
+}
+
+/// A point over x, where there is one and a power finds its y: p is 3 modulo 4, or 5 modulo 8 and luck has it.
+fn point_over(c: &[u8], genus: u8, p: u64, x: u64) -> Option<Vec<u8>> {
+    let mul = |a: u64, b: u64| (u128::from(a) * u128::from(b) % u128::from(p)) as u64;
+    let pow = |a: u64, n: u64| (0..64).rev().fold(1, |r, i| mul(mul(r, r), if n >> i & 1 == 1 { a } else { 1 }));
+    let root = if p % 4 == 3 { (p + 1) / 4 } else { (p + 3) / 8 };
+    let y = pow((pow(x, 2 * u64::from(genus) + 1) + 1) % p, root);
+    Some(divisor(&[p - x], &[y])).filter(|record| check_divisor(c, record).number == 0)
+}
+
 /// In genus 3, composed degree 6 that takes two reductions, on the largest field of each version: (m + n)-fold is m-fold plus n-fold.
 #[test]
 fn multiples_add_up_on_the_largest_field() {

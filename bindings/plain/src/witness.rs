@@ -1,6 +1,6 @@
 //! A witness that shows a number prime, whoever proposed it: a base, and the primes that one less is made up of.
 
-use crate::field::{Field, Small};
+use crate::field::{is_prime, Field};
 use crate::large::Large;
 
 /// The most primes that may be listed.
@@ -14,7 +14,7 @@ pub fn shows(k: Large, base: u64, primes: &[u64]) -> bool {
     }
     let mut rest = p - 1;
     for &q in primes {
-        if q != 2 && Small::new(q).is_none() || rest % q != 0 {
+        if !is_prime(q) || rest % q != 0 {
             return false;
         }
         while rest % q == 0 {

@@ -39,8 +39,11 @@ pub const DIVISOR_ROOM: usize = 49;
 /// Bytes that hold any curve record, of version 1 or 2.
 pub const CURVE_ROOM: usize = 199;
 
-/// Bytes of the longest scalar.
+/// Bytes of the longest scalar or order.
 pub const SCALAR_ROOM: usize = 32;
+
+/// The most primes of an order.
+pub const MOST_PRIMES: usize = 32;
 
 /// The most records of a batch, and the largest count of a running total.
 pub const MOST_RECORDS: u64 = 4096;
@@ -146,6 +149,27 @@ pub fn multiply_inversion_free(curve: &[u8], a: &[u8], scalar: &[u8], out: &mut 
 fn multiple_of(answer: raw::YubiMultiple) -> Result<Multiple, Refusal> {
     Refusal::check(answer.number, answer.place)?;
     Ok(Multiple { length: answer.length as usize, doublings: answer.doublings, additions: answer.additions })
+}
+
+/// Checks that n is the order of a divisor, by the list of n's primes, whoever proposed them: n has 0 to 32 bytes, big-endian, and each prime
+/// stands in 4, rising. Where it is accepted, the sum of m copies is neutral exactly where n divides m; otherwise [`Refusal::Order`].
+///
+/// ```
+/// # let mut curve = b"HJC\x00\x01\x02".to_vec();
+/// # for number in [7u64, 1, 0, 0, 0, 0] {
+/// #     curve.extend_from_slice(&number.to_be_bytes());
+/// # }
+/// # let mut meter = vec![1];
+/// # for number in [0u64, 1] {
+/// #     meter.extend_from_slice(&number.to_be_bytes());
+/// # }
+/// use yubisorade::{check_order, Refusal};
+/// // (x, 1) has order 5, and 10 is no more than a multiple of it.
+/// assert_eq!(check_order(&curve, &meter, &[5], &[0, 0, 0, 5]), Ok(()));
+/// assert_eq!(check_order(&curve, &meter, &[10], &[0, 0, 0, 2, 0, 0, 0, 5]), Err(Refusal::Order));
+/// ```
+pub fn check_order(curve: &[u8], divisor: &[u8], order: &[u8], primes: &[u8]) -> Result<(), Refusal> {
+    length_of(raw::check_order(curve, divisor, order, primes)).map(|_| ())
 }
 
 /// Writes the sum of a batch, 0 to 4,096 divisor records one behind the other, to the front of `out`.

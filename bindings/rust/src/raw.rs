@@ -142,6 +142,16 @@ extern "C" {
         out: *mut u8,
         out_length: usize,
     ) -> YubiMultiple;
+    fn yubi_check_order(
+        curve: *const u8,
+        curve_length: usize,
+        divisor: *const u8,
+        divisor_length: usize,
+        order: *const u8,
+        order_length: usize,
+        primes: *const u8,
+        primes_length: usize,
+    ) -> YubiAnswer;
     fn yubi_total_batch(
         curve: *const u8,
         curve_length: usize,
@@ -239,6 +249,22 @@ pub fn multiply_inversion_free(curve: &[u8], a: &[u8], scalar: &[u8], out: &mut 
             scalar.len(),
             out.as_mut_ptr(),
             out.len(),
+        )
+    }
+}
+
+/// Checks the order of a divisor by the list of its primes.
+pub fn check_order(curve: &[u8], divisor: &[u8], order: &[u8], primes: &[u8]) -> YubiAnswer {
+    unsafe {
+        yubi_check_order(
+            curve.as_ptr(),
+            curve.len(),
+            divisor.as_ptr(),
+            divisor.len(),
+            order.as_ptr(),
+            order.len(),
+            primes.as_ptr(),
+            primes.len(),
         )
     }
 }

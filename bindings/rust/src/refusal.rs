@@ -28,7 +28,7 @@ pub enum Refusal {
     DivisorCoefficient { place: u64 },
     /// 11: u doesn't divide f - v².
     NotOnCurve { place: u64 },
-    /// 12: scalar over 32 bytes.
+    /// 12: scalar or order over 32 bytes.
     ScalarLength,
     /// 13: output shorter than the result.
     OutputLength,
@@ -41,6 +41,8 @@ pub enum Refusal {
     Witness,
     /// 19: the divisor given or its multiple is neutral.
     EmptyKey,
+    /// 27: the order isn't shown to be the divisor's by the list of its primes.
+    Order,
 }
 
 impl Refusal {
@@ -68,11 +70,12 @@ impl Refusal {
             15 => Refusal::RunningTotal,
             18 => Refusal::Witness,
             19 => Refusal::EmptyKey,
+            27 => Refusal::Order,
             other => panic!("libtablet.a answered {}, which isn't a number of the contract", other),
         })
     }
 
-    /// The contract's number, 1 to 15, 18 or 19.
+    /// The contract's number, 1 to 15, 18, 19 or 27.
     pub fn number(self) -> u64 {
         match self {
             Refusal::CurveLength => 1,
@@ -92,6 +95,7 @@ impl Refusal {
             Refusal::RunningTotal => 15,
             Refusal::Witness => 18,
             Refusal::EmptyKey => 19,
+            Refusal::Order => 27,
         }
     }
 
@@ -127,7 +131,7 @@ impl Refusal {
             Refusal::Weight { .. } => "w > g",
             Refusal::DivisorCoefficient { .. } => "some u_i or v_i ≥ p",
             Refusal::NotOnCurve { .. } => "u doesn't divide f - v²",
-            Refusal::ScalarLength => "scalar over 32 bytes",
+            Refusal::ScalarLength => "scalar or order over 32 bytes",
             Refusal::OutputLength => "output shorter than the result",
             Refusal::Full => "a batch goes on after 4,096 good records, or a running total already holds 4,096",
             Refusal::RunningTotal => {
@@ -136,6 +140,10 @@ impl Refusal {
             }
             Refusal::Witness => "in version 2, k isn't 1 to 15 or the witness doesn't show p prime",
             Refusal::EmptyKey => "the divisor given or its multiple is neutral",
+            Refusal::Order => {
+                "the order is 0, or isn't made up of powers of just the listed primes, or its multiple isn't neutral, or that of a q-th \
+                 of it is; or the list isn't whole, too long, not rising, or has a number that is no prime below 2^31 or doesn't divide it"
+            }
         }
     }
 }
@@ -155,7 +163,7 @@ mod tests {
     #[test]
     fn numbers_and_places_come_back() {
         assert_eq!(Refusal::check(0, 0), Ok(()));
-        for number in (1..=15).chain([18, 19]) {
+        for number in (1..=15).chain([18, 19, 27]) {
             let place = if (8..=11).contains(&number) { 7 } else { 0 };
             let refusal = Refusal::check(number, place).unwrap_err();
             assert_eq!((refusal.number(), refusal.place()), (number, place));

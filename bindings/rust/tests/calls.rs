@@ -105,6 +105,41 @@ fn witnesses() {
     assert_eq!(check_curve(&curve(2, p, &ones)), Err(Refusal::Prime));
 }
 
+/// W-214: (x, 1) has order 5 on curve A and 7 on curve B, (x + 1, 0) order 2, their sum 10.
+#[test]
+fn orders() {
+    let listed = |primes: &[u32]| primes.iter().flat_map(|q| q.to_be_bytes()).collect::<Vec<u8>>();
+    let (a, b) = (curve_a(), curve(3, 11, &[1, 0, 0, 0, 0, 0, 0]));
+    let with_witness = witnessed(2, 7, &[1, 0, 0, 0, 0], 3, &[2, 3]);
+    let (point, own, both) = (divisor(&[0], &[1]), divisor(&[1], &[0]), divisor(&[0, 1], &[1, 1]));
+    for (c, divisor, n, primes) in [
+        (&a, &point, &[5][..], &[5][..]),
+        (&with_witness, &point, &[5], &[5]),
+        (&b, &point, &[7], &[7]),
+        (&a, &own, &[2], &[2]),
+        (&a, &both, &[0, 0, 10], &[2, 5]),
+        (&a, &vec![0], &[1], &[]),
+    ] {
+        let check = |n: &[u8], primes: &[u8]| check_order(c, divisor, n, primes);
+        assert_eq!(check(n, &listed(primes)), Ok(()));
+        let long = [&[0; SCALAR_ROOM][..], n].concat();
+        assert_eq!(check(&long[long.len() - SCALAR_ROOM..], &listed(primes)), Ok(()));
+        assert_eq!(check(&long, &listed(primes)), Err(Refusal::ScalarLength));
+        for (m, wrong) in
+            [(n, &[2, 3, 5, 7][..]), (&[], &[]), (&[0], primes), (&[30], &[2, 3, 5]), (&[210], &[2, 3, 5, 7])]
+        {
+            assert_eq!(check(m, &listed(wrong)), Err(Refusal::Order), "{:?} {:?}", m, wrong);
+        }
+        assert_eq!(check(n, &[&listed(primes)[..], &[0]].concat()), Err(Refusal::Order));
+        assert_eq!(check(n, &listed(&[2; MOST_PRIMES + 1])), Err(Refusal::Order));
+    }
+    assert_eq!(check_order(&a, &both, &[10], &listed(&[5, 2])), Err(Refusal::Order));
+    assert_eq!(check_order(&a, &both, &[10], &listed(&[10])), Err(Refusal::Order));
+    assert_eq!(check_order(&a, &point, &[1], &[]), Err(Refusal::Order));
+    assert_eq!(check_order(&a, &divisor(&[0], &[2]), &[0; 33], &[0]), Err(Refusal::NotOnCurve { place: 1 }));
+    assert_eq!(check_order(&a[..53], &[], &[0; 33], &[0]), Err(Refusal::CurveLength));
+}
+
 #[test]
 fn the_pole_of_the_contract() {
     let (c, a, b) = (curve_a(), divisor(&[0], &[1]), divisor(&[6], &[3]));

@@ -135,6 +135,7 @@ fn declarations_are_the_headers() {
         "yubi_add",
         "yubi_check_curve",
         "yubi_check_divisor",
+        "yubi_check_order",
         "yubi_double",
         "yubi_first_repeat",
         "yubi_fresh_total",
@@ -164,6 +165,8 @@ fn a_changed_declaration_shows() {
         ("yubi_scan_lent(YubiRunning *total,", "yubi_scan_lent(const YubiRunning *total,"),
         ("YubiRunning yubi_fresh_total(void);", ""),
         ("size_t scalar_length, ", ""),
+        ("const uint8_t *primes,", "const uint32_t *primes,"),
+        ("const uint8_t *order, size_t order_length, ", ""),
         ("yubi_opposite", "yubi_negate"),
     ];
     let rust = declared_in_rust(RAW);
@@ -185,6 +188,7 @@ fn constants_are_the_headers() {
     assert_eq!(defined("YUBI_DIVISOR_ROOM"), yubisorade::DIVISOR_ROOM as u64);
     assert_eq!(defined("YUBI_CURVE_ROOM"), yubisorade::CURVE_ROOM as u64);
     assert_eq!(defined("YUBI_SCALAR_ROOM"), yubisorade::SCALAR_ROOM as u64);
+    assert_eq!(defined("YUBI_MOST_PRIMES"), yubisorade::MOST_PRIMES as u64);
     assert_eq!(defined("YUBI_MOST_RECORDS"), yubisorade::MOST_RECORDS);
 }
 
