@@ -8,10 +8,12 @@ use Rattle.algebra.proofs.zmod.Zmod.{zmod, emb, emb-mul}
 use Rattle.wide.specs.Words.{word}
 use Rattle.field.specs.declared.Modulus.{Modulus}
 use Rattle.field.specs.declared.Residue.{Residue}
-use Rattle.field.specs.declared.binary.Shifted.{Shifted}
-use Rattle.field.specs.Residues.{el, back, HasInverse, Inverts}
-use Rattle.field.specs.Almost.{Invertible, AlmostIs, ToFinish, Finished}
-use Rattle.field.proofs.Back.{back-word}
+use Rattle.halving.specs.declared.Shifted.{Shifted}
+use Rattle.montgomery.specs.Back.{back}
+use Rattle.field.specs.Residues.{el, HasInverse, Inverts}
+use Rattle.halving.specs.Almost.{Invertible, AlmostIs}
+use Rattle.montgomery.specs.Powers.{ToFinish, Finished}
+use Rattle.montgomery.proofs.Back.{back-word}
 
 module _ (m : Modulus) (a : Residue) (u : HasInverse m a) where
   open CRing (zmod (m .p)) using (El as A, add as _⊕_, mul as _⊗_, neg as ng, zer as 𝟘, one as 𝟙, zer-add)
@@ -32,10 +34,10 @@ module _ (m : Modulus) (a : Residue) (u : HasInverse m a) where
   invertible = record { prime = u .good .prime; most = u .good .ring .turns .most; below = u .kept .below; nonzero = λ e. u .nonzero (ap (λ t. t ⊗ B) e ∙ ring (zmod p) (B ∷ []) (search quote depth 40) refl) }
 
   module _ (x : Shifted) (h : AlmostIs p (a .0) x) where
-    pub to-finish : ToFinish m (x .s) (x .k)
-    to-finish = record { ring = u .good .ring; small = h .small; few = h .few }
+    pub to-finish : ToFinish p (m .turn) (m .square) (m .cube) (x .s) (x .k)
+    to-finish = let g = u .good .ring in record { turns = g .turns; square-below = g .square-below; square-is = g .square-is; cube-below = g .cube-below; cube-is = g .cube-is; small = h .small; few = h .few }
 
-    pub inverts : {r : ℕ} → Finished m (x .s) (x .k) r → Inverts m a (record { 0 = r })
+    pub inverts : {r : ℕ} → Finished p (x .s) (x .k) r → Inverts m a (record { 0 = r })
     unfolding el
     inverts {r} f = record {
       kept = record { ring = u .good .ring; below = f .below };

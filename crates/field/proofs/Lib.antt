@@ -1,16 +1,10 @@
 pub mod Laws
 pub mod Raw
 pub mod Units
-pub mod Bounds
-pub mod Back
 pub mod Sums
 pub mod Products
 pub mod Constants
-pub mod Halving
-pub mod Finishing
 pub mod Inverse
-pub mod Trial
 pub mod Decide
 pub mod Arrays
 pub mod Read
-pub mod Powers

@@ -5,17 +5,20 @@ use mathlib.Core.List.{[], _∷_}
 use native.Mathlib.Omega.{arith}
 use native.Mathlib.Nat.{mul-one}
 use Rattle.algebra.proofs.ring.CRing.{CRing}
+use Rattle.algebra.proofs.ring.Power.{power}
 use Rattle.algebra.proofs.ring.Quote.{ring, quote, by}
 use Rattle.algebra.proofs.zmod.Zmod.{zmod, emb, num, num-of, emb-add, emb-mul, emb-zero}
 use Rattle.wide.specs.Words.{word}
 use Rattle.wide.specs.Reduced.{Reduced, Reducible}
 use Rattle.field.specs.declared.Modulus.{Modulus}
 use Rattle.field.specs.declared.Residue.{Residue}
-use Rattle.field.specs.Residues.{el, back, Ring, Kept, Stands, Settles}
-use Rattle.field.specs.Constants.{Same}
+use Rattle.montgomery.specs.Back.{back}
+use Rattle.field.specs.Residues.{el, Ring, Kept, Stands, Settles}
+use Rattle.montgomery.specs.Constants.{Same}
+use Rattle.montgomery.specs.Powers.{ToPower, Powered}
 use Rattle.field.proofs.Laws.{positive}
-use Rattle.field.proofs.Back.{reduced-is, back-word}
-use Rattle.field.proofs.Bounds.{one-product, two-products}
+use Rattle.montgomery.proofs.Back.{reduced-is, back-word, product-is}
+use Rattle.wide.proofs.Bounds.{one-product, two-products}
 use Rattle.field.proofs.Sums.{held, same-sum}
 
 module _ (m : Modulus) where
@@ -53,13 +56,20 @@ module _ (m : Modulus) where
     unfolding el
     number-is {x} {r} d s = sym (num-of p (positive m (h .ring)) r (s .below)) ∙ ap (num p) (s .is ∙ reduced-is p (m .turn) (h .ring .turns) d ∙ ap (λ i. emb p i ⊗ B) (mul-one (a .0)))
 
+    pub power-requires : ToPower p (m .turn) (m .one) (a .0)
+    power-requires = let g = h .ring in record { turns = g .turns; one-below = g .one-below; one-is = g .one-is; below = h .below }
+
+    pub power-is : {n r : ℕ} → Powered p (m .turn) (a .0) n r → Stands m (record { 0 = r }) (power (zmod p) (el m a) n)
+    unfolding el
+    power-is {n} {r} d = held m r (h .ring) (d .below) (d .is)
+
     module _ (b : Residue) (k : Kept m b) where
       pub mul-requires : Reducible p (m .turn) (a .0 * b .0)
       mul-requires = one-product (h .ring .turns) (a .0) (b .0) (omega (arith, h .below)) (omega (arith, k .below))
 
       pub mul-is : {r : ℕ} → Reduced p (a .0 * b .0) r → Stands m (record { 0 = r }) (el m a ⊗ el m b)
       unfolding el
-      mul-is {r} d = stood (h .ring) d (ap (λ i. i ⊗ B ⊗ B) (emb-mul p (a .0) (b .0)) ∙ ring (zmod p) (emb p (a .0) ∷ emb p (b .0) ∷ B ∷ []) (search quote depth 40) refl)
+      mul-is {r} d = held m r (h .ring) (d .below) (product-is p (m .turn) (h .ring .turns) (a .0) (b .0) d)
 
       module _ (c : Residue) (l : Kept m c) where
         pub sum-requires : Reducible p (m .turn) ((b .0 + c .0) * a .0)

@@ -9,8 +9,9 @@ use Rattle.algebra.proofs.zmod.Zmod.{zmod, emb, emb-add, emb-zero}
 use Rattle.wide.proofs.Modulo.{same-element}
 use Rattle.field.specs.declared.Modulus.{Modulus}
 use Rattle.field.specs.declared.Residue.{Residue}
-use Rattle.field.specs.Residues.{el, back, Ring, Kept, Settled, Stands, Settles, Halves}
-use Rattle.field.specs.Constants.{Same}
+use Rattle.montgomery.specs.Back.{back}
+use Rattle.field.specs.Residues.{el, Ring, Kept, Settled, Stands, Settles, Halves}
+use Rattle.montgomery.specs.Constants.{Same}
 use Rattle.field.proofs.Laws.{positive, settled-unique, zero-at}
 
 module _ (m : Modulus) where

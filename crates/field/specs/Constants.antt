@@ -1,9 +1,7 @@
--- A modulus made of a number, and its constants.
-use Prim.Native.Nat.{ℕ, _+_, _*_, _%_, _≤_, _<_}
+-- A modulus made of a number.
+use Prim.Native.Nat.{ℕ, _%_, _≤_}
 use mathlib.Core.Path.{_≡_}
-use Rattle.algebra.proofs.zmod.Zmod.{emb}
-use Rattle.wide.specs.Words.{word}
-use Rattle.wide.specs.Reduced.{Turns, top}
+use Rattle.wide.specs.Reduced.{top}
 use Rattle.field.specs.declared.Modulus.{Modulus}
 use Rattle.field.specs.Residues.{Ring}
 
@@ -16,20 +14,3 @@ pub record Odd (p : ℕ) : Type 0 where
 pub record OfNumber (p : ℕ) (m : Modulus) : Type 0 where
   pub ring : Ring m
   pub is : m .p ≡ p
-
--- r is x modulo p, below p
-pub record Same (p x r : ℕ) : Type 0 where
-  pub below : r < p
-  pub is : emb p r ≡ emb p x
-
-pub record Words (p r : ℕ) : Type 0 where
-  pub below : r < p
-  pub is : emb p r ≡ emb p word
-
-pub record ToSquare (p q one : ℕ) : Type 0 where
-  pub turns : Turns p q
-  pub words : Words p one
-
-pub record Squared (p r : ℕ) : Type 0 where
-  pub below : r < p + p
-  pub is : emb p r ≡ emb p (word * word)

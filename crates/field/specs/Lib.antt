@@ -2,4 +2,3 @@ pub mod Primes
 pub mod Residues
 pub mod Read
 pub mod Constants
-pub mod Almost

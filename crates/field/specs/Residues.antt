@@ -1,18 +1,15 @@
 -- What a residue stands for, and the ranges it may have. Document 01, "The records": a residue modulo p has a type of its own. A residue holds n
 -- for the element n/R of Z/p, R = 2^64 (Montgomery's form).
-use Prim.Native.Nat.{ℕ, _+_, _*_, _/_, _%_, _≤_, _<_}
+use Prim.Native.Nat.{ℕ, _+_, _*_, _%_, _≤_, _<_}
 use mathlib.Core.Path.{_≡_}
 use mathlib.Core.Logic.{_≢_}
 use Rattle.algebra.proofs.zmod.Prime.{Prime}
 use Rattle.algebra.proofs.zmod.Zmod.{zmod, emb}
 use Rattle.wide.specs.Words.{word}
 use Rattle.wide.specs.Reduced.{Turns}
+use Rattle.montgomery.specs.Back.{back}
 use Rattle.field.specs.declared.Modulus.{Modulus}
 use Rattle.field.specs.declared.Residue.{Residue}
-
--- 1/R in Z/p, where p · q is 1 modulo R: p · q = 1 + c · R, so it is -c
-unfoldable pub back : (p q : ℕ) → zmod p .El
-back p q = zmod p .neg (emb p (p * q / word))
 
 -- the element of Z/p that a residue stands for
 unfoldable pub el : (m : Modulus) → Residue → zmod (m .p) .El

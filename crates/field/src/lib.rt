@@ -10,9 +10,6 @@ ghost use Rattle.field.specs.Constants.{Odd, OfNumber};
 ghost use Rattle.field.specs.Primes.{Decides, OddPrime};
 ghost use Rattle.field.specs.Read.{ModulusIs, ResidueIs};
 
-mod binary;
-mod montgomery;
-
 // A number of its own kind, so that it can't be mixed with a plain count.
 pub struct Residue(u64);
 
@@ -37,39 +34,14 @@ pub enum ResidueRead {
     TooLarge,
 }
 
-// Whether p is an odd prime within the limit, by trial division up to its square root.
-pub fn is_odd_prime(p: u64) -> bool
-    ensures { λ r. ⌜ Decides r (OddPrime p) ⌝ }
-{
-    if p < 3 {
-        return false;
-    }
-    if Modulus::LIMIT < p {
-        return false;
-    }
-    if p % 2 == 0 {
-        return false;
-    }
-    let mut d: u64 = 3;
-    while d * d <= p {
-        if p % d == 0 {
-            return false;
-        }
-        d += 2;
-    }
-    true
-}
-
 impl Modulus {
-    // The largest prime of a record of version 1.
-    pub const LIMIT: u64 = 2147483647;
-    // And of version 2, 2^61 - 1.
+    // The largest p of a record of version 2, 2^61 - 1. (That of version 1 stands with its prime test, in `primes`.)
     pub const LIMIT_WITNESSED: u64 = 2305843009213693951;
 
     pub fn read(p: u64) -> ModulusRead
         ensures { λ r. ⌜ ModulusIs p r ⌝ }
     {
-        if is_odd_prime(p) {
+        if primes::is_odd_prime(p) {
             ModulusRead::Modulo(Modulus::of(p))
         } else {
             ModulusRead::NoPrime
@@ -292,26 +264,14 @@ impl Residue {
         requires { ⌜ Kept m self ⌝ }
         ensures { λ r. ⌜ Stands m r (power (zmod (m .p)) (el m self) n) ⌝ }
     {
-        let mut x = Residue::one(m);
-        let mut y = self;
-        let mut k = n;
-        while 0 < k {
-            if k % 2 == 1 {
-                x = x.mul(y, m);
-                k = k - 1;
-                continue;
-            }
-            y = y.sqr(m);
-            k = k / 2;
-        }
-        x
+        Residue(montgomery::power(self.0, n, m.one, m.p, m.turn))
     }
 
     pub fn inverse(self, m: Modulus) -> Residue
         requires { ⌜ HasInverse m self ⌝ }
         ensures { λ r. ⌜ Inverts m self r ⌝ }
     {
-        let x = binary::almost(self.0, m.p);
-        Residue(binary::finish(x.s, x.k, m))
+        let x = halving::almost(self.0, m.p);
+        Residue(montgomery::finish(x.s, x.k, m.p, m.turn, m.square, m.cube))
     }
 }

@@ -140,7 +140,7 @@ fn try_prime(p: u64) {
 
 fn try_number(n: u64) {
     item(n);
-    if field::is_odd_prime(n) {
+    if primes::is_odd_prime(n) {
         io::write_all(OUT, b"prime\n");
     } else {
         io::write_all(OUT, b"refused\n");

@@ -4,3 +4,4 @@ pub mod Montgomery
 pub mod Newton
 pub mod Trailing
 pub mod Pairs
+pub mod Bounds

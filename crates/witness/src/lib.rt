@@ -22,7 +22,7 @@ pub fn is_small_prime(q: u64) -> bool
     if q == 2 {
         return true;
     }
-    field::is_odd_prime(q)
+    primes::is_odd_prime(q)
 }
 
 // n divided by q as often as it goes.

@@ -4,7 +4,7 @@ use Rattle.witness.proofs.is_small_prime.Statement.{statement}
 use Rattle.witness.proofs.is_small_prime.Tie as tie
 use Rattle.witness.proofs.is_small_prime.Reads as reads
 use Rattle.witness.proofs.is_small_prime.Lts as lts
-use Rattle.field.proofs.is_odd_prime.Reads as is-odd-prime-reads
+use Rattle.primes.proofs.is_odd_prime.Reads as is-odd-prime-reads
 
 -- src/lib.rt:23:9
 returns : tie.Need-returns

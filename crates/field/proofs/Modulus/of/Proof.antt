@@ -1,6 +1,7 @@
 use native.Mathlib.Omega.{arith}
-use Rattle.field.proofs.Bounds.{room}
-use Rattle.field.proofs.Constants.{square-requires, turns-of, modulus-is}
+use Rattle.wide.proofs.Bounds.{room}
+use Rattle.montgomery.proofs.Constants.{square-requires}
+use Rattle.field.proofs.Constants.{turns-of, modulus-is}
 use borrow.Author.Needs.{needs}
 use Rattle.field.proofs.Modulus.of.Statement.{statement}
 use Rattle.field.proofs.Modulus.of.Tie as tie

@@ -2,7 +2,7 @@ use mathlib.Core.Path.{sym, subst}
 use Rattle.algebra.proofs.zmod.Prime.{Prime}
 use Prim.Native.Nat.{ℕ}
 use Rattle.field.proofs.Decide.{decided-yes, decided-no}
-use Rattle.field.proofs.Trial.{odd-of}
+use Rattle.field.proofs.Constants.{odd-of}
 use borrow.Author.Needs.{needs}
 use Rattle.field.proofs.Modulus.read.Statement.{statement}
 use Rattle.field.proofs.Modulus.read.Tie as tie
