@@ -35,9 +35,6 @@ pub enum ResidueRead {
 }
 
 impl Modulus {
-    // The largest p of a record of version 2, 2^61 - 1. (That of version 1 stands with its prime test, in `primes`.)
-    pub const LIMIT_WITNESSED: u64 = 2305843009213693951;
-
     pub fn read(p: u64) -> ModulusRead
         ensures { λ r. ⌜ ModulusIs p r ⌝ }
     {

@@ -4,6 +4,9 @@ ghost use Rattle.primes.specs.Primes.{Decides, OddPrime};
 // The largest prime of a record of version 1.
 pub const LIMIT: u64 = 2147483647;
 
+// And of version 2, which brings a witness for the test: 2^61 - 1.
+pub const LIMIT_WITNESSED: u64 = 2305843009213693951;
+
 // Whether p is an odd prime within the limit, by trial division up to its square root.
 pub fn is_odd_prime(p: u64) -> bool
     ensures { λ r. ⌜ Decides r (OddPrime p) ⌝ }

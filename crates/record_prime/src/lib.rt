@@ -34,7 +34,7 @@ fn is_odd_number(p: u64) -> bool
     if p < 3 {
         return false;
     }
-    if Modulus::LIMIT_WITNESSED < p {
+    if primes::LIMIT_WITNESSED < p {
         return false;
     }
     if p % 2 == 0 {
