@@ -5,8 +5,8 @@ use mathlib.Core.Path.{_≡_}
 use mathlib.Core.List.{List}
 use Rattle.rules.specs.Lists.{Repeat}
 use Rattle.rules.specs.Calls.{Answer as RuleAnswer, Reply}
-use Rattle.call_group.specs.declared.MultipleAnswer.{MultipleAnswer}
-use Rattle.call_group.specs.Multiples.{multipleOf}
+use Rattle.call_factors.specs.declared.MultipleAnswer.{MultipleAnswer}
+use Rattle.call_factors.specs.Multiples.{multipleOf}
 use Rattle.call_total.specs.declared.TotalAnswer.{TotalAnswer}
 use Rattle.call_total.specs.Totals.{totalOf}
 use Rattle.c_answers.specs.declared.YubiAnswer.{YubiAnswer}

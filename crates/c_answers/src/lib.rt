@@ -3,7 +3,7 @@ ghost use mathlib.Core.Path.{_≡_};
 ghost use Rattle.call_one.specs.Answers.{answerOf};
 ghost use Rattle.call_repeat.specs.Repeats.{repeatOf};
 ghost use Rattle.c_answers.specs.Flat.{flat, FlatMultiple, FlatTotal, flat-repeat};
-use call_group::MultipleAnswer;
+use call_factors::MultipleAnswer;
 use call_one::Answer;
 use call_repeat::RepeatAnswer;
 use call_total::TotalAnswer;

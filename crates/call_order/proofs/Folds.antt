@@ -24,12 +24,12 @@ use Rattle.curve.specs.Record.{recordOf}
 use Rattle.witness.specs.Witness.{AllSmall, AllSome, MadeOf}
 use Rattle.witness.proofs.Listed.{none-stop, none-turn, none-end}
 use Rattle.witness.proofs.Accepted.{parts, comes-to}
-use Rattle.multiple.specs.declared.Multiple.{Multiple}
-use Rattle.multiple.specs.Contracts.{Multiplied}
+use Rattle.folds.specs.declared.Multiple.{Multiple}
+use Rattle.folds.specs.Contracts.{Multiplied}
 use Rattle.big_numbers.specs.declared.Divided.{Divided}
 use Rattle.big_numbers.specs.Numbers.{DividedBy}
 use Rattle.big_numbers.proofs.Stripped.{row, row-all, row-next, row-end}
-use Rattle.call_group.proofs.Multiples.{weightless, weighty}
+use Rattle.call_factors.proofs.Multiples.{weightless, weighty}
 use Rattle.call_order.specs.Folds.{fold?, Folded, NoneBelow}
 
 -- ---- one fold

@@ -6,7 +6,7 @@ ghost use Rattle.rules.proofs.calls.Orders.{Tested};
 ghost use Rattle.field.specs.Primes.{Decides};
 ghost use Rattle.divisor.specs.Divisors.{pair};
 ghost use Rattle.curve.specs.Record.{recordOf};
-ghost use Rattle.multiple.specs.Contracts.{ToMultiply};
+ghost use Rattle.folds.specs.Contracts.{ToMultiply};
 ghost use Rattle.call_one.specs.Answers.{answerOf};
 ghost use Rattle.call_order.specs.Folds.{Folding, ToLook, Folded, NoneBelow};
 use big_numbers::SIZE;
@@ -21,7 +21,7 @@ fn is_neutral_fold(c: Curve, a: Divisor, n: [u8; SIZE]) -> bool
     requires { ⌜ Folding c a ⌝ }
     ensures { λ r. ⌜ Folded c a (number n) r ⌝ }
 {
-    let y = call_group::quicker(c, a, &n);
+    let y = call_multiply::quicker(c, a, &n);
     let d = y.divisor;
     let w = d.weight();
     w == 0

@@ -8,10 +8,11 @@ use Rattle.curve.specs.declared.Curve.{Curve}
 use Rattle.curve.specs.Curves.{Gives}
 use Rattle.algebra.proofs.zmod.PrimeField.{modulo}
 use Rattle.rules.specs.Pair.{Pair}
-use Rattle.multiple.specs.declared.Multiple.{Multiple}
-use Rattle.multiple.specs.Contracts.{Multiplied}
+use Rattle.folds.specs.declared.Multiple.{Multiple}
+use Rattle.folds.specs.Contracts.{Multiplied}
 use Rattle.free_multiple.specs.declared.Run.{Run}
-use Rattle.free_multiple.specs.States.{GivesIt, Reaches, GoneOn}
+use Rattle.climb.specs.States.{GivesIt}
+use Rattle.free_multiple.specs.Runs.{Reaches, GoneOn}
 
 -- plain forms of one pair are one value
 one-value : (c : Curve) (d e : Divisor) {x : Pair (modulo (c .m .p))} → Gives c d x → Gives c e x → d ≡ e

@@ -1,4 +1,3 @@
-pub mod Steps
 pub mod Running
 pub mod Engines
-pub mod Climbing
+pub mod Runs

@@ -1,50 +1,24 @@
--- The multiple by the digits passed so far, as the engine keeps it: one digit more (`doubled`, `doubled-and`); what the loop over a scalar's digits keeps, from the highest to the lowest.
+-- The multiple by the digits passed so far, as the engine keeps it: what the loop over a scalar's digits keeps, from the highest to the lowest.
 use Prim.Native.Nat.{ℕ, _-_, _≤_, _<_}
 use mathlib.Core.Path.{_≡_, sym, ap, _∙_, subst}
 use mathlib.Core.List.{List}
 use native.Mathlib.Omega.{arith}
 use lib.ListN.{length, getD}
-use lib.IntN.{ℤ, _+ℤ_}
-use Rattle.algebra.proofs.zmod.PrimeField.{modulo}
-use Rattle.signed.specs.Digits.{Digit, minus, null, plus, value}
-use Rattle.signed.proofs.Signed.{with-digit}
-use Rattle.rules.specs.Curve.{Curve as RuleCurve}
-use Rattle.rules.specs.Pair.{Pair, neutral, opposite}
-use Rattle.rules.specs.Sum.{sum, double}
+use lib.IntN.{ℤ}
 use Rattle.rules.specs.Multiple.{multiple}
-use Rattle.rules.proofs.cantor.Signed.{wholes, digit-more}
+use Rattle.rules.proofs.cantor.Signed.{wholes}
 use Rattle.divisor.specs.declared.Divisor.{Divisor}
 use Rattle.divisor.specs.Divisors.{pair}
 use Rattle.curve.specs.declared.Curve.{Curve}
 use Rattle.curve.specs.Curves.{curveOf, Sound, Holds, Gives}
-use Rattle.curve.proofs.Contains.{accepted}
-use Rattle.multiple.specs.declared.Digits.{Digits}
-use Rattle.multiple.specs.Contracts.{digit, upper, Recoded}
-use Rattle.multiple.proofs.Upper.{upper-more, upper-all, upper-first}
-use Rattle.multiple.proofs.Folds.{itself}
-use Rattle.free_multiple.specs.declared.State.{State}
+use Rattle.recoding.specs.declared.Digits.{Digits}
+use Rattle.recoding.specs.Recoded.{upper, Recoded}
+use Rattle.recoding.proofs.Upper.{upper-more, upper-all, upper-first}
+use Rattle.folds.proofs.Folds.{itself}
+use Rattle.climb.specs.declared.State.{State}
 use Rattle.free_multiple.specs.declared.Run.{Run}
-use Rattle.free_multiple.specs.States.{Means, Some, GivesIt, Doubles, Adds, Opposes, Stepped, Reaches, GoneOn}
-
-module _ (c : Curve) (h : Sound c) (a : Divisor) (ha : Holds c a) where
-  abbrev E : RuleCurve
-  E = curveOf c
-
-  abbrev A : Pair (modulo (c .m .p))
-  A = pair (c .m) a
-
-  more : (s u : State) (d : ℕ) (e : Digit) → digit d ≡ e → ((x : Pair (modulo (c .m .p))) → Means c s x → Means c u (with-digit (sum E) (double E) opposite neutral A e (double E x))) → Stepped c a s d u
-  more s u d e q hu k y = subst (Means c u) (digit-more E (accepted c h) A (ha .valid) e k ∙ ap (λ (i : Digit). wholes E (value i +ℤ (k +ℤ k)) A) (sym q)) (hu (wholes E k A) y)
-
-  pub doubled : (s t : State) → Doubles c s t → (d : ℕ) → digit d ≡ null → Stepped c a s d t
-  doubled s t ht d q = more s t d null q ht
-
-  pub doubled-added : (s t u : State) → Doubles c s t → Adds c t a u → (d : ℕ) → digit d ≡ plus → Stepped c a s d u
-  doubled-added s t u ht hu d q = more s u d plus q (λ x y. hu (double E x) (ht x y))
-
-  -- by the opposite
-  pub doubled-taken : (b : Divisor) → Opposes c a b → (s t u : State) → Doubles c s t → Adds c t b u → (d : ℕ) → digit d ≡ minus → Stepped c a s d u
-  doubled-taken b hb s t u ht hu d q = more s u d minus q (λ x y. subst (λ (z : Pair (modulo (c .m .p))). Means c u (sum E (double E x) z)) (hb .is) (hu (double E x) (ht x y)))
+use Rattle.climb.specs.States.{Means, Some, GivesIt, Stepped}
+use Rattle.free_multiple.specs.Runs.{Reaches, GoneOn}
 
 pub record Running (c : Curve) (a : Divisor) (d : List ℕ) (l : ℕ) (r : State) (k : ℕ) : Type 0 where
   pub place : k < l

@@ -5,21 +5,16 @@ ghost use Prim.Native.Nat.{_<_};
 ghost use Rattle.rules.specs.Bytes.{number};
 ghost use Rattle.divisor.specs.Divisors.{pair};
 ghost use Rattle.curve.specs.Curves.{curveOf, Sound, Holds};
-ghost use Rattle.multiple.specs.Contracts.{ToMultiply, Multiplied};
-ghost use Rattle.free_multiple.specs.States.{Means, Some, GivesIt, ToClimb, Climbed, ToRun, Ran, GoneOn};
+ghost use Rattle.folds.specs.Contracts.{ToMultiply, Multiplied};
+ghost use Rattle.climb.specs.States.{Means, Some, GivesIt};
+ghost use Rattle.free_multiple.specs.Runs.{ToRun, Ran, GoneOn};
+use climb::State;
 use curve::Curve;
 use divisor::Divisor;
 use divisor::Quadratic;
-use field::Residue;
+use folds::Multiple;
 use free::Tuple;
-use multiple::Digits;
-use multiple::Multiple;
-
-// A partial multiple, over a common Z or plain.
-pub enum State {
-    Free(Tuple),
-    Plain(Divisor),
-}
+use recoding::Digits;
 
 // How far a run of digits came: k are left.
 pub struct Run {
@@ -59,35 +54,6 @@ fn keep(c: Curve, d: Divisor) -> State
     }
 }
 
-// A tuple doubled, and q or its opposite p added as the digit says: over a Z of 0 where a pair is special.
-fn climb(
-    c: Curve,
-    f2: Residue,
-    f3: Residue,
-    f4: Residue,
-    q: Quadratic,
-    p: Quadratic,
-    t: Tuple,
-    digit: u8,
-) -> Tuple
-    requires { ⌜ ToClimb c f2 f3 f4 q p t ⌝ }
-    ensures { λ r. ⌜ Climbed c q t digit r ⌝ }
-{
-    let m = c.m;
-    let d = free::double(t, f2, f3, f4, m);
-    let z = d.z;
-    if z.is_zero(m) {
-        return d;
-    }
-    if digit == 0 {
-        return free::mixed(d, p, f4, m);
-    }
-    if digit == 1 {
-        return d;
-    }
-    free::mixed(d, q, f4, m)
-}
-
 // Digits as long as no pair is special: the curve's coefficients are read once.
 fn on_tuples(c: Curve, q: Quadratic, p: Quadratic, at: &[u8], t: Tuple, k: usize) -> Run
     requires { ⌜ ToRun c (Divisor.Two q) (Divisor.Two p) (now at) (State.Free t) k ⌝ }
@@ -100,7 +66,7 @@ fn on_tuples(c: Curve, q: Quadratic, p: Quadratic, at: &[u8], t: Tuple, k: usize
     let mut r = t;
     let mut j = k;
     while 0 < j {
-        let y = climb(c, f2, f3, f4, q, p, r, at[j - 1]);
+        let y = climb::climb(c, f2, f3, f4, q, p, r, at[j - 1]);
         let z = y.z;
         if z.is_zero(m) {
             return Run {

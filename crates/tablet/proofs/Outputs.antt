@@ -2,9 +2,9 @@
 use Prim.Native.Nat.{ℕ}
 use mathlib.Core.Path.{_≡_, refl, sym, ap, ap₂, _∙_}
 use mathlib.Core.List.{List}
-use Rattle.call_group.specs.declared.MultipleAnswer.{MultipleAnswer}
-use Rattle.call_group.specs.declared.MultipleAnswer.the-variants.{Done, Refused}
-use Rattle.call_group.specs.Multiples.{multipleOf, MultipleIs}
+use Rattle.call_factors.specs.declared.MultipleAnswer.{MultipleAnswer}
+use Rattle.call_factors.specs.declared.MultipleAnswer.the-variants.{Done, Refused}
+use Rattle.call_factors.specs.Multiples.{multipleOf, MultipleIs}
 use Rattle.call_total.specs.declared.TotalAnswer.{TotalAnswer}
 use Rattle.call_total.specs.declared.TotalAnswer.the-variants.{Done as DoneTotal, Refused as RefusedTotal}
 use Rattle.call_total.specs.Totals.{totalOf}

@@ -78,7 +78,7 @@ pub extern "C" fn yubi_multiply(
     ensures answer { λ r. ⌜ r ≡ flat-multiple (multiply-call (now (curve .entry)) (now (a .entry)) (now (scalar .entry)) (now (out .entry))) ⌝ }
     ensures output { λ r. ⌜ now (out .exit) ≡ multiply-call (now (curve .entry)) (now (a .entry)) (now (scalar .entry)) (now (out .entry)) .out ⌝ }
 {
-    c_answers::flatten_multiple(call_group::multiply(curve, a, scalar, out))
+    c_answers::flatten_multiple(call_multiply::multiply(curve, a, scalar, out))
 }
 
 // The same words, kept by the second engine.
@@ -92,7 +92,7 @@ pub extern "C" fn yubi_multiply_inversion_free(
     ensures answer { λ r. ⌜ r ≡ flat-multiple (multiply-call (now (curve .entry)) (now (a .entry)) (now (scalar .entry)) (now (out .entry))) ⌝ }
     ensures output { λ r. ⌜ now (out .exit) ≡ multiply-call (now (curve .entry)) (now (a .entry)) (now (scalar .entry)) (now (out .entry)) .out ⌝ }
 {
-    c_answers::flatten_multiple(call_group::multiply_inversion_free(curve, a, scalar, out))
+    c_answers::flatten_multiple(call_multiply::multiply_inversion_free(curve, a, scalar, out))
 }
 
 // W-214: nothing is written.

@@ -1,6 +1,6 @@
 use mathlib.Core.Path.{ap, sym}
-use Rattle.call_group.specs.declared.MultipleAnswer.{MultipleAnswer}
-use Rattle.call_group.specs.Multiples.{multipleOf}
+use Rattle.call_factors.specs.declared.MultipleAnswer.{MultipleAnswer}
+use Rattle.call_factors.specs.Multiples.{multipleOf}
 use Rattle.c_answers.specs.Flat.{flat-multiple}
 use borrow.Author.Needs.{needs}
 use Rattle.c_answers.proofs.flatten_multiple.Statement.{statement}

@@ -1,8 +1,8 @@
 use mathlib.Core.Path.{sym, subst}
 use Rattle.divisor.specs.declared.Divisor.{Divisor}
-use Rattle.free_multiple.specs.States.{Ran}
-use Rattle.free_multiple.proofs.Steps.{known}
-use Rattle.free_multiple.proofs.Climbing.{stays, known-run}
+use Rattle.free_multiple.specs.Runs.{Ran}
+use Rattle.climb.proofs.Steps.{known}
+use Rattle.free_multiple.proofs.Runs.{stays, known-run}
 use borrow.Author.Needs.{needs}
 use Rattle.free_multiple.proofs.ahead.Statement.{statement}
 use Rattle.free_multiple.proofs.ahead.Tie as tie

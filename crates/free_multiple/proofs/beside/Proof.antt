@@ -1,4 +1,4 @@
-use Rattle.free_multiple.proofs.Climbing.{known-beside}
+use Rattle.free_multiple.proofs.Runs.{known-beside}
 use borrow.Author.Needs.{needs}
 use Rattle.free_multiple.proofs.beside.Statement.{statement}
 use Rattle.free_multiple.proofs.beside.Tie as tie

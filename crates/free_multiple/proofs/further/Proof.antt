@@ -1,7 +1,7 @@
 use native.Mathlib.Omega.{arith}
-use Rattle.multiple.specs.Contracts.{upper}
+use Rattle.recoding.specs.Recoded.{upper}
 use Rattle.free_multiple.proofs.Running.{some-at}
-use Rattle.free_multiple.proofs.Climbing.{further-by, further-all}
+use Rattle.free_multiple.proofs.Runs.{further-by, further-all}
 use borrow.Author.Needs.{needs}
 use Rattle.free_multiple.proofs.further.Statement.{statement}
 use Rattle.free_multiple.proofs.further.Tie as tie

@@ -1,7 +1,7 @@
 use mathlib.Core.Path.{subst}
 use Rattle.divisor.specs.declared.Divisor.{Divisor}
 use Rattle.curve.specs.Curves.{Holds}
-use Rattle.free_multiple.proofs.Steps.{kept-free, itself}
+use Rattle.climb.proofs.Steps.{kept-free, itself}
 use borrow.Author.Needs.{needs}
 use Rattle.free_multiple.proofs.keep.Statement.{statement}
 use Rattle.free_multiple.proofs.keep.Tie as tie

@@ -1,8 +1,8 @@
 use native.Mathlib.Omega.{arith}
 use borrow.Author.Needs.{needs}
 use Rattle.rules.specs.Bytes.{number}
-use Rattle.multiple.proofs.Counted.{doublings-are, additions-are, no-nonzeros, some-nonzero}
-use Rattle.multiple.proofs.Multiplying.{nothing}
+use Rattle.folds.proofs.Counted.{doublings-are, additions-are, no-nonzeros, some-nonzero}
+use Rattle.folds.proofs.Multiplying.{nothing}
 use Rattle.free_multiple.proofs.Running.{Running, begin, turn, some-at, end}
 use Rattle.free_multiple.proofs.of.Statement.{statement}
 use Rattle.free_multiple.proofs.of.Tie as tie

@@ -3,7 +3,7 @@ use Rattle.field.proofs.Laws.{settled-kept}
 use native.Mathlib.Omega.{arith}
 use borrow.Author.Needs.{needs}
 use Rattle.field.proofs.Decide.{decided-no}
-use Rattle.free_multiple.proofs.Climbing.{Going, going-on, some-going, gone}
+use Rattle.free_multiple.proofs.Runs.{Going, going-on, some-going, gone}
 use Rattle.free_multiple.proofs.on_tuples.Statement.{statement}
 use Rattle.free_multiple.proofs.on_tuples.Tie as tie
 

@@ -1,4 +1,4 @@
-use Rattle.free_multiple.proofs.Steps.{unit, some-free, plain-of, known}
+use Rattle.climb.proofs.Steps.{unit, some-free, plain-of, known}
 use borrow.Author.Needs.{needs}
 use Rattle.free_multiple.proofs.plain.Statement.{statement}
 use Rattle.free_multiple.proofs.plain.Tie as tie

@@ -1,8 +1,8 @@
 use mathlib.Core.Path.{ap}
 use Rattle.signed.specs.Digits.{minus, null, plus}
-use Rattle.multiple.proofs.Folds.{with-one, taken, itself-given}
-use Rattle.multiple.proofs.Upper.{plus-else}
-use Rattle.multiple.specs.Contracts.{digit}
+use Rattle.folds.proofs.Folds.{with-one, taken, itself-given}
+use Rattle.recoding.proofs.Upper.{plus-else}
+use Rattle.recoding.specs.Recoded.{digit}
 use borrow.Author.Needs.{needs}
 use Rattle.multiple.proofs.step.Statement.{statement}
 use Rattle.multiple.proofs.step.Tie as tie
