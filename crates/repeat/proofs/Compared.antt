@@ -1,14 +1,13 @@
--- Why `same` decides whether two divisors are equal or opposite: three coefficients are compared with three, one by one; a divisor of
--- weight 1 or 2 is compared with zeros behind its coefficients; those of two weights are never the same.
+-- Why `same` decides whether two divisors are equal or opposite: a divisor of weight 1 or 2 is compared with zeros behind its coefficients; those of
+-- two weights are never the same.
 use Prim.Native.Nat.{ℕ}
 use mathlib.Core.Path.{_≡_, refl, sym, ap, ap₂, _∙_, subst}
 use mathlib.Core.List.{List, [], _∷_, _++_}
-use mathlib.Core.Bool.{Bool, true, false}
+use mathlib.Core.Bool.{Bool}
 use mathlib.Core.Logic.{inl, inr}
 use native.Mathlib.Omega.{arith}
 use lib.ListN.{length, take}
 use lib.Seq.{take-at}
-use Rattle.algebra.proofs.ring.CRing.{neg-unique}
 use Rattle.algebra.proofs.ring.Field.{Arith}
 use Rattle.algebra.proofs.zmod.Zmod.{zmod, emb-zero}
 use Rattle.algebra.proofs.zmod.PrimeField.{modulo}
@@ -20,38 +19,18 @@ use Rattle.rules.proofs.calls.Same.{zeros, neg-zeros}
 use Rattle.field.specs.declared.Modulus.{Modulus}
 use Rattle.field.specs.declared.Residue.{Residue}
 use Rattle.field.specs.Primes.{Decides}
-use Rattle.field.specs.Residues.{el, Good, Stands, Settles, Everywhere}
+use Rattle.field.specs.Residues.{el, Good, Settles, Everywhere}
 use Rattle.divisor.specs.declared.Divisor.{Divisor}
 use Rattle.divisor.specs.declared.Divisor.the-variants.{One, Two, Three}
 use Rattle.divisor.specs.declared.Linear.{Linear}
 use Rattle.divisor.specs.declared.Quadratic.{Quadratic}
-use Rattle.divisor.specs.Divisors.{weightOf, us, vs, elements, pair, Held}
+use Rattle.divisor.specs.Divisors.{weightOf, pair, Held}
 use Rattle.divisor.proofs.Laws.{weight-is, weight-is-v}
+use Rattle.alike.proofs.Compared.{decides-as, same-u}
 use Rattle.repeat.specs.Padded.{padded, Pads}
-
--- a test that decides A decides what holds exactly where A does
-pub decides-as : {A B : Type 0} (r : Bool) → (A → B) → (B → A) → Decides r A → Decides r B
-decides-as true to from h = to h
-decides-as false to from h = λ b. h (from b)
-
--- ---- three with three; l is y0, y1, y2
-module _ {A : Type 0} (x0 x1 x2 : A) {y0 y1 y2 : A} {l : List A} (e : l ≡ y0 ∷ y1 ∷ y2 ∷ []) where
-  pub three-last : (r : Bool) → x0 ≡ y0 → x1 ≡ y1 → Decides r (x2 ≡ y2) → Decides r (x0 ∷ x1 ∷ x2 ∷ [] ≡ l)
-  three-last r p q = decides-as r (λ (h : x2 ≡ y2). cc) (λ (h : x0 ∷ x1 ∷ x2 ∷ [] ≡ l). cc)
-
-  pub three-second : (x1 ≡ y1 → ⊥) → x0 ∷ x1 ∷ x2 ∷ [] ≡ l → ⊥
-  three-second n h = n (cc)
-
-  pub three-first : (x0 ≡ y0 → ⊥) → x0 ∷ x1 ∷ x2 ∷ [] ≡ l → ⊥
-  three-first n h = n (cc)
 
 -- ---- pairs with zeros behind
 module _ (K : Arith) where
-  same-u : (a b : Pair K) → Same a b → a .u ≡ b .u
-  unfolding opposite
-  same-u a b (inl e) = ap (λ (x : Pair K). x .u) e
-  same-u a b (inr e) = ap (λ (x : Pair K). x .u) e
-
   back-list : (a b z : List (K .base .El)) → length a ≡ length b → a ++ z ≡ b ++ z → a ≡ b
   back-list a b z l e = sym (take-at a z (length b) l) ∙ ap (take (length b)) e ∙ take-at b z (length b) refl
 
@@ -86,34 +65,6 @@ module _ (K : Arith) where
   same-padding n a b (inr e) = inr (ap (padded K n) e ∙ sym (padded-opposite n b))
 
 module _ (m : Modulus) where
-  pub neg-three : (a b c : zmod (m .p) .El) → negL (zmod (m .p)) (a ∷ b ∷ c ∷ []) ≡ zmod (m .p) .neg a ∷ zmod (m .p) .neg b ∷ zmod (m .p) .neg c ∷ []
-  unfolding negL
-  neg-three a b c = refl
-
-  -- a sum that is 0
-  pub cancels-is : (a b : Residue) {s t : Residue} (r : Bool) → Stands m s (zmod (m .p) .add (el m a) (el m b)) → Settles m t (el m s) → Decides r (el m t ≡ zmod (m .p) .zer) → Decides r (el m a ≡ zmod (m .p) .neg (el m b))
-  cancels-is a b r h k = decides-as r
-      (λ z. neg-unique (zmod (m .p)) (el m b) (el m a) (zmod (m .p) .add-comm (el m b) (el m a) ∙ sym (k .is ∙ h .is) ∙ z))
-      (λ z. k .is ∙ h .is ∙ ap (λ t. zmod (m .p) .add t (el m b)) z ∙ zmod (m .p) .neg-add (el m b))
-
-  -- ---- by u, and then v or -v
-  module _ (d e : Divisor) where
-    pub same-by-v : elements m (us d) ≡ elements m (us e) → elements m (vs d) ≡ elements m (vs e) → Same (pair m d) (pair m e)
-    unfolding pair
-    same-by-v p q = inl (ap₂ (λ u v. record { u = u; v = v }) p q)
-
-    pub same-by-turned : (r : Bool) → elements m (us d) ≡ elements m (us e) → (elements m (vs d) ≡ elements m (vs e) → ⊥) → Decides r (elements m (vs d) ≡ negL (zmod (m .p)) (elements m (vs e))) → Decides r (Same (pair m d) (pair m e))
-    unfolding pair opposite
-    same-by-turned r p n = decides-as r (λ q. inr (ap₂ (λ u v. record { u = u; v = v }) p q)) back
-      where
-        back : Same (pair m d) (pair m e) → elements m (vs d) ≡ negL (zmod (m .p)) (elements m (vs e))
-        back (inl h) = absurd (n (ap (λ (x : Pair (modulo (m .p))). x .v) h))
-        back (inr h) = ap (λ (x : Pair (modulo (m .p))). x .v) h
-
-    pub other-u : (elements m (us d) ≡ elements m (us e) → ⊥) → Same (pair m d) (pair m e) → ⊥
-    unfolding pair
-    other-u n s = n (same-u (modulo (m .p)) (pair m d) (pair m e) s)
-
   -- a and b, whose cases are d and e
   module _ {a b d e : Divisor} (h : Held m a × Held m b) (ia : a ≡ d) (ib : b ≡ e) where
     pub as-cases : (r : Bool) → Decides r (Same (pair m d) (pair m e)) → Decides r (Same (pair m a) (pair m b))

@@ -1,18 +1,14 @@
 -- Divisors of a smaller weight with zeros behind their coefficients, so that all weights are compared as one.
 use Prim.Native.Nat.{ℕ}
 use mathlib.Core.Path.{_≡_}
-use mathlib.Core.List.{List, [], _∷_, _++_}
+use mathlib.Core.List.{_++_}
 use Rattle.algebra.proofs.ring.Field.{Arith}
 use Rattle.algebra.proofs.zmod.PrimeField.{modulo}
 use Rattle.rules.specs.Pair.{Pair}
 use Rattle.rules.proofs.calls.Same.{zeros}
 use Rattle.field.specs.declared.Modulus.{Modulus}
-use Rattle.field.specs.declared.Residue.{Residue}
 use Rattle.divisor.specs.declared.Divisor.{Divisor}
 use Rattle.divisor.specs.Divisors.{pair, Held}
-
-abbrev pub three : Residue → Residue → Residue → List Residue
-three a b c = a ∷ b ∷ c ∷ []
 
 -- n zeros behind the coefficients of u, and behind those of v
 abbrev pub padded : (K : Arith) → ℕ → Pair K → Pair K

@@ -1,14 +1,10 @@
 // The first repeat in a list of divisors, equal or opposite: least j, then least i < j, counted from 0.
-ghost use mathlib.Core.Path.{_≡_};
-ghost use Rattle.algebra.proofs.zmod.Zmod.{zmod};
-ghost use Rattle.algebra.proofs.list.Ops.{negL};
 ghost use Rattle.rules.specs.First.{FirstIs};
 ghost use Rattle.rules.specs.Lists.{Same};
 ghost use Rattle.field.specs.Primes.{Decides};
-ghost use Rattle.field.specs.Residues.{el, Settled};
 ghost use Rattle.divisor.specs.declared.Divisor.the-variants.{One, Two, Three};
-ghost use Rattle.divisor.specs.Divisors.{AllSettled, elements, pair, Held};
-ghost use Rattle.repeat.specs.Padded.{three, Pads};
+ghost use Rattle.divisor.specs.Divisors.{pair, Held};
+ghost use Rattle.repeat.specs.Padded.{Pads};
 ghost use Rattle.repeat.specs.First.{AllHeld, SameIn, placesOf};
 use divisor::Cubic;
 use divisor::Divisor;
@@ -16,56 +12,6 @@ use divisor::Linear;
 use divisor::Quadratic;
 use field::Modulus;
 use field::Residue;
-
-// Whether a is the opposite of b.
-fn cancels(a: Residue, b: Residue, m: Modulus) -> bool
-    requires { ⌜ Settled m a × Settled m b ⌝ }
-    ensures { λ r. ⌜ Decides r (el m a ≡ zmod (m .p) .neg (el m b)) ⌝ }
-{
-    a.add(b, m).settle(m).is_zero(m)
-}
-
-// Whether three residues are equal to three, one by one.
-fn all_equal(
-    a0: Residue,
-    a1: Residue,
-    a2: Residue,
-    b0: Residue,
-    b1: Residue,
-    b2: Residue,
-    m: Modulus,
-) -> bool
-    requires { ⌜ AllSettled m (three a0 a1 a2) × AllSettled m (three b0 b1 b2) ⌝ }
-    ensures { λ r. ⌜ Decides r (elements m (three a0 a1 a2) ≡ elements m (three b0 b1 b2)) ⌝ }
-{
-    if a0.equal(b0, m) {
-        if a1.equal(b1, m) {
-            return a2.equal(b2, m);
-        }
-    }
-    false
-}
-
-// Whether they are the opposites of them.
-fn all_opposite(
-    a0: Residue,
-    a1: Residue,
-    a2: Residue,
-    b0: Residue,
-    b1: Residue,
-    b2: Residue,
-    m: Modulus,
-) -> bool
-    requires { ⌜ AllSettled m (three a0 a1 a2) × AllSettled m (three b0 b1 b2) ⌝ }
-    ensures { λ r. ⌜ Decides r (elements m (three a0 a1 a2) ≡ negL (zmod (m .p)) (elements m (three b0 b1 b2))) ⌝ }
-{
-    if cancels(a0, b0, m) {
-        if cancels(a1, b1, m) {
-            return cancels(a2, b2, m);
-        }
-    }
-    false
-}
 
 // With zeros behind its coefficients, so that all weights are compared as one.
 fn pad_one(d: Linear) -> Cubic
@@ -102,20 +48,6 @@ fn pad_two(d: Quadratic) -> Cubic
     }
 }
 
-// u is compared once, and then v or -v.
-fn same_cubics(a: Cubic, b: Cubic, m: Modulus) -> bool
-    requires { ⌜ Held m (Three a) × Held m (Three b) ⌝ }
-    ensures { λ r. ⌜ Decides r (Same (pair m (Three a)) (pair m (Three b))) ⌝ }
-{
-    if all_equal(a.u0, a.u1, a.u2, b.u0, b.u1, b.u2, m) {
-        if all_equal(a.v0, a.v1, a.v2, b.v0, b.v1, b.v2, m) {
-            return true;
-        }
-        return all_opposite(a.v0, a.v1, a.v2, b.v0, b.v1, b.v2, m);
-    }
-    false
-}
-
 // Two meters are the same when their divisors are equal or opposite.
 fn same(a: Divisor, b: Divisor, m: Modulus) -> bool
     requires { ⌜ Held m a × Held m b ⌝ }
@@ -130,21 +62,21 @@ fn same(a: Divisor, b: Divisor, m: Modulus) -> bool
         },
         Divisor::One(c) => match b {
             Divisor::Neutral => false,
-            Divisor::One(d) => same_cubics(pad_one(c), pad_one(d), m),
+            Divisor::One(d) => alike::same_cubics(pad_one(c), pad_one(d), m),
             Divisor::Two(_) => false,
             Divisor::Three(_) => false,
         },
         Divisor::Two(c) => match b {
             Divisor::Neutral => false,
             Divisor::One(_) => false,
-            Divisor::Two(d) => same_cubics(pad_two(c), pad_two(d), m),
+            Divisor::Two(d) => alike::same_cubics(pad_two(c), pad_two(d), m),
             Divisor::Three(_) => false,
         },
         Divisor::Three(c) => match b {
             Divisor::Neutral => false,
             Divisor::One(_) => false,
             Divisor::Two(_) => false,
-            Divisor::Three(d) => same_cubics(c, d, m),
+            Divisor::Three(d) => alike::same_cubics(c, d, m),
         },
     }
 }

@@ -21,10 +21,11 @@ use Rattle.record_divisor.specs.declared.DivisorRead.the-variants.{Taken as Rea
 use Rattle.curve.specs.Record.{recordOf}
 use Rattle.record_curve.specs.Read.{CurveIs}
 use Rattle.record_divisor.specs.Read.{DivisorIs}
-use Rattle.scans.specs.declared.TakenUp.{TakenUp}
+use Rattle.resume.specs.declared.TakenUp.{TakenUp}
+use Rattle.resume.specs.Resumes.{ResumeIs}
 use Rattle.scans.specs.declared.ScanAnswer.{ScanAnswer}
 use Rattle.scans.specs.declared.ScanAnswer.the-variants.{Done, Refused}
-use Rattle.scans.specs.Scans.{runningOf, scannedOf, ResumeIs}
+use Rattle.scans.specs.Scans.{runningOf, scannedOf}
 
 module _ (c : Curve) (t : Running) (a : List ℕ) where
   abbrev rule : RuleRunning
@@ -44,7 +45,7 @@ module _ (c : Curve) (t : Running) (a : List ℕ) where
   unfolding scan-on
   rule-is e = ap (deliver rule []) e
 
-  module _ (r : TakenUp) (h : ResumeIs c t r) where
+  module _ (r : TakenUp) (h : ResumeIs c (t .divisor) (t .count) r) where
     pub not-resumed : (r .number ≡ 0 → ⊥) → scannedOf t (Refused (r .number) 0) ≡ scan-on (recordOf c) rule a
     not-resumed z = sym (rule-is (on-refused _ rest (h .refuses z)))
 

@@ -3,9 +3,9 @@ use native.Mathlib.Omega.{arith}
 use borrow.Author.Needs.{needs}
 use Rattle.field.proofs.Decide.{decided-yes, decided-no}
 use Rattle.divisor.proofs.Laws.{weight-le}
-use Rattle.scans.proofs.Ranges.{Ranged, range-turn, range-stop, range-end}
-use Rattle.scans.proofs.in_range.Statement.{statement}
-use Rattle.scans.proofs.in_range.Tie as tie
+use Rattle.resume.proofs.Ranges.{Ranged, range-turn, range-stop, range-end}
+use Rattle.resume.proofs.in_range.Statement.{statement}
+use Rattle.resume.proofs.in_range.Tie as tie
 
 abbrev Inv-loop : tie.InvT-loop
 Inv-loop m n r k₀ k = Ranged m n r k

@@ -1,9 +1,9 @@
 use Rattle.field.proofs.Decide.{decided-yes, decided-no}
 use Rattle.divisor.specs.declared.Divisor.the-variants.{Three}
-use Rattle.repeat.proofs.Compared.{same-by-v, same-by-turned, other-u}
+use Rattle.alike.proofs.Compared.{same-by-v, same-by-turned, other-u}
 use borrow.Author.Needs.{needs}
-use Rattle.repeat.proofs.same_cubics.Statement.{statement}
-use Rattle.repeat.proofs.same_cubics.Tie as tie
+use Rattle.alike.proofs.same_cubics.Statement.{statement}
+use Rattle.alike.proofs.same_cubics.Tie as tie
 
 all-equal-requires : tie.Need-all-equal-requires
 all-equal-requires c κs = search needs

@@ -1,10 +1,10 @@
 use mathlib.Core.Path.{refl}
 use Rattle.field.specs.Residues.{el}
 use Rattle.field.proofs.Decide.{decided-yes, decided-no}
-use Rattle.repeat.proofs.Compared.{three-last, three-second, three-first}
+use Rattle.alike.proofs.Compared.{three-last, three-second, three-first}
 use borrow.Author.Needs.{needs}
-use Rattle.repeat.proofs.all_equal.Statement.{statement}
-use Rattle.repeat.proofs.all_equal.Tie as tie
+use Rattle.alike.proofs.all_equal.Statement.{statement}
+use Rattle.alike.proofs.all_equal.Tie as tie
 
 equal-requires : tie.Need-equal-requires
 equal-requires c κs = search needs

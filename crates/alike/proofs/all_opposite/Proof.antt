@@ -1,9 +1,9 @@
 use Rattle.field.specs.Residues.{el}
 use Rattle.field.proofs.Decide.{decided-yes, decided-no}
-use Rattle.repeat.proofs.Compared.{neg-three, three-last, three-second, three-first}
+use Rattle.alike.proofs.Compared.{neg-three, three-last, three-second, three-first}
 use borrow.Author.Needs.{needs}
-use Rattle.repeat.proofs.all_opposite.Statement.{statement}
-use Rattle.repeat.proofs.all_opposite.Tie as tie
+use Rattle.alike.proofs.all_opposite.Statement.{statement}
+use Rattle.alike.proofs.all_opposite.Tie as tie
 
 cancels-requires : tie.Need-cancels-requires
 cancels-requires c κs = search needs

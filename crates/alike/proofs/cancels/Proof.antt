@@ -1,7 +1,7 @@
-use Rattle.repeat.proofs.Compared.{cancels-is}
+use Rattle.alike.proofs.Compared.{cancels-is}
 use borrow.Author.Needs.{needs}
-use Rattle.repeat.proofs.cancels.Statement.{statement}
-use Rattle.repeat.proofs.cancels.Tie as tie
+use Rattle.alike.proofs.cancels.Statement.{statement}
+use Rattle.alike.proofs.cancels.Tie as tie
 
 add-requires : tie.Need-add-requires
 add-requires c κs = search needs
