@@ -25,7 +25,7 @@ want $objdump $binutils
 say "multiplications in the library's products"
 $objdump -d --no-show-raw-insn "$YUBI_LIB_DIR/libtablet.a" | awk '
     function known(name, products, sums) { source[name] = 3 * products + 4 * sums; most[name] = 4 * (products + sums) }
-    BEGIN { known("genus2::rest", 2, 2); known("opens3::times", 1, 6); known("genus3::rest", 1, 4); known("genus3::second", 4, 3) }
+    BEGIN { known("steps2::rest", 2, 2); known("opens3::times", 1, 6); known("genus3::rest", 1, 4); known("genus3::second", 4, 3) }
     /^[0-9a-f]+ <.*>:$/ {
         name = $2
         gsub(/^<|>:$/, "", name)
@@ -43,7 +43,7 @@ $objdump -d --no-show-raw-insn "$YUBI_LIB_DIR/libtablet.a" | awk '
         }
     }
     END {
-        split("genus2::rest opens3::times genus3::rest genus3::second", order)
+        split("steps2::rest opens3::times genus3::rest genus3::second", order)
         for (k = 1; k in order; k++) {
             name = order[k]
             if (!(name in seen)) { continue }

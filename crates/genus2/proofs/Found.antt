@@ -31,11 +31,11 @@ use Rattle.divisor.specs.declared.Linear.{Linear}
 use Rattle.divisor.specs.declared.Divisor.{Divisor}
 use Rattle.divisor.specs.declared.Divisor.the-variants.{One, Two}
 use Rattle.divisor.specs.Divisors.{pair}
-use Rattle.genus2.specs.declared.Duo.{Duo}
-use Rattle.genus2.specs.declared.Bezout.{Bezout}
+use Rattle.steps2.specs.declared.Duo.{Duo}
+use Rattle.steps2.specs.declared.Bezout.{Bezout}
 use Rattle.genus2.specs.declared.Opened.{Opened}
-use Rattle.genus2.specs.declared.Slope.{Slope}
-use Rattle.genus2.specs.Steps.{K, lo, mo, ux, vx, twice, sx, top, Inverted, Apart, Gap, Right, Times, Undoes, Slopes, Quotient, Rest, Line}
+use Rattle.steps2.specs.declared.Slope.{Slope}
+use Rattle.steps2.specs.Steps.{K, lo, mo, ux, vx, twice, sx, top, Inverted, Apart, Gap, Right, Times, Undoes, Slopes, Quotient, Rest, Line}
 use Rattle.genus2.specs.Sums.{curve, Ready, Composing, Opens, OpensTwice, Closes, IsSum, IsDouble}
 
 module _ (m : Modulus) where

@@ -22,7 +22,7 @@ use Rattle.formulas.specs.declared.Sought.{Sought}
 use Rattle.formulas.specs.declared.Sought.the-variants.{Found, Special}
 use Rattle.formulas.proofs.Opened.{Through}
 use Rattle.genus2.specs.declared.Opened.{Opened}
-use Rattle.genus2.specs.Steps.{K, KeptDuo, Apart, lo, ux, vx}
+use Rattle.steps2.specs.Steps.{K, KeptDuo, Apart, lo, ux, vx}
 
 module _ (m : Modulus) where
   open CRing (K m) using (El as A, zer as 𝟘)

@@ -2,8 +2,8 @@ use mathlib.Core.Path.{refl, ap₂, _∙_}
 use Rattle.algebra.proofs.zmod.Zmod.{zmod}
 use Rattle.field.proofs.Laws.{settled-kept}
 use Rattle.formulas.proofs.Genus2.{quotient2-twice}
-use Rattle.genus2.proofs.quotient_twice.Statement.{statement}
-use Rattle.genus2.proofs.quotient_twice.Tie as tie
+use Rattle.steps2.proofs.quotient_twice.Statement.{statement}
+use Rattle.steps2.proofs.quotient_twice.Tie as tie
 
 sqr-requires : tie.Need-sqr-requires
 sqr-requires c κs = c .pre .1 .0 .wi

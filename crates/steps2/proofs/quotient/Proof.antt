@@ -1,9 +1,9 @@
 use mathlib.Core.Path.{refl, ap₂, _∙_}
 use Rattle.algebra.proofs.zmod.Zmod.{zmod}
 use Rattle.field.proofs.Laws.{settled-kept}
-use Rattle.genus2.proofs.Tables.{quotient-is}
-use Rattle.genus2.proofs.quotient.Statement.{statement}
-use Rattle.genus2.proofs.quotient.Tie as tie
+use Rattle.steps2.proofs.Tables.{quotient-is}
+use Rattle.steps2.proofs.quotient.Statement.{statement}
+use Rattle.steps2.proofs.quotient.Tie as tie
 
 sub-requires : tie.Need-sub-requires
 sub-requires c κs = (c .pre .1 .1 .1 .1 .0 .t, c .pre .1 .1 .0 .c1)

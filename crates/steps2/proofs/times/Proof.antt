@@ -1,9 +1,9 @@
 use mathlib.Core.Path.{_∙_}
 use Rattle.algebra.proofs.zmod.Zmod.{zmod}
 use Rattle.field.proofs.Laws.{settled-kept}
-use Rattle.genus2.proofs.Tables.{times-is}
-use Rattle.genus2.proofs.times.Statement.{statement}
-use Rattle.genus2.proofs.times.Tie as tie
+use Rattle.steps2.proofs.Tables.{times-is}
+use Rattle.steps2.proofs.times.Statement.{statement}
+use Rattle.steps2.proofs.times.Tie as tie
 
 mul-requires : tie.Need-mul-requires
 mul-requires c κs = (c .pre .0 .c1, c .pre .1 .0 .i .c1)

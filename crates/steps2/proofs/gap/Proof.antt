@@ -1,8 +1,8 @@
 use Rattle.algebra.proofs.zmod.Zmod.{zmod}
 use Rattle.field.proofs.Laws.{settled-kept}
 use Rattle.formulas.proofs.Genus2.{gap2-is}
-use Rattle.genus2.proofs.gap.Statement.{statement}
-use Rattle.genus2.proofs.gap.Tie as tie
+use Rattle.steps2.proofs.gap.Statement.{statement}
+use Rattle.steps2.proofs.gap.Tie as tie
 
 sub-requires : tie.Need-sub-requires
 sub-requires c κs = (settled-kept (c .args .m) (c .pre .1 .v .0), settled-kept (c .args .m) (c .pre .0 .v .0))

@@ -2,8 +2,8 @@ use mathlib.Core.Path.{refl, ap, ap₂, _∙_}
 use Rattle.algebra.proofs.zmod.Zmod.{zmod}
 use Rattle.field.proofs.Laws.{settled-kept}
 use Rattle.formulas.proofs.Genus2.{invert2-is}
-use Rattle.genus2.proofs.invert.Statement.{statement}
-use Rattle.genus2.proofs.invert.Tie as tie
+use Rattle.steps2.proofs.invert.Statement.{statement}
+use Rattle.steps2.proofs.invert.Tie as tie
 
 sub-requires : tie.Need-sub-requires
 sub-requires c κs = (settled-kept (c .args .m) (c .pre .1 .u .1 .0), settled-kept (c .args .m) (c .pre .0 .u .1 .0))

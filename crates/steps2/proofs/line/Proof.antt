@@ -3,8 +3,8 @@ use mathlib.Core.Path.{refl, ap₂, _∙_}
 use Rattle.algebra.proofs.zmod.Zmod.{zmod}
 use Rattle.field.proofs.Laws.{settled-kept}
 use Rattle.formulas.proofs.Genus2.{line2-tops, line2-rest}
-use Rattle.genus2.proofs.line.Statement.{statement}
-use Rattle.genus2.proofs.line.Tie as tie
+use Rattle.steps2.proofs.line.Statement.{statement}
+use Rattle.steps2.proofs.line.Tie as tie
 
 sub-requires : tie.Need-sub-requires
 sub-requires c κs = (c .pre .1 .1 .1, settled-kept (c .args .m) (c .pre .0 .u .1 .0))

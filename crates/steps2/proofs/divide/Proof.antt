@@ -2,8 +2,8 @@ use mathlib.Core.Path.{refl, ap₂, _∙_}
 use Rattle.algebra.proofs.zmod.Zmod.{zmod}
 use Rattle.algebra.proofs.poly.Term.{constants}
 use Rattle.formulas.proofs.Genus2.{slope2-is, unit2-is}
-use Rattle.genus2.proofs.divide.Statement.{statement}
-use Rattle.genus2.proofs.divide.Tie as tie
+use Rattle.steps2.proofs.divide.Statement.{statement}
+use Rattle.steps2.proofs.divide.Tie as tie
 
 mul-requires : tie.Need-mul-requires
 mul-requires c κs = (c .pre .0, c .pre .1 .1 .kept)

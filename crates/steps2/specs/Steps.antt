@@ -14,9 +14,9 @@ use Rattle.divisor.specs.declared.Quadratic.{Quadratic}
 use Rattle.divisor.specs.declared.Linear.{Linear}
 use Rattle.divisor.specs.declared.Divisor.the-variants.{One, Two}
 use Rattle.divisor.specs.Divisors.{Held}
-use Rattle.genus2.specs.declared.Duo.{Duo}
-use Rattle.genus2.specs.declared.Bezout.{Bezout}
-use Rattle.genus2.specs.declared.Slope.{Slope}
+use Rattle.steps2.specs.declared.Duo.{Duo}
+use Rattle.steps2.specs.declared.Bezout.{Bezout}
+use Rattle.steps2.specs.declared.Slope.{Slope}
 
 module _ (m : Modulus) where
   abbrev pub K : CRing

@@ -2,8 +2,8 @@ use mathlib.Core.Path.{refl, ap₂, _∙_}
 use Rattle.algebra.proofs.zmod.Zmod.{zmod}
 use Rattle.field.proofs.Laws.{settled-kept}
 use Rattle.formulas.proofs.Genus2.{rest2-is}
-use Rattle.genus2.proofs.rest.Statement.{statement}
-use Rattle.genus2.proofs.rest.Tie as tie
+use Rattle.steps2.proofs.rest.Statement.{statement}
+use Rattle.steps2.proofs.rest.Tie as tie
 
 add-requires : tie.Need-add-requires
 add-requires c κs = (settled-kept (c .args .m) (c .pre .0 .u .1 .0), c .pre .1 .0 .t)

@@ -1,9 +1,9 @@
 use mathlib.Core.Path.{refl, ap₂, _∙_}
 use Rattle.algebra.proofs.zmod.Zmod.{zmod}
 use Rattle.field.proofs.Laws.{settled-kept}
-use Rattle.genus2.proofs.Tables.{right-tops}
-use Rattle.genus2.proofs.right.Statement.{statement}
-use Rattle.genus2.proofs.right.Tie as tie
+use Rattle.steps2.proofs.Tables.{right-tops}
+use Rattle.steps2.proofs.right.Statement.{statement}
+use Rattle.steps2.proofs.right.Tie as tie
 
 sub-requires : tie.Need-sub-requires
 sub-requires c κs = (settled-kept (c .args .m) (c .pre .0 .u .1 .0), c .pre .1 .1 .1 .1)

@@ -1,9 +1,9 @@
 use mathlib.Core.Path.{refl, ap, ap₂, _∙_}
 use Rattle.algebra.proofs.zmod.Zmod.{zmod}
 use Rattle.field.proofs.Laws.{settled-kept}
-use Rattle.genus2.proofs.Tables.{tangent-is}
-use Rattle.genus2.proofs.tangent.Statement.{statement}
-use Rattle.genus2.proofs.tangent.Tie as tie
+use Rattle.steps2.proofs.Tables.{tangent-is}
+use Rattle.steps2.proofs.tangent.Statement.{statement}
+use Rattle.steps2.proofs.tangent.Tie as tie
 
 neg-requires : tie.Need-neg-requires
 neg-requires c κs = settled-kept (c .args .m) (c .pre .0 .v .1 .0)
