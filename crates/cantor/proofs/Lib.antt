@@ -1,5 +1,1 @@
-pub mod Cofactors
-pub mod CommonDivisor
-pub mod Slopes
-pub mod Joining
 pub mod Stepping

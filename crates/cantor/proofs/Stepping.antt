@@ -16,10 +16,11 @@ use Rattle.poly.specs.declared.Poly.{Poly}
 use Rattle.poly.specs.Polys.{K, P, pol, Ok, Is}
 use Rattle.poly.specs.Contracts.{IsMonic, MadeMonic, Divided}
 use Rattle.poly.proofs.Lengths.{none-is, degree-of}
-use Rattle.cantor.specs.declared.Mumford.{Mumford}
-use Rattle.cantor.specs.Pairs.{OnCurvePair}
-use Rattle.cantor.specs.Reducing.{Cofactor, ToStep, Stepped, Steps, ToReduce}
-use Rattle.cantor.proofs.Cofactors.{on-modulo}
+use Rattle.composing.specs.declared.Mumford.{Mumford}
+use Rattle.composing.specs.Pairs.{OnCurvePair}
+use Rattle.composing.specs.Cofactors.{Cofactor}
+use Rattle.cantor.specs.Reducing.{ToStep, Stepped, Steps, ToReduce}
+use Rattle.composing.proofs.Cofactors.{on-modulo}
 
 module _ (m : Modulus) where
   open CRing (P m) using (add as _+P_, mul as _*P_, neg as negP, one as 1P)

@@ -6,30 +6,19 @@ use Rattle.algebra.proofs.poly.Term.{C}
 use Rattle.field.specs.declared.Modulus.{Modulus}
 use Rattle.poly.specs.declared.Poly.{Poly}
 use Rattle.poly.specs.Polys.{K, P, pol, Ok}
-use Rattle.cantor.specs.declared.Mumford.{Mumford}
-use Rattle.cantor.specs.Pairs.{OnCurvePair}
-use Rattle.cantor.specs.Composing.{Composed}
+use Rattle.composing.specs.declared.Mumford.{Mumford}
+use Rattle.composing.specs.Pairs.{OnCurvePair}
+use Rattle.composing.specs.Cofactors.{ToCofactor}
+use Rattle.composing.specs.Composing.{Composed}
 
 module _ (m : Modulus) where
   open CRing (P m) using (El as Po, add as _+P_, mul as _*P_, neg as negP)
 
   infixl 65 _+P_
   infixl 70 _*P_
-  pub record ToCofactor (f : Poly) (x : Mumford) : Type 0 where
-    pub ok-f : Ok m f
-    pub fine : OnCurvePair m f x
-    pub n-f : f .n ≤ 8
-    pub n-u : x .u .n ≤ 7
-
-  -- f = v² + u · w
-  pub record Cofactor (f : Poly) (x : Mumford) (w : Poly) : Type 0 where
-    pub ok : Ok m w
-    pub is : pol m f ≡ pol m (x .v) *P pol m (x .v) +P pol m (x .u) *P pol m w
-    pub short : w .n ≤ max (f .n) (x .v .n + x .v .n - 1) + 1 - x .u .n
-
   -- f has degree 2g + 1
   pub record ToStep (f : Poly) (x : Mumford) : Type 0 where
-    pub to : ToCofactor f x
+    pub to : ToCofactor m f x
     pub g : ℕ
     pub odd : f .n ≡ g + g + 2
 
@@ -52,7 +41,7 @@ module _ (m : Modulus) where
     more : {x y z : Mumford} → Steps f x y → Stepped f y z → Steps f x z
 
   pub record ToReduce (f : Poly) (g : ℕ) (x : Mumford) : Type 0 where
-    pub to : ToCofactor f x
+    pub to : ToCofactor m f x
     pub odd : f .n ≡ g + g + 2
 
   pub record Reduced (f : Poly) (g : ℕ) (x r : Mumford) : Type 0 where

@@ -1,76 +1,28 @@
--- What f - v² leaves when it is divided by u. Gives: one coefficient more (`turned`), the first ones (`begun`, `top-one-low` to `top-two-high`), and that all of
--- them are f - v² (`rests-one`, `rests-two`, `rests-three`).
+-- What f - v² leaves when it is divided by u. Gives: the first coefficients (`top-one-low` to `top-two-high`), and that all of them are f - v² (`rests-one`, `rests-two`, `rests-three`).
 use Prim.Native.Nat.{ℕ, _+_, _-_, _≤_}
 use mathlib.Core.Path.{_≡_, refl, sym, ap, ap₂, _∙_, subst}
 use mathlib.Core.List.{List, [], _∷_, _++_}
 use native.Mathlib.Omega.{arith}
-use lib.ListN.{length, take}
-use Rattle.algebra.proofs.ring.CRing.{CRing}
-use Rattle.algebra.proofs.list.Ops.{addL, negL, scaleL, slide, divmod, remainder, whole}
+use lib.ListN.{take}
+use Rattle.algebra.proofs.list.Ops.{whole}
 use Rattle.algebra.proofs.list.Value.{pol}
-use Rattle.algebra.proofs.list.Division.{own-rest}
 use Rattle.rules.specs.Pair.{f-v²}
-use Rattle.field.specs.declared.Modulus.{Modulus}
 use Rattle.field.specs.declared.Residue.{Residue}
-use Rattle.field.specs.Residues.{el, Kept, Stands, Settled, Settles}
+use Rattle.field.specs.Residues.{el, Kept, Settles}
 use Rattle.field.proofs.Laws.{settled-kept}
-use Rattle.divisor.specs.declared.Divisor.{Divisor}
 use Rattle.divisor.specs.declared.Divisor.the-variants.{One, Two, Three}
 use Rattle.divisor.specs.declared.Linear.{Linear}
 use Rattle.divisor.specs.declared.Quadratic.{Quadratic}
 use Rattle.divisor.specs.declared.Cubic.{Cubic}
-use Rattle.divisor.specs.Divisors.{us, elements, pair, AllSettled}
-use Rattle.divisor.proofs.Laws.{length-elements}
+use Rattle.divisor.specs.Divisors.{elements, pair}
+use Rattle.rests.specs.declared.Duo.{Duo}
+use Rattle.rests.specs.declared.Trio.{Trio}
+use Rattle.rests.specs.Turns.{K, two, three, Leaves, Turned}
+use Rattle.rests.proofs.Turned.{Less, Twice, begun, topped}
 use Rattle.curve.specs.declared.Curve.{Curve}
-use Rattle.curve.specs.declared.Duo.{Duo}
-use Rattle.curve.specs.declared.Trio.{Trio}
 use Rattle.curve.specs.Curves.{above, curveOf, Sound}
-use Rattle.curve.specs.Rests.{K, two, three, AllKept, Leaves, Turned, TopOne, TopTwo, Rests}
+use Rattle.curve.specs.Rests.{TopOne, TopTwo, Rests}
 use Rattle.curve.proofs.Squares.{square-one, square-two, square-three}
-
-module _ (m : Modulus) where
-  open CRing (K m) using (El as A, add as _⊕_, mul as _⊗_, neg as opp, one as 𝟙)
-
-  infixl 65 _⊕_
-  infixl 70 _⊗_
-  -- the division's step
-  abbrev step : List A → A → List A → List A
-  step b c r = addL (K m) ((slide (K m) c r) .0) (negL (K m) (scaleL (K m) ((slide (K m) c r) .1) b))
-
-  turned-by : (d : Divisor) (c : Residue) (a r : List Residue) → AllKept m r → elements m r ≡ step (elements m (us d)) (el m c) (elements m a) → Turned m d c a r
-  unfolding remainder divmod
-  turned-by d c a r k e = record { kept = k; leaves = λ l h. record { kept = k; is = e ∙ ap (step (elements m (us d)) (el m c)) (h .is) } }
-
-  abbrev Less : Residue → A → A → A → Type 0
-  Less r c t u = Stands m r (c ⊕ opp (t ⊗ u))
-
-  pub less-stands : (c t u : Residue) {p r : Residue} → Stands m p (el m t ⊗ el m u) → Stands m r (el m c ⊕ opp (el m p)) → Less r (el m c) (el m t) (el m u)
-  less-stands c t u h k = record { kept = k .kept; is = k .is ∙ ap (λ (s : A). el m c ⊕ opp s) (h .is) }
-
-  abbrev Twice : Residue → Residue → Type 0
-  Twice r a = Stands m r (el m a ⊕ el m a)
-
-  pub turned-one : (d : Linear) (c a r : Residue) → Less r (el m c) (el m a) (el m (d .u0)) → Turned m (One d) c (a ∷ []) (r ∷ [])
-  unfolding slide addL negL scaleL
-  turned-one d c a r h = turned-by (One d) c (a ∷ []) (r ∷ []) (h .kept, tt) (ap (λ (s : A). s ∷ []) (h .is))
-
-  pub turned-two : (d : Quadratic) (c : Residue) (a r : Duo) → Less (r .c0) (el m c) (el m (a .c1)) (el m (d .u0)) → Less (r .c1) (el m (a .c0)) (el m (a .c1)) (el m (d .u1)) → Turned m (Two d) c (two a) (two r)
-  unfolding slide addL negL scaleL
-  turned-two d c a r h k = turned-by (Two d) c (two a) (two r) (h .kept, (k .kept, tt)) (ap₂ (λ (s t : A). s ∷ t ∷ []) (h .is) (k .is))
-
-  pub turned-three : (d : Cubic) (c : Residue) (a r : Trio) → Less (r .c0) (el m c) (el m (a .c2)) (el m (d .u0)) → Less (r .c1) (el m (a .c0)) (el m (a .c2)) (el m (d .u1)) → Less (r .c2) (el m (a .c1)) (el m (a .c2)) (el m (d .u2))
-      → Turned m (Three d) c (three a) (three r)
-  unfolding slide addL negL scaleL
-  turned-three d c a r h k j = turned-by (Three d) c (three a) (three r) (h .kept, (k .kept, (j .kept, tt)))
-      (ap₂ (λ (s t : A). s ∷ t ∷ el m (r .c2) ∷ []) (h .is) (k .is) ∙ ap (λ (t : A). (el m c ⊕ opp (el m (a .c2) ⊗ el m (d .u0))) ∷ (el m (a .c0) ⊕ opp (el m (a .c2) ⊗ el m (d .u1))) ∷ t ∷ []) (j .is))
-
-  -- as many coefficients as u has are their own rest
-  begun : (d : Divisor) (l : List Residue) → AllKept m l → length l ≡ length (us d) → Leaves m d (elements m l) l
-  begun d l k e = record { kept = k; is = sym (own-rest (K m) (elements m (us d)) (elements m l) (length-elements m l ∙ e ∙ sym (length-elements m (us d)))) }
-
-  -- the last of them being 1
-  topped : (d : Divisor) (l : List A) {r : List Residue} (o : Residue) → Leaves m d (l ++ (el m o ∷ [])) r → el m o ≡ 𝟙 → Leaves m d (l ++ (𝟙 ∷ [])) r
-  topped d l {r} o h e = subst (λ (t : A). Leaves m d (l ++ (t ∷ [])) r) e h
 
 module _ (c : Curve) (h : Sound c) where
   abbrev A : Type 0

@@ -3,18 +3,19 @@
 ghost use mathlib.Core.Path.{_≡_};
 ghost use mathlib.Core.List.{[], _∷_};
 ghost use Prim.Native.Nat.{_≤_};
-ghost use Rattle.algebra.proofs.zmod.Zmod.{zmod};
 ghost use Rattle.field.specs.Primes.{Decides};
-ghost use Rattle.field.specs.Residues.{el, Kept, Stands};
 ghost use Rattle.divisor.specs.Divisors.{Held, weightOf};
 ghost use Rattle.curve.specs.Curves.{Sound, Divided};
-ghost use Rattle.curve.specs.Rests.{two, three, AllKept, AllZero, Turned, TopOne, TopTwo, Rests};
+ghost use Rattle.rests.specs.Turns.{two, three};
+ghost use Rattle.curve.specs.Rests.{TopOne, TopTwo, Rests};
 use divisor::Cubic;
 use divisor::Divisor;
 use divisor::Linear;
 use divisor::Quadratic;
 use field::Modulus;
 use field::Residue;
+use rests::Duo;
+use rests::Trio;
 
 // f without its leading 1. In genus 2 there is no f5 and no f6: they are zero, and not looked at.
 pub struct Curve {
@@ -29,92 +30,6 @@ pub struct Curve {
     pub f6: Residue,
 }
 
-// What a division leaves: c0 + c1 x, and c0 + c1 x + c2 x².
-pub struct Duo {
-    pub c0: Residue,
-    pub c1: Residue,
-}
-
-pub struct Trio {
-    pub c0: Residue,
-    pub c1: Residue,
-    pub c2: Residue,
-}
-
-// c - t * u.
-fn less(c: Residue, t: Residue, u: Residue, m: Modulus) -> Residue
-    requires { ⌜ Kept m c × (Kept m t × Kept m u) ⌝ }
-    ensures { λ r. ⌜ Stands m r (zmod (m .p) .add (el m c) (zmod (m .p) .neg (zmod (m .p) .mul (el m t) (el m u)))) ⌝ }
-{
-    c.sub(t.mul(u, m), m)
-}
-
-fn is_none(a: Residue, m: Modulus) -> bool
-    requires { ⌜ Kept m a ⌝ }
-    ensures { λ r. ⌜ Decides r (el m a ≡ zmod (m .p) .zer) ⌝ }
-{
-    a.settle(m).is_zero(m)
-}
-
-fn is_none_two(a: Duo, m: Modulus) -> bool
-    requires { ⌜ AllKept m (two a) ⌝ }
-    ensures { λ r. ⌜ Decides r (AllZero m (two a)) ⌝ }
-{
-    if is_none(a.c0, m) {
-        if is_none(a.c1, m) {
-            return true;
-        }
-    }
-    false
-}
-
-fn is_none_three(b: Trio, m: Modulus) -> bool
-    requires { ⌜ AllKept m (three b) ⌝ }
-    ensures { λ r. ⌜ Decides r (AllZero m (three b)) ⌝ }
-{
-    if is_none(b.c0, m) {
-        if is_none(b.c1, m) {
-            if is_none(b.c2, m) {
-                return true;
-            }
-        }
-    }
-    false
-}
-
-// One coefficient more: what a polynomial leaves, times x, and c.
-fn turn_one(a: Residue, c: Residue, d: Linear, m: Modulus) -> Residue
-    requires { ⌜ Kept m c × (Kept m a × Held m (Divisor.One d)) ⌝ }
-    ensures { λ r. ⌜ Turned m (Divisor.One d) c (a ∷ []) (r ∷ []) ⌝ }
-{
-    less(c, a, d.u0, m)
-}
-
-fn turn_two(a: Duo, c: Residue, d: Quadratic, m: Modulus) -> Duo
-    requires { ⌜ Kept m c × (AllKept m (two a) × Held m (Divisor.Two d)) ⌝ }
-    ensures { λ r. ⌜ Turned m (Divisor.Two d) c (two a) (two r) ⌝ }
-{
-    let t = a.c1;
-    let c0 = less(c, t, d.u0, m);
-    let c1 = less(a.c0, t, d.u1, m);
-    Duo { c0: c0, c1: c1 }
-}
-
-fn turn_three(a: Trio, c: Residue, d: Cubic, m: Modulus) -> Trio
-    requires { ⌜ Kept m c × (AllKept m (three a) × Held m (Divisor.Three d)) ⌝ }
-    ensures { λ r. ⌜ Turned m (Divisor.Three d) c (three a) (three r) ⌝ }
-{
-    let t = a.c2;
-    let c0 = less(c, t, d.u0, m);
-    let c1 = less(a.c0, t, d.u1, m);
-    let c2 = less(a.c1, t, d.u2, m);
-    Trio {
-        c0: c0,
-        c1: c1,
-        c2: c2,
-    }
-}
-
 // What the coefficients above f4 leave: 1 alone, or those of genus 3 before it.
 fn top_one(c: Curve, d: Linear) -> Residue
     requires { ⌜ Sound c × Held (c .m) (Divisor.One d) ⌝ }
@@ -126,8 +41,8 @@ fn top_one(c: Curve, d: Linear) -> Residue
     if g == 2 {
         return a;
     }
-    let b = turn_one(a, c.f6, d, m);
-    turn_one(b, c.f5, d, m)
+    let b = rests::turn_one(a, c.f6, d, m);
+    rests::turn_one(b, c.f5, d, m)
 }
 
 // The same from f4 on.
@@ -144,8 +59,8 @@ fn top_two(c: Curve, d: Quadratic) -> Duo
     }
     let f6 = c.f6;
     let a = Duo { c0: f6, c1: o };
-    let b = turn_two(a, c.f5, d, m);
-    turn_two(b, c.f4, d, m)
+    let b = rests::turn_two(a, c.f5, d, m);
+    rests::turn_two(b, c.f4, d, m)
 }
 
 // What f - v * v leaves when it is divided by u, for each weight.
@@ -156,12 +71,12 @@ fn rest_one(c: Curve, d: Linear) -> Residue
     let m = c.m;
     let v0 = d.v0;
     let a = top_one(c, d);
-    let a4 = turn_one(a, c.f4, d, m);
-    let a3 = turn_one(a4, c.f3, d, m);
-    let a2 = turn_one(a3, c.f2, d, m);
-    let a1 = turn_one(a2, c.f1, d, m);
-    let h0 = less(c.f0, v0, v0, m);
-    turn_one(a1, h0, d, m)
+    let a4 = rests::turn_one(a, c.f4, d, m);
+    let a3 = rests::turn_one(a4, c.f3, d, m);
+    let a2 = rests::turn_one(a3, c.f2, d, m);
+    let a1 = rests::turn_one(a2, c.f1, d, m);
+    let h0 = rests::less(c.f0, v0, v0, m);
+    rests::turn_one(a1, h0, d, m)
 }
 
 fn rest_two(c: Curve, d: Quadratic) -> Duo
@@ -172,13 +87,13 @@ fn rest_two(c: Curve, d: Quadratic) -> Duo
     let v0 = d.v0;
     let v1 = d.v1;
     let a = top_two(c, d);
-    let a3 = turn_two(a, c.f3, d, m);
-    let h2 = less(c.f2, v1, v1, m);
-    let a2 = turn_two(a3, h2, d, m);
-    let h1 = less(c.f1, v0.dbl(m), v1, m);
-    let a1 = turn_two(a2, h1, d, m);
-    let h0 = less(c.f0, v0, v0, m);
-    turn_two(a1, h0, d, m)
+    let a3 = rests::turn_two(a, c.f3, d, m);
+    let h2 = rests::less(c.f2, v1, v1, m);
+    let a2 = rests::turn_two(a3, h2, d, m);
+    let h1 = rests::less(c.f1, v0.dbl(m), v1, m);
+    let a1 = rests::turn_two(a2, h1, d, m);
+    let h0 = rests::less(c.f0, v0, v0, m);
+    rests::turn_two(a1, h0, d, m)
 }
 
 fn rest_three(c: Curve, d: Cubic) -> Trio
@@ -199,17 +114,17 @@ fn rest_three(c: Curve, d: Cubic) -> Trio
         c1: f6,
         c2: o,
     };
-    let h4 = less(c.f4, v2, v2, m);
-    let a4 = turn_three(a, h4, d, m);
-    let h3 = less(c.f3, w1, v2, m);
-    let a3 = turn_three(a4, h3, d, m);
-    let k2 = less(c.f2, v1, v1, m);
-    let h2 = less(k2, w0, v2, m);
-    let a2 = turn_three(a3, h2, d, m);
-    let h1 = less(c.f1, w0, v1, m);
-    let a1 = turn_three(a2, h1, d, m);
-    let h0 = less(c.f0, v0, v0, m);
-    turn_three(a1, h0, d, m)
+    let h4 = rests::less(c.f4, v2, v2, m);
+    let a4 = rests::turn_three(a, h4, d, m);
+    let h3 = rests::less(c.f3, w1, v2, m);
+    let a3 = rests::turn_three(a4, h3, d, m);
+    let k2 = rests::less(c.f2, v1, v1, m);
+    let h2 = rests::less(k2, w0, v2, m);
+    let a2 = rests::turn_three(a3, h2, d, m);
+    let h1 = rests::less(c.f1, w0, v1, m);
+    let a1 = rests::turn_three(a2, h1, d, m);
+    let h0 = rests::less(c.f0, v0, v0, m);
+    rests::turn_three(a1, h0, d, m)
 }
 
 impl Curve {
@@ -228,9 +143,9 @@ impl Curve {
         let m = self.m;
         match d {
             Divisor::Neutral => true,
-            Divisor::One(x) => is_none(rest_one(self, x), m),
-            Divisor::Two(x) => is_none_two(rest_two(self, x), m),
-            Divisor::Three(x) => is_none_three(rest_three(self, x), m),
+            Divisor::One(x) => rests::is_none(rest_one(self, x), m),
+            Divisor::Two(x) => rests::is_none_two(rest_two(self, x), m),
+            Divisor::Three(x) => rests::is_none_three(rest_three(self, x), m),
         }
     }
 }

@@ -7,7 +7,7 @@ ghost use Rattle.poly.specs.Polys.{pol, Ok};
 ghost use Rattle.divisor.specs.Divisors.{pair, Held};
 ghost use Rattle.curve.specs.Curves.{curveOf, Sound, Holds, Gives};
 ghost use Rattle.plain.specs.Pairs.{AsPair, ToDivisor, FromPair};
-use cantor::Mumford;
+use composing::Mumford;
 use curve::Curve;
 use divisor::Cubic;
 use divisor::Divisor;

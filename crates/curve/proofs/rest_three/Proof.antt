@@ -5,8 +5,8 @@ use Rattle.curve.proofs.rest_three.Statement.{statement}
 use Rattle.curve.proofs.rest_three.Tie as tie
 use Rattle.curve.proofs.rest_three.Reads as reads
 use Rattle.curve.proofs.rest_three.Lts as lts
-use Rattle.curve.proofs.less.Reads as less-reads
-use Rattle.curve.proofs.turn_three.Reads as turn-three-reads
+use Rattle.rests.proofs.less.Reads as less-reads
+use Rattle.rests.proofs.turn_three.Reads as turn-three-reads
 use Rattle.field.proofs.Residue.dbl.Reads as dbl-reads
 use Rattle.field.proofs.Residue.one.Reads as one-reads
 

@@ -1,0 +1,3 @@
+pub mod Cofactors
+pub mod Slopes
+pub mod Joining
