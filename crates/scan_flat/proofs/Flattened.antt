@@ -9,8 +9,8 @@ use Rattle.divisor.specs.declared.Divisor.the-variants.{Neutral, One, Two, Thre
 use Rattle.divisor.specs.declared.Linear.{Linear}
 use Rattle.divisor.specs.declared.Quadratic.{Quadratic}
 use Rattle.divisor.specs.declared.Cubic.{Cubic}
+use Rattle.resume.specs.Resumes.{totalOf}
 use Rattle.running.specs.declared.Running.{Running}
-use Rattle.scans.specs.Scans.{runningOf}
 use Rattle.scan_flat.specs.declared.YubiRunning.{YubiRunning}
 use Rattle.scan_flat.specs.Flats.{flat-running, Cut}
 
@@ -42,19 +42,19 @@ module _ (t : YubiRunning) where
   cubic-cut d e0 e1 e2 a b c x y z = record { u = (λ i. a i ∷ b i ∷ c i ∷ []) ∙ all-three (t .weight) (t .u0) (t .u1) (t .u2) e0 e1 e2; v = (λ i. x i ∷ y i ∷ z i ∷ []) ∙ all-three (t .weight) (t .v0) (t .v1) (t .v2) e0 e1 e2 }
 
 abbrev flat-of : Divisor → ℕ → YubiRunning
-flat-of d n = flat-running (runningOf (record { divisor = d; count = n }))
+flat-of d n = flat-running (totalOf d n)
 
 module _ (t : Running) where
-  pub flat-neutral : t .divisor ≡ Neutral → flat-of Neutral (t .count) ≡ flat-running (runningOf t)
+  pub flat-neutral : t .divisor ≡ Neutral → flat-of Neutral (t .count) ≡ flat-of (t .divisor) (t .count)
   flat-neutral e = sym (ap (λ d. flat-of d (t .count)) e)
 
-  pub flat-linear : (d : Linear) → t .divisor ≡ One d → (a x : ℕ) → a ≡ raw (d .u0) → x ≡ raw (d .v0) → record { weight = 1; u0 = a; u1 = 0; u2 = 0; v0 = x; v1 = 0; v2 = 0; count = t .count } ≡ flat-running (runningOf t)
+  pub flat-linear : (d : Linear) → t .divisor ≡ One d → (a x : ℕ) → a ≡ raw (d .u0) → x ≡ raw (d .v0) → record { weight = 1; u0 = a; u1 = 0; u2 = 0; v0 = x; v1 = 0; v2 = 0; count = t .count } ≡ flat-of (t .divisor) (t .count)
   flat-linear d e a x p r = (λ i. record { weight = 1; u0 = p i; u1 = 0; u2 = 0; v0 = r i; v1 = 0; v2 = 0; count = t .count }) ∙ sym (ap (λ d. flat-of d (t .count)) e)
 
-  pub flat-quadratic : (d : Quadratic) → t .divisor ≡ Two d → (a b x y : ℕ) → a ≡ raw (d .u0) → b ≡ raw (d .u1) → x ≡ raw (d .v0) → y ≡ raw (d .v1) → record { weight = 2; u0 = a; u1 = b; u2 = 0; v0 = x; v1 = y; v2 = 0; count = t .count } ≡ flat-running (runningOf t)
+  pub flat-quadratic : (d : Quadratic) → t .divisor ≡ Two d → (a b x y : ℕ) → a ≡ raw (d .u0) → b ≡ raw (d .u1) → x ≡ raw (d .v0) → y ≡ raw (d .v1) → record { weight = 2; u0 = a; u1 = b; u2 = 0; v0 = x; v1 = y; v2 = 0; count = t .count } ≡ flat-of (t .divisor) (t .count)
   flat-quadratic d e a b x y p q r s = (λ i. record { weight = 2; u0 = p i; u1 = q i; u2 = 0; v0 = r i; v1 = s i; v2 = 0; count = t .count }) ∙ sym (ap (λ d. flat-of d (t .count)) e)
 
-  pub flat-cubic : (d : Cubic) → t .divisor ≡ Three d → (a b c x y z : ℕ) → a ≡ raw (d .u0) → b ≡ raw (d .u1) → c ≡ raw (d .u2) → x ≡ raw (d .v0) → y ≡ raw (d .v1) → z ≡ raw (d .v2) → record { weight = 3; u0 = a; u1 = b; u2 = c; v0 = x; v1 = y; v2 = z; count = t .count } ≡ flat-running (runningOf t)
+  pub flat-cubic : (d : Cubic) → t .divisor ≡ Three d → (a b c x y z : ℕ) → a ≡ raw (d .u0) → b ≡ raw (d .u1) → c ≡ raw (d .u2) → x ≡ raw (d .v0) → y ≡ raw (d .v1) → z ≡ raw (d .v2) → record { weight = 3; u0 = a; u1 = b; u2 = c; v0 = x; v1 = y; v2 = z; count = t .count } ≡ flat-of (t .divisor) (t .count)
   flat-cubic d e a b c x y z p q o r s l = (λ i. record { weight = 3; u0 = p i; u1 = q i; u2 = o i; v0 = r i; v1 = s i; v2 = l i; count = t .count }) ∙ sym (ap (λ d. flat-of d (t .count)) e)
 
 pub all-same : (a b : YubiRunning) → a .weight ≡ b .weight → a .u0 ≡ b .u0 → a .u1 ≡ b .u1 → a .u2 ≡ b .u2 → a .v0 ≡ b .v0 → a .v1 ≡ b .v1 → a .v2 ≡ b .v2 → a .count ≡ b .count → a ≡ b

@@ -1,16 +1,15 @@
-// The running total as C holds it: a weight, six numbers and a count, any of them anything. A scan into it is the scan by value, once it
-// has the form of a flattened total: weight 0 to 3, and 0 for what is unused.
+// The running total as C holds it: a weight, six numbers and a count, any of them anything. A flattened total has weight 0 to 3, and 0 for
+// what is unused.
 ghost use mathlib.Core.Path.{_≡_};
 ghost use Rattle.field.specs.Primes.{Decides};
-ghost use Rattle.scans.specs.Scans.{runningOf};
-ghost use Rattle.scan_flat.specs.Flats.{flat-running, Cut, FlatScanIs};
+ghost use Rattle.resume.specs.Resumes.{totalOf};
+ghost use Rattle.scan_flat.specs.Flats.{flat-running, Cut};
 use divisor::Cubic;
 use divisor::Divisor;
 use divisor::Linear;
 use divisor::Quadratic;
 use field::Residue;
 use running::Running;
-use scans::ScanAnswer;
 
 #[repr(C)]
 pub struct YubiRunning {
@@ -33,7 +32,7 @@ pub struct YubiScanned {
 }
 
 // The divisor of the coefficients below the weight.
-fn divisor_of(t: YubiRunning) -> Divisor
+pub fn divisor_of(t: YubiRunning) -> Divisor
     ensures { λ r. ⌜ Cut t r ⌝ }
 {
     let w = t.weight;
@@ -69,7 +68,7 @@ fn divisor_of(t: YubiRunning) -> Divisor
 
 // Unused coefficients are 0.
 pub fn flatten_running(t: Running) -> YubiRunning
-    ensures { λ r. ⌜ r ≡ flat-running (runningOf t) ⌝ }
+    ensures { λ r. ⌜ r ≡ flat-running (totalOf (t .divisor) (t .count)) ⌝ }
 {
     let count = t.count;
     let divisor = t.divisor;
@@ -117,7 +116,7 @@ pub fn flatten_running(t: Running) -> YubiRunning
     }
 }
 
-fn same(a: YubiRunning, b: YubiRunning) -> bool
+pub fn same(a: YubiRunning, b: YubiRunning) -> bool
     ensures { λ r. ⌜ Decides r (a ≡ b) ⌝ }
 {
     if a.weight != b.weight {
@@ -145,47 +144,4 @@ fn same(a: YubiRunning, b: YubiRunning) -> bool
         return false;
     }
     true
-}
-
-pub fn scan(t: YubiRunning, curve: &[u8], record: &[u8]) -> YubiScanned
-    ensures { λ r. ⌜ FlatScanIs t (now (curve .entry)) (now («record» .entry)) r ⌝ }
-{
-    let read = record_curve::read_curve(curve);
-    let c = read.curve;
-    let number = read.number;
-    if number != 0 {
-        return YubiScanned {
-            number: number,
-            place: 0,
-            length: 0,
-            total: t,
-        };
-    }
-    let r = Running {
-        divisor: divisor_of(t),
-        count: t.count,
-    };
-    if same(flatten_running(r), t) {
-        match scans::scan_on(c, r, record) {
-            ScanAnswer::Done(x) => YubiScanned {
-                number: 0,
-                place: 0,
-                length: 0,
-                total: flatten_running(x),
-            },
-            ScanAnswer::Refused(n, k) => YubiScanned {
-                number: n,
-                place: k,
-                length: 0,
-                total: t,
-            },
-        }
-    } else {
-        YubiScanned {
-            number: refusals::RUNNING_TOTAL,
-            place: 0,
-            length: 0,
-            total: t,
-        }
-    }
 }

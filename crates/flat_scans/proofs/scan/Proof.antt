@@ -1,8 +1,8 @@
-use Rattle.scan_flat.proofs.Scans.{no-curve, unlike, done, stopped}
+use Rattle.flat_scans.proofs.Scans.{no-curve, unlike, done, stopped}
 use Rattle.field.proofs.Decide.{decided-yes, decided-no}
 use borrow.Author.Needs.{needs}
-use Rattle.scan_flat.proofs.scan.Statement.{statement}
-use Rattle.scan_flat.proofs.scan.Tie as tie
+use Rattle.flat_scans.proofs.scan.Statement.{statement}
+use Rattle.flat_scans.proofs.scan.Tie as tie
 
 read-curve-requires : tie.Need-read-curve-requires
 read-curve-requires c κs = search needs
