@@ -6,7 +6,7 @@ use c_answers::YubiAnswer;
 use c_answers::YubiMultiple;
 use c_answers::YubiRepeat;
 use c_answers::YubiTotal;
-use running::Running;
+use scan_total::Running;
 use scan_flat::YubiRunning;
 use scan_flat::YubiScanned;
 

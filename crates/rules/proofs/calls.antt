@@ -30,6 +30,7 @@ pub mod Sums
 pub mod ListLaws
 pub mod Totals
 pub mod Scans
+pub mod Sequences
 pub mod Rewrites
 -- the place of a refusal
 pub mod CallPlaces

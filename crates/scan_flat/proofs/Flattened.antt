@@ -9,8 +9,8 @@ use Rattle.divisor.specs.declared.Divisor.the-variants.{Neutral, One, Two, Thre
 use Rattle.divisor.specs.declared.Linear.{Linear}
 use Rattle.divisor.specs.declared.Quadratic.{Quadratic}
 use Rattle.divisor.specs.declared.Cubic.{Cubic}
-use Rattle.resume.specs.Resumes.{totalOf}
-use Rattle.running.specs.declared.Running.{Running}
+use Rattle.scan_resume.specs.Resumes.{totalOf}
+use Rattle.scan_total.specs.declared.Running.{Running}
 use Rattle.scan_flat.specs.declared.YubiRunning.{YubiRunning}
 use Rattle.scan_flat.specs.Flats.{flat-running, Cut}
 

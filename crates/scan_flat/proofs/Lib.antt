@@ -1,1 +1,4 @@
 pub mod Flattened
+pub mod OneAnswer
+pub mod FlatScans
+pub mod PoleList

@@ -2,14 +2,14 @@
 // what is unused.
 ghost use mathlib.Core.Path.{_≡_};
 ghost use Rattle.field.specs.Primes.{Decides};
-ghost use Rattle.resume.specs.Resumes.{totalOf};
+ghost use Rattle.scan_resume.specs.Resumes.{totalOf};
 ghost use Rattle.scan_flat.specs.Flats.{flat-running, Cut};
 use divisor::Cubic;
 use divisor::Divisor;
 use divisor::Linear;
 use divisor::Quadratic;
 use field::Residue;
-use running::Running;
+use scan_total::Running;
 
 #[repr(C)]
 pub struct YubiRunning {

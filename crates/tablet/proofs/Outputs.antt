@@ -10,9 +10,9 @@ use Rattle.call_total.specs.declared.TotalAnswer.the-variants.{Done as DoneTota
 use Rattle.call_total.specs.Totals.{totalOf}
 use Rattle.rules.specs.Calls.{Reply, fresh}
 use Rattle.divisor.specs.declared.Divisor.{Divisor}
-use Rattle.running.specs.declared.Running.{Running}
-use Rattle.running.specs.Totals.{Fresh}
-use Rattle.scans.specs.Scans.{runningOf}
+use Rattle.scan_total.specs.declared.Running.{Running}
+use Rattle.scan_total.specs.Totals.{Fresh}
+use Rattle.scan_value.specs.Scans.{runningOf}
 use Rattle.scan_flat.specs.Flats.{flat-running}
 use Rattle.c_answers.specs.declared.YubiMultiple.{YubiMultiple}
 use Rattle.c_answers.specs.Flat.{flat-multiple, FlatMultiple}

@@ -10,7 +10,7 @@ use c_answers::YubiAnswer;
 use c_answers::YubiMultiple;
 use c_answers::YubiRepeat;
 use c_answers::YubiTotal;
-use running::Running;
+use scan_total::Running;
 use scan_flat::YubiRunning;
 use scan_flat::YubiScanned;
 
@@ -134,7 +134,7 @@ pub extern "C" fn yubi_fresh_total() -> YubiRunning
 pub extern "C" fn yubi_scan(total: YubiRunning, curve: &[u8], record: &[u8]) -> YubiScanned
     ensures { λ r. ⌜ FlatScanIs total (now (curve .entry)) (now («record» .entry)) r ⌝ }
 {
-    flat_scans::scan(total, curve, record)
+    scan_flat_value::scan(total, curve, record)
 }
 
 // What a scan left of the total, beside its answer.
@@ -147,7 +147,7 @@ struct LentStep {
 fn lent_by_value(total: YubiRunning, curve: &[u8], record: &[u8]) -> LentStep
     ensures { λ r. ⌜ FlatScanIs total (now (curve .entry)) (now («record» .entry)) (scanned-as (r .answer .number) (r .answer .place) (r .answer .length) (r .total)) ⌝ }
 {
-    let s = flat_scans::scan(total, curve, record);
+    let s = scan_flat_value::scan(total, curve, record);
     let after = s.total;
     LentStep {
         total: after,

@@ -42,11 +42,11 @@ use denote.Triple.Table.{entered, cited}
 use denote.Triple.Walked.{says, Stays, stay-none, stay-none-slice, walkOf, AllGo, goes-none, goes-none-slice, Walks, ends-at, walked, walk-meets}
 use denote.Exit.{yes}
 use Rattle.scan_lent.specs.Lent.{ScanIs}
-use Rattle.running.specs.declared.Running.{Running}
+use Rattle.scan_total.specs.declared.Running.{Running}
 use Rattle.scan_lent.specs.declared.Step.{Step}
 use Rattle.scan_lent.specs.declared.Report.{Report}
-use Rattle.running.proofs.Running as T
-use Rattle.running.proofs.Running.Laws as T′
+use Rattle.scan_total.proofs.Running as T
+use Rattle.scan_total.proofs.Running.Laws as T′
 use Rattle.scan_lent.proofs.Step as S
 use Rattle.scan_lent.proofs.Step.Laws as S′
 use Rattle.scan_lent.proofs.Report as R

@@ -1,0 +1,24 @@
+-- A total of a divisor and a count, as the rule has it, and what it is taken up as.
+use Prim.Native.Nat.{ℕ, _<_}
+use mathlib.Core.Path.{_≡_}
+use mathlib.Core.List.{map}
+use Rattle.rules.specs.Records.{refused, taken}
+use Rattle.rules.specs.Lists.{most-records}
+use Rattle.rules.specs.Calls.{Running as RuleRunning, resume}
+use Rattle.field.specs.Residues.{raw}
+use Rattle.divisor.specs.declared.Divisor.{Divisor}
+use Rattle.divisor.specs.Divisors.{us, vs, pair}
+use Rattle.curve.specs.declared.Curve.{Curve}
+use Rattle.curve.specs.Curves.{Holds}
+use Rattle.curve.specs.Record.{recordOf}
+use Rattle.scan_resume.specs.declared.TakenUp.{TakenUp}
+
+-- its divisor by the numbers it is written as, and its count
+abbrev pub totalOf : Divisor → ℕ → RuleRunning
+totalOf d count = record { u = map raw (us d); v = map raw (vs d); count = count }
+
+pub record ResumeIs (c : Curve) (d : Divisor) (count : ℕ) (r : TakenUp) : Type 0 where
+  pub holds : r .number ≡ 0 → Holds c (r .divisor)
+  pub room : r .number ≡ 0 → count < most-records
+  pub takes : r .number ≡ 0 → resume (recordOf c) (totalOf d count) ≡ taken (pair (c .m) (r .divisor))
+  pub refuses : (r .number ≡ 0 → ⊥) → resume (recordOf c) (totalOf d count) ≡ refused (r .number) 0

@@ -1,0 +1,41 @@
+use Rattle.scan_value.proofs.Scanned.{not-resumed, not-read, to-take, scanned}
+use borrow.Author.Needs.{needs}
+use Rattle.scan_value.proofs.scan_on.Statement.{statement}
+use Rattle.scan_value.proofs.scan_on.Tie as tie
+
+take-up-requires : tie.Need-take-up-requires
+take-up-requires c κs = search needs
+
+returns : tie.Need-returns
+returns c = let s = c .before .before .before .args in not-resumed (s .c) (s .t) (s .«record» .now) _ (c .before .take-up .ensures) (c .if1 .taken)
+
+divisor-at-requires : tie.Need-divisor-at-requires
+divisor-at-requires c κs = search needs
+
+enum-known-d : tie.Need-enum-known-d
+enum-known-d c = search needs
+
+take-requires : tie.Need-take-requires
+take-requires c κs = let s = c .before .before .before .before .before .before .before in to-take (s .args .c) (s .args .t) (s .args .«record» .now) _ (c .before .before .before .before .before .take-up .ensures) (c .before .before .before .before .if1 .left) _ (c .before .before .before .divisor-at .ensures) _ (c .before .d .given .1) (s .pre)
+
+enum-known-n : tie.Need-enum-known-n
+enum-known-n c = search needs
+
+returns-2 : tie.Need-returns-2
+returns-2 c = let s = c .before .before .before .before .before .before .before .before .args in scanned (s .c) (s .t) (s .«record» .now) _ (c .before .before .before .before .before .before .take-up .ensures) (c .before .before .before .before .before .if1 .left) _ (c .before .before .before .before .divisor-at .ensures) _ (c .before .before .d .given .1) (c .take .result) (c .take .ensures)
+
+returns-3 : tie.Need-returns-3
+returns-3 c = let s = c .before .before .before .before .before .before .before .args in not-read (s .c) (s .t) (s .«record» .now) _ (c .before .before .before .before .before .take-up .ensures) (c .before .before .before .before .if1 .left) _ (c .before .before .before .divisor-at .ensures) _ (c .before .n .given .1)
+
+pub scan-on-spec : {M : Type 1} → statement M
+scan-on-spec =
+    tie.close
+    (tie.spec
+    take-up-requires
+    returns
+    divisor-at-requires
+    enum-known-d
+    take-requires
+    enum-known-n
+    returns-2
+    returns-3)
