@@ -1,3 +1,1 @@
-pub mod Meters
-pub mod Shown
 pub mod Tallies

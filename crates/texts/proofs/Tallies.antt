@@ -31,7 +31,7 @@ use Rattle.texts.specs.declared.FileRead.{FileRead}
 use Rattle.texts.specs.declared.FileRead.the-variants.{Holds, Unreadable}
 use Rattle.lines.specs.declared.Places.{Places}
 use Rattle.lines.specs.Lines.{count-line, repeat-line, total-line, refused-line}
-use Rattle.texts.specs.Text.{holds, with-file, text-of}
+use Rattle.text_rule.specs.Text.{holds, with-file, text-of}
 use Rattle.digits.specs.Put.{PutAt, Room}
 use Rattle.lines.specs.Printed.{Printed, placesOf}
 use Rattle.texts.specs.Read.{fileOf}

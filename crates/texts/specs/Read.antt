@@ -2,7 +2,7 @@
 use Prim.Native.Nat.{ℕ}
 use mathlib.Core.List.{List}
 use lib.ListN.{take}
-use Rattle.texts.specs.Text.{File, unreadable, holds}
+use Rattle.text_rule.specs.Text.{File, unreadable, holds}
 use Rattle.texts.specs.declared.FileRead.{FileRead}
 use Rattle.texts.specs.declared.FileRead.the-variants.{Holds, Unreadable}
 

@@ -3,7 +3,7 @@ ghost use mathlib.Core.Path.{_≡_};
 ghost use lib.ListN.{take};
 ghost use Rattle.call_repeat.specs.Repeats.{repeatOf};
 ghost use Rattle.lines.specs.Printed.{Printed, placesOf};
-ghost use Rattle.texts.specs.Text.{text, with-file, text-of};
+ghost use Rattle.text_rule.specs.Text.{text, with-file, text-of};
 ghost use Rattle.texts.specs.Read.{fileOf};
 use call_repeat::RepeatAnswer;
 use call_total::TotalRead;

@@ -1,4 +1,4 @@
-use Rattle.texts.specs.Text.{text-of}
+use Rattle.text_rule.specs.Text.{text-of}
 use Rattle.lines.proofs.Printing.{printed-as}
 use Rattle.texts.proofs.Tallies.{no-file, long-file, whole-file}
 use borrow.Author.Needs.{needs}

@@ -1,4 +1,4 @@
-use Rattle.texts.specs.Text.{text, text-of, with-file}
+use Rattle.text_rule.specs.Text.{text, text-of, with-file}
 use Rattle.texts.specs.Read.{fileOf}
 use Rattle.lines.proofs.Printing.{printed-as}
 use Rattle.texts.proofs.Tallies.{no-file, long-file, whole-file}

@@ -13,7 +13,7 @@ use Rattle.rules.specs.Records.{read-curve, numbers}
 use Rattle.rules.specs.Lists.{batch-from, same?, repeat-from}
 use Rattle.rules.specs.Calls.{repeat-call}
 use Rattle.digits.specs.Digits.{letters}
-use Rattle.texts.specs.Text.{File, unreadable, holds, text}
+use Rattle.text_rule.specs.Text.{File, unreadable, holds, text}
 
 pub record Row : Type 0 where
   pub curve : File
