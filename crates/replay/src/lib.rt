@@ -6,9 +6,9 @@ use c_answers::YubiAnswer;
 use c_answers::YubiMultiple;
 use c_answers::YubiRepeat;
 use c_answers::YubiTotal;
-use scan_total::Running;
 use scan_flat::YubiRunning;
 use scan_flat::YubiScanned;
+use scan_total::Running;
 
 fn checked(text: &mut [u8], a: YubiAnswer) -> usize {
     let values = [a.number, a.place, a.length];

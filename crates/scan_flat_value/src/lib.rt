@@ -1,8 +1,8 @@
 // A scan into the running total as C holds it: the scan by value, once the total has the form of a flattened one.
 ghost use Rattle.scan_flat.specs.Flats.{FlatScanIs};
-use scan_total::Running;
 use scan_flat::YubiRunning;
 use scan_flat::YubiScanned;
+use scan_total::Running;
 use scan_value::ScanAnswer;
 
 pub fn scan(t: YubiRunning, curve: &[u8], record: &[u8]) -> YubiScanned

@@ -10,9 +10,9 @@ use c_answers::YubiAnswer;
 use c_answers::YubiMultiple;
 use c_answers::YubiRepeat;
 use c_answers::YubiTotal;
-use scan_total::Running;
 use scan_flat::YubiRunning;
 use scan_flat::YubiScanned;
+use scan_total::Running;
 
 #[no_mangle]
 pub extern "C" fn yubi_check_curve(curve: &[u8]) -> YubiAnswer

@@ -2,6 +2,7 @@
 ghost use mathlib.Core.Path.{_≡_};
 ghost use lib.ListN.{take};
 ghost use Rattle.call_repeat.specs.Repeats.{repeatOf};
+ghost use Rattle.lines.specs.Lines.{refused-line};
 ghost use Rattle.lines.specs.Printed.{Printed, placesOf};
 ghost use Rattle.text_rule.specs.Text.{text, with-file, text-of};
 ghost use Rattle.texts.specs.Read.{fileOf};
@@ -66,12 +67,19 @@ pub fn tally(curve: &[u8], batch: &[u8], out: &mut [u8; 256]) -> usize
     }
 }
 
+// The line of a file that can't be opened or read.
+fn unreadable(out: &mut [u8; 256]) -> usize
+    ensures { λ r. ⌜ Printed (now (out .entry)) (refused-line 17 0) (now (out .exit)) r ⌝ }
+{
+    lines::refusal(refusals::UNREADABLE, 0, out)
+}
+
 // The same from the bytes of a curve and what was read of the file of the batch, whose bytes stand at the front of `batch`.
 fn tally_batch(curve: &[u8], b: FileRead, batch: &[u8], out: &mut [u8; 256]) -> usize
     ensures { λ r. ⌜ Printed (now (out .entry)) (with-file (fileOf b (now (batch .entry))) (λ t. text-of (now (curve .entry)) t)) (now (out .exit)) r ⌝ }
 {
     match b {
-        FileRead::Unreadable => lines::refusal(refusals::UNREADABLE, 0, out),
+        FileRead::Unreadable => unreadable(out),
         FileRead::Holds(n) => {
             let s = front(batch, n);
             if refusals::MOST_BYTES < s.len() {
@@ -93,7 +101,7 @@ pub fn tally_files(
     ensures { λ r. ⌜ Printed (now (out .entry)) (text (fileOf c (now (curve .entry))) (fileOf b (now (batch .entry)))) (now (out .exit)) r ⌝ }
 {
     match c {
-        FileRead::Unreadable => lines::refusal(refusals::UNREADABLE, 0, out),
+        FileRead::Unreadable => unreadable(out),
         FileRead::Holds(n) => {
             let s = front(curve, n);
             if refusals::MOST_BYTES < s.len() {

@@ -8,8 +8,8 @@ use Rattle.texts.proofs.tally_batch.Tie as tie
 enum-told : tie.Need-enum-told
 enum-told c = search needs
 
-refusal-requires : tie.Need-refusal-requires
-refusal-requires c κs = search needs
+unreadable-requires : tie.Need-unreadable-requires
+unreadable-requires c κs = search needs
 
 enum-known-b : tie.Need-enum-known-b
 enum-known-b c = search needs
@@ -17,17 +17,17 @@ enum-known-b c = search needs
 front-requires : tie.Need-front-requires
 front-requires c κs = search needs
 
-refusal-requires-2 : tie.Need-refusal-requires-2
-refusal-requires-2 c κs = search needs
+refusal-requires : tie.Need-refusal-requires
+refusal-requires c κs = search needs
 
 returns : tie.Need-returns
-returns c = let s = c .before .before .before .before .before .before .before .before .before .args in printed-as (long-file (s .b) (s .batch .now) (λ t. text-of (s .curve .now) t) (c .before .before .before .before .before .b .given .1) (c .before .before .before .front .ensures) (c .before .before .if1 .taken)) (c .refusal2 .ensures)
+returns c = let s = c .before .before .before .before .before .before .before .before .before .args in printed-as (long-file (s .b) (s .batch .now) (λ t. text-of (s .curve .now) t) (c .before .before .before .before .before .b .given .1) (c .before .before .before .front .ensures) (c .before .before .if1 .taken)) (c .refusal .ensures)
 
 tally-requires : tie.Need-tally-requires
 tally-requires c κs = search needs
 
 returns-2 : tie.Need-returns-2
-returns-2 c = let s = c .before .before .before .before .before .before .args in printed-as (no-file (s .b) (s .batch .now) (λ t. text-of (s .curve .now) t) (c .before .before .enum-told .given .1)) (c .refusal .ensures)
+returns-2 c = let s = c .before .before .before .before .before .before .args in printed-as (no-file (s .b) (s .batch .now) (λ t. text-of (s .curve .now) t) (c .before .before .enum-told .given .1)) (c .unreadable .ensures)
 
 returns-3 : tie.Need-returns-3
 returns-3 c = let s = c .before .before .before .before .before .before .before .before .before .args in printed-as (whole-file (s .b) (s .batch .now) (λ t. text-of (s .curve .now) t) (c .before .before .before .before .before .b .given .1) (c .before .before .before .front .ensures) (c .before .before .if1 .left)) (c .tally .ensures)
@@ -37,10 +37,10 @@ tally-batch-spec =
     tie.close
     (tie.spec
     enum-told
-    refusal-requires
+    unreadable-requires
     enum-known-b
     front-requires
-    refusal-requires-2
+    refusal-requires
     returns
     tally-requires
     returns-2
