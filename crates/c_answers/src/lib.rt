@@ -1,12 +1,8 @@
-// The answers as C has them, a repr(C) struct for each kind of call, and each call's enum flattened to it.
+// The answers as C has them, a repr(C) struct for each kind of call, and the calls' one enum flattened to each.
 ghost use mathlib.Core.Path.{_≡_};
-ghost use Rattle.call_one.specs.Answers.{answerOf};
-ghost use Rattle.call_repeat.specs.Repeats.{repeatOf};
-ghost use Rattle.c_answers.specs.Flat.{flat, FlatMultiple, FlatTotal, flat-repeat};
-use call_factors::MultipleAnswer;
+ghost use Rattle.call_one.specs.Answers.{valuesOf};
+ghost use Rattle.c_answers.specs.Flat.{as-answer, as-multiple, as-total, as-repeat};
 use call_one::Answer;
-use call_repeat::RepeatAnswer;
-use call_total::TotalAnswer;
 
 #[repr(C)]
 pub struct YubiAnswer {
@@ -42,10 +38,10 @@ pub struct YubiRepeat {
 }
 
 pub fn flatten(a: Answer) -> YubiAnswer
-    ensures { λ r. ⌜ r ≡ flat (answerOf a) ⌝ }
+    ensures { λ r. ⌜ r ≡ as-answer (valuesOf a) ⌝ }
 {
     match a {
-        Answer::Done(n) => YubiAnswer {
+        Answer::Done(n, _, _) => YubiAnswer {
             number: 0,
             place: 0,
             length: n,
@@ -58,18 +54,18 @@ pub fn flatten(a: Answer) -> YubiAnswer
     }
 }
 
-pub fn flatten_multiple(a: MultipleAnswer) -> YubiMultiple
-    ensures { λ r. ⌜ FlatMultiple a r ⌝ }
+pub fn flatten_multiple(a: Answer) -> YubiMultiple
+    ensures { λ r. ⌜ r ≡ as-multiple (valuesOf a) ⌝ }
 {
     match a {
-        MultipleAnswer::Done(n, d, s) => YubiMultiple {
+        Answer::Done(n, d, s) => YubiMultiple {
             number: 0,
             place: 0,
             length: n,
             doublings: d,
             additions: s,
         },
-        MultipleAnswer::Refused(n, k) => YubiMultiple {
+        Answer::Refused(n, k) => YubiMultiple {
             number: n,
             place: k,
             length: 0,
@@ -79,17 +75,17 @@ pub fn flatten_multiple(a: MultipleAnswer) -> YubiMultiple
     }
 }
 
-pub fn flatten_total(a: TotalAnswer) -> YubiTotal
-    ensures { λ r. ⌜ FlatTotal a r ⌝ }
+pub fn flatten_total(a: Answer) -> YubiTotal
+    ensures { λ r. ⌜ r ≡ as-total (valuesOf a) ⌝ }
 {
     match a {
-        TotalAnswer::Done(n, k) => YubiTotal {
+        Answer::Done(n, k, _) => YubiTotal {
             number: 0,
             place: 0,
             length: n,
             count: k,
         },
-        TotalAnswer::Refused(n, k) => YubiTotal {
+        Answer::Refused(n, k) => YubiTotal {
             number: n,
             place: k,
             length: 0,
@@ -98,25 +94,18 @@ pub fn flatten_total(a: TotalAnswer) -> YubiTotal
     }
 }
 
-pub fn flatten_repeat(a: RepeatAnswer) -> YubiRepeat
-    ensures { λ r. ⌜ r ≡ flat-repeat (repeatOf a) ⌝ }
+pub fn flatten_repeat(a: Answer) -> YubiRepeat
+    ensures { λ r. ⌜ r ≡ as-repeat (valuesOf a) ⌝ }
 {
     match a {
-        RepeatAnswer::Pair(i, j) => YubiRepeat {
+        Answer::Done(n, i, j) => YubiRepeat {
             number: 0,
             place: 0,
-            length: 0,
+            length: n,
             first: i,
             second: j,
         },
-        RepeatAnswer::Nothing => YubiRepeat {
-            number: 0,
-            place: 0,
-            length: 0,
-            first: 0,
-            second: 0,
-        },
-        RepeatAnswer::Refused(n, k) => YubiRepeat {
+        Answer::Refused(n, k) => YubiRepeat {
             number: n,
             place: k,
             length: 0,

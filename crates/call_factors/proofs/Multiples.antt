@@ -22,12 +22,12 @@ use Rattle.divisor.proofs.Laws.{weight-is}
 use Rattle.curve.specs.Record.{recordOf}
 use Rattle.folds.specs.declared.Multiple.{Multiple}
 use Rattle.folds.specs.Contracts.{Multiplied as IsMultiple}
+use Rattle.call_one.specs.declared.Answer.{Answer}
+use Rattle.call_one.specs.declared.Answer.the-variants.{Done, Refused}
 use Rattle.call_one.specs.declared.CurveAndDivisor.{CurveAndDivisor}
 use Rattle.call_one.specs.Answers.{FirstRead, OneIs, PutIs}
 use Rattle.call_one.proofs.Firsts.{one-stops, one-goes}
-use Rattle.call_one.proofs.Written.{deliver-none, deliver-all}
-use Rattle.call_factors.specs.declared.MultipleAnswer.{MultipleAnswer}
-use Rattle.call_factors.specs.declared.MultipleAnswer.the-variants.{Done, Refused}
+use Rattle.call_one.proofs.Written.{goes-on, stopped-as, wrote-none as put-none, wrote-all as put-all}
 use Rattle.call_factors.specs.Multiples.{MultipleIs, FactorsIs, countsOf, WroteMultiple}
 
 -- ---- a divisor's weight
@@ -105,24 +105,23 @@ module _ (y : Multiple) (m : Modulus) (out : List ℕ) where
 
   pub wrote-empty : weightOf (y .divisor) ≡ 0 → WroteMultiple y m out (Refused 19 0) out
   unfolding made
-  wrote-empty w = sym (tested false (weightless m (y .divisor) w))
+  wrote-empty w = stopped-as no-counts refl refl (tested false (weightless m (y .divisor) w))
 
   module _ (w : weightOf (y .divisor) ≡ 0 → ⊥) {o : List ℕ} {n : ℕ} (h : PutIs out bytes o n) where
     pub wrote-none : n ≡ 0 → WroteMultiple y m out (Refused 13 0) o
     unfolding made
-    wrote-none e = ap (λ (l : List ℕ). stop no-counts l 13 0) (h .kept e) ∙ sym (tested true (weighty m (y .divisor) w) ∙ deliver-none out bytes h no-counts (countsOf y) e)
+    wrote-none e = goes-on (tested true (weighty m (y .divisor) w)) (put-none out bytes h no-counts (countsOf y) refl e)
 
     pub wrote-all : (n ≡ 0 → ⊥) → WroteMultiple y m out (Done n (y .doublings) (y .additions)) o
     unfolding made
-    wrote-all e = sym (tested true (weighty m (y .divisor) w) ∙ deliver-all out bytes h no-counts (countsOf y) e)
+    wrote-all e = goes-on (tested true (weighty m (y .divisor) w)) (put-all out bytes h no-counts (countsOf y) (λ x. x) e)
 
 -- ---- the whole call: whatever engine makes the multiple, the answer is the rule's
 module _ (s a scalar : List ℕ) (x : CurveAndDivisor) (h : FactorsIs s a scalar x) (out : List ℕ) where
   pub multiply-refused : (x .number ≡ 0 → ⊥) → MultipleIs (Refused (x .number) (x .place)) out (multiply-call s a scalar out)
-  multiply-refused n = sym (h .stops n out)
+  multiply-refused n = stopped-as no-counts refl refl (h .stops n out)
 
   pub multiply-done : x .number ≡ 0 → (y : Multiple) → IsMultiple (x .curve) (x .divisor) (number scalar) y
-      → (r : MultipleAnswer) (o : List ℕ) → WroteMultiple y (x .curve .m) out r o → MultipleIs r o (multiply-call s a scalar out)
-  multiply-done z y g r o w = w ∙ (λ i. deliver no-counts out (choose (weighs? (g .gives .is i))
-      (taken (record { bytes = divisor-bytes (x .curve .m .p) (g .gives .is i); own = ((g .doublings-is) i, (g .additions-is) i) })) (refused 19 0)))
-      ∙ sym (h .goes z out)
+      → (r : Answer) (o : List ℕ) → WroteMultiple y (x .curve .m) out r o → MultipleIs r o (multiply-call s a scalar out)
+  multiply-done z y g r o w = goes-on (h .goes z out ∙ sym (λ i. deliver no-counts out (choose (weighs? (g .gives .is i))
+      (taken (record { bytes = divisor-bytes (x .curve .m .p) (g .gives .is i); own = ((g .doublings-is) i, (g .additions-is) i) })) (refused 19 0)))) w

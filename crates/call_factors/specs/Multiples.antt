@@ -1,5 +1,4 @@
--- Document 01, "Language form": the number and values that the paper gives for each case of a multiple's answer, the two counts among them.
--- And what every multiplication reads before its engine, and writes after it.
+-- What every multiplication reads before its engine, and writes and answers after it: its own two numbers are the counts, doublings and additions.
 use Prim.Native.Nat.{ℕ}
 use mathlib.Core.Path.{_≡_}
 use mathlib.Core.List.{List, [], _∷_}
@@ -7,23 +6,19 @@ use Rattle.rules.specs.Bytes.{number}
 use Rattle.rules.specs.Records.{divisor-bytes}
 use Rattle.rules.specs.Tests.{weighs?}
 use Rattle.rules.specs.Checks.{first-failed}
-use Rattle.rules.specs.Calls.{Reply, refusal, done, stop, deliver, multiply-call}
+use Rattle.rules.specs.Calls.{Reply, stop, deliver, multiply-call}
 use Rattle.rules.proofs.calls.Taken.{no-counts, keyed}
 use Rattle.field.specs.declared.Modulus.{Modulus}
 use Rattle.divisor.specs.Divisors.{pair}
 use Rattle.curve.specs.Record.{recordOf}
 use Rattle.folds.specs.declared.Multiple.{Multiple}
 use Rattle.folds.specs.Contracts.{ToMultiply}
+use Rattle.call_one.specs.declared.Answer.{Answer}
 use Rattle.call_one.specs.declared.CurveAndDivisor.{CurveAndDivisor}
-use Rattle.call_factors.specs.declared.MultipleAnswer.{MultipleAnswer}
-use Rattle.call_factors.specs.declared.MultipleAnswer.the-variants.{Done, Refused}
+use Rattle.call_one.specs.Answers.{AnswerIs}
 
-abbrev pub multipleOf : MultipleAnswer → List ℕ → Reply (ℕ × ℕ)
-multipleOf (Done n d a) out = record { answer = done n; out = out; own = (d, a) }
-multipleOf (Refused n k) out = record { answer = refusal n k; out = out; own = (0, 0) }
-
-abbrev pub MultipleIs : MultipleAnswer → List ℕ → Reply (ℕ × ℕ) → Type 0
-MultipleIs r out rule = multipleOf r out ≡ rule
+abbrev pub MultipleIs : Answer → List ℕ → Reply (ℕ × ℕ) → Type 0
+MultipleIs r out rule = AnswerIs (λ (x : ℕ × ℕ). x) r out rule
 
 -- ---- a curve, a divisor and a scalar: the call's rule stops at them, or goes on to their multiple
 pub record FactorsIs (s a scalar : List ℕ) (r : CurveAndDivisor) : Type 0 where
@@ -35,6 +30,6 @@ pub record FactorsIs (s a scalar : List ℕ) (r : CurveAndDivisor) : Type 0 wher
 abbrev pub countsOf : Multiple → ℕ × ℕ
 countsOf y = (y .doublings, y .additions)
 
-abbrev pub WroteMultiple : Multiple → Modulus → List ℕ → MultipleAnswer → List ℕ → Type 0
+abbrev pub WroteMultiple : Multiple → Modulus → List ℕ → Answer → List ℕ → Type 0
 WroteMultiple y m out r o = MultipleIs r o (deliver no-counts out (
     first-failed ((weighs? (pair m (y .divisor)), 19, 0) ∷ []) (record { bytes = divisor-bytes (m .p) (pair m (y .divisor)); own = countsOf y })))

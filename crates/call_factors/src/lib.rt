@@ -1,16 +1,11 @@
 // What every multiplication reads, checks, writes and answers, whichever the engine: the call but for the multiple itself.
 ghost use Rattle.divisor.specs.Divisors.{Held};
 ghost use Rattle.call_factors.specs.Multiples.{FactorsIs, WroteMultiple};
+use call_one::Answer;
 use call_one::CurveAndDivisor;
 use divisor::Divisor;
 use field::Modulus;
 use folds::Multiple;
-
-// Done, with the length and the two counts.
-pub enum MultipleAnswer {
-    Done(u64, u64, u64),
-    Refused(u64, u64),
-}
 
 // What every multiplication reads and checks: number 12 where the scalar is too long, then 19 where the divisor is neutral.
 pub fn read_factors(curve: &[u8], a: &[u8], scalar: &[u8]) -> CurveAndDivisor
@@ -43,19 +38,19 @@ pub fn read_factors(curve: &[u8], a: &[u8], scalar: &[u8]) -> CurveAndDivisor
     x
 }
 
-// What every multiplication writes and answers: number 19 where the multiple is neutral, then 13 where the output is too short.
-pub fn write_multiple(y: Multiple, m: Modulus, out: &mut [u8]) -> MultipleAnswer
+// What every multiplication writes and answers, with doublings and additions: number 19 where the multiple is neutral, then 13 where the output is too short.
+pub fn write_multiple(y: Multiple, m: Modulus, out: &mut [u8]) -> Answer
     requires { ⌜ Held m (y .divisor) ⌝ }
     ensures { λ r. ⌜ WroteMultiple y m (now (out .entry)) r (now (out .exit)) ⌝ }
 {
     let e = y.divisor;
     let w = e.weight();
     if w == 0 {
-        return MultipleAnswer::Refused(refusals::EMPTY_KEY, 0);
+        return Answer::Refused(refusals::EMPTY_KEY, 0);
     }
     let n = call_one::write_out(e, m, out);
     if n == 0 {
-        return MultipleAnswer::Refused(refusals::OUTPUT_LENGTH, 0);
+        return Answer::Refused(refusals::OUTPUT_LENGTH, 0);
     }
-    MultipleAnswer::Done(n, y.doublings, y.additions)
+    Answer::Done(n, y.doublings, y.additions)
 }

@@ -3,7 +3,7 @@ ghost use Rattle.rules.specs.Bytes.{number};
 ghost use Rattle.rules.specs.Calls.{multiply-call};
 ghost use Rattle.folds.specs.Contracts.{ToMultiply, Multiplied};
 ghost use Rattle.call_factors.specs.Multiples.{MultipleIs};
-use call_factors::MultipleAnswer;
+use call_one::Answer;
 use curve::Curve;
 use divisor::Divisor;
 use folds::Multiple;
@@ -20,12 +20,12 @@ pub fn quicker(c: Curve, a: Divisor, s: &[u8]) -> Multiple
     multiple::of(c, a, s)
 }
 
-pub fn multiply(curve: &[u8], a: &[u8], scalar: &[u8], out: &mut [u8]) -> MultipleAnswer
+pub fn multiply(curve: &[u8], a: &[u8], scalar: &[u8], out: &mut [u8]) -> Answer
     ensures { λ r. ⌜ MultipleIs r (now (out .exit)) (multiply-call (now (curve .entry)) (now (a .entry)) (now (scalar .entry)) (now (out .entry))) ⌝ }
 {
     let x = call_factors::read_factors(curve, a, scalar);
     if x.number != 0 {
-        return MultipleAnswer::Refused(x.number, x.place);
+        return Answer::Refused(x.number, x.place);
     }
     let c = x.curve;
     let d = x.divisor;
@@ -33,17 +33,12 @@ pub fn multiply(curve: &[u8], a: &[u8], scalar: &[u8], out: &mut [u8]) -> Multip
 }
 
 // The same by the second engine.
-pub fn multiply_inversion_free(
-    curve: &[u8],
-    a: &[u8],
-    scalar: &[u8],
-    out: &mut [u8],
-) -> MultipleAnswer
+pub fn multiply_inversion_free(curve: &[u8], a: &[u8], scalar: &[u8], out: &mut [u8]) -> Answer
     ensures { λ r. ⌜ MultipleIs r (now (out .exit)) (multiply-call (now (curve .entry)) (now (a .entry)) (now (scalar .entry)) (now (out .entry))) ⌝ }
 {
     let x = call_factors::read_factors(curve, a, scalar);
     if x.number != 0 {
-        return MultipleAnswer::Refused(x.number, x.place);
+        return Answer::Refused(x.number, x.place);
     }
     let c = x.curve;
     let d = x.divisor;

@@ -1,5 +1,5 @@
 -- Document 01, "Language form": where an answer is an enum, the promises use a definition that gives the paper's number and values for each of
--- its cases.
+-- its cases. One enum is every call's answer, so one definition serves them all.
 use Prim.Native.Nat.{ℕ, _≤_, _<_}
 use mathlib.Core.Path.{_≡_}
 use mathlib.Core.List.{List}
@@ -7,7 +7,7 @@ use lib.ListN.{length}
 use lib.Seq.{sets}
 use Rattle.rules.specs.Checks.{Checked, refused, taken, go-on}
 use Rattle.rules.specs.Records.{CurveRecord, PairOf, read-curve, read-divisor}
-use Rattle.rules.specs.Calls.{Answer as RuleAnswer, refusal, done}
+use Rattle.rules.specs.Calls.{Answer as RuleAnswer, Reply, refusal, done}
 use Rattle.rules.proofs.calls.Written.{Written}
 use Rattle.divisor.specs.Divisors.{pair}
 use Rattle.curve.specs.Curves.{Sound, Holds}
@@ -16,10 +16,25 @@ use Rattle.call_one.specs.declared.Answer.{Answer}
 use Rattle.call_one.specs.declared.Answer.the-variants.{Done, Refused}
 use Rattle.call_one.specs.declared.CurveAndDivisor.{CurveAndDivisor}
 
--- number, place and length of an answer
-abbrev pub answerOf : Answer → RuleAnswer
-answerOf (Done n) = done n
-answerOf (Refused n k) = refusal n k
+-- number, place and length of an answer; and the call's own two numbers, 0 and 0 on a refusal
+abbrev pub Values : Type 0
+Values = RuleAnswer × (ℕ × ℕ)
+
+abbrev pub valuesOf : Answer → Values
+valuesOf (Done n i j) = (done n, (i, j))
+valuesOf (Refused n k) = (refusal n k, (0, 0))
+
+-- the values and the output as the call returns are the rule's; `two` has the call's own numbers as two, 0 where it has fewer
+pub record AnswerIs {N : Type 0} (two : N → ℕ × ℕ) (r : Answer) (out : List ℕ) (rule : Reply N) : Type 0 where
+  pub values : valuesOf r ≡ (rule .answer, two (rule .own))
+  pub bytes : out ≡ rule .out
+
+-- of a call with no numbers of its own; and of a check, which writes nothing besides
+abbrev pub Wrote : Answer → List ℕ → Written → Type 0
+Wrote r out rule = AnswerIs (λ (x : Unit {0}). (0, 0)) r out rule
+
+abbrev pub CheckIs : Answer → RuleAnswer → Type 0
+CheckIs r rule = valuesOf r ≡ (rule, (0, 0))
 
 -- bytes put at the front of an output where they fit; n is how many
 pub record PutIs (out bytes o : List ℕ) (n : ℕ) : Type 0 where
@@ -28,11 +43,6 @@ pub record PutIs (out bytes o : List ℕ) (n : ℕ) : Type 0 where
   pub fits : (n ≡ 0 → ⊥) → length bytes ≤ length out
   pub all : (n ≡ 0 → ⊥) → n ≡ length bytes
   pub put : (n ≡ 0 → ⊥) → o ≡ sets out 0 bytes
-
--- the answer and the output as the call returns are the rule's
-pub record Wrote (r : Answer) (out : List ℕ) (rule : Written) : Type 0 where
-  pub answer : answerOf r ≡ rule .answer
-  pub bytes : out ≡ rule .out
 
 -- ---- a curve and the first divisor on it
 abbrev pub FirstRead : Type 0

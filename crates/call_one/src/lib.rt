@@ -1,18 +1,17 @@
 // The calls inside Rattle, in the shape of document 01: records in as bytes, each checked here and once; an enum out, and the result at the
 // front of the output. Every promise is an equation with the call's rule. Here: what reads and what writes, the checks and the rewrites.
-ghost use mathlib.Core.Path.{_≡_};
 ghost use Rattle.rules.specs.Calls.{check-curve, check-divisor, rewrite-curve, rewrite-divisor, write};
 ghost use Rattle.rules.specs.Records.{divisor-bytes};
 ghost use Rattle.divisor.specs.Divisors.{pair, Held};
-ghost use Rattle.call_one.specs.Answers.{answerOf, OneIs, PutIs, Wrote};
+ghost use Rattle.call_one.specs.Answers.{CheckIs, OneIs, PutIs, Wrote};
 use curve::Curve;
 use divisor::Divisor;
 use field::Modulus;
 use record_divisor::DivisorRead;
 
-// Done, with the length written, or a number and its place.
+// What a call answers: done, with the length written and the call's own two numbers, 0 where it has fewer; or a number and its place.
 pub enum Answer {
-    Done(u64),
+    Done(u64, u64, u64),
     Refused(u64, u64),
 }
 
@@ -76,28 +75,28 @@ pub fn write_answer(d: Divisor, m: Modulus, out: &mut [u8]) -> Answer
     if n == 0 {
         return Answer::Refused(refusals::OUTPUT_LENGTH, 0);
     }
-    Answer::Done(n)
+    Answer::Done(n, 0, 0)
 }
 
 pub fn check_curve(curve: &[u8]) -> Answer
-    ensures { λ r. ⌜ answerOf r ≡ check-curve (now (curve .entry)) ⌝ }
+    ensures { λ r. ⌜ CheckIs r (check-curve (now (curve .entry))) ⌝ }
 {
     let read = record_curve::read_curve(curve);
     let number = read.number;
     if number != 0 {
         return Answer::Refused(number, 0);
     }
-    Answer::Done(0)
+    Answer::Done(0, 0, 0)
 }
 
 pub fn check_divisor(curve: &[u8], a: &[u8]) -> Answer
-    ensures { λ r. ⌜ answerOf r ≡ check-divisor (now (curve .entry)) (now (a .entry)) ⌝ }
+    ensures { λ r. ⌜ CheckIs r (check-divisor (now (curve .entry)) (now (a .entry))) ⌝ }
 {
     let x = read_curve_and_divisor(curve, a);
     if x.number != 0 {
         return Answer::Refused(x.number, x.place);
     }
-    Answer::Done(0)
+    Answer::Done(0, 0, 0)
 }
 
 // What was read and checked is written as it stood.
@@ -113,7 +112,7 @@ pub fn rewrite_curve(curve: &[u8], out: &mut [u8]) -> Answer
         return Answer::Refused(refusals::OUTPUT_LENGTH, 0);
     }
     big_endian::write_bytes(curve, out);
-    Answer::Done(curve.len() as u64)
+    Answer::Done(curve.len() as u64, 0, 0)
 }
 
 pub fn rewrite_divisor(curve: &[u8], a: &[u8], out: &mut [u8]) -> Answer

@@ -12,7 +12,7 @@ use Rattle.divisor.specs.Divisors.{pair}
 use Rattle.curve.specs.Record.{recordOf}
 use Rattle.call_one.specs.declared.Answer.the-variants.{Done, Refused}
 use Rattle.call_one.specs.declared.CurveAndDivisor.{CurveAndDivisor}
-use Rattle.call_one.specs.Answers.{answerOf, FirstRead, OneIs}
+use Rattle.call_one.specs.Answers.{CheckIs, FirstRead, OneIs}
 use Rattle.call_one.proofs.Firsts.{one-stops, one-goes}
 use Rattle.call_one.proofs.Written.{answer}
 
@@ -26,20 +26,20 @@ module _ (s a order primes : List ℕ) (x : CurveAndDivisor) (h : OneIs s a x) w
   go : FirstRead → Checked (Result (Unit {0}))
   go p = first-failed (order-checks (p .0) order primes (p .1)) (only [])
 
-  pub order-refused : (x .number ≡ 0 → ⊥) → answerOf (Refused (x .number) (x .place)) ≡ check-order s a order primes
+  pub order-refused : (x .number ≡ 0 → ⊥) → CheckIs (Refused (x .number) (x .place)) (check-order s a order primes)
   unfolding go check-order
   order-refused n = sym (ap answer (one-stops go s a (x .number) (x .place) (h .refuses n)))
 
   module _ (z : x .number ≡ 0) where
-    on : {r : Checked (Result (Unit {0}))} → first-failed (order-checks c order primes d) (only []) ≡ r → answer r ≡ check-order s a order primes
+    on : {r : Checked (Result (Unit {0}))} → first-failed (order-checks c order primes d) (only []) ≡ r → answer r ≡ (check-order s a order primes, (0, 0))
     unfolding go check-order
     on e = sym (ap answer (one-goes go s a (c, d) (h .takes z) ∙ e))
 
-    pub order-long : 32 < length order → answerOf (Refused 12 0) ≡ check-order s a order primes
+    pub order-long : 32 < length order → CheckIs (Refused 12 0) (check-order s a order primes)
     order-long l = on (checks-long (only []) c order primes d l)
 
-    pub order-done : length order ≤ 32 → Tested c d order primes → answerOf (Done 0) ≡ check-order s a order primes
+    pub order-done : length order ≤ 32 → Tested c d order primes → CheckIs (Done 0 0 0) (check-order s a order primes)
     order-done l t = on (checks-pass (only []) c order primes d l t)
 
-    pub order-not : length order ≤ 32 → (Tested c d order primes → ⊥) → answerOf (Refused 27 0) ≡ check-order s a order primes
+    pub order-not : length order ≤ 32 → (Tested c d order primes → ⊥) → CheckIs (Refused 27 0) (check-order s a order primes)
     order-not l t = on (checks-fail (only []) c order primes d l t)

@@ -1,5 +1,4 @@
 // The call inside Rattle that checks a divisor's order (W-214): n by its bytes, and the primes that it is made of, 4 bytes each. Its promise is an equation with the call's rule.
-ghost use mathlib.Core.Path.{_≡_};
 ghost use Rattle.rules.specs.Bytes.{number};
 ghost use Rattle.rules.specs.Calls.{listed, check-order};
 ghost use Rattle.rules.proofs.calls.Orders.{Tested};
@@ -7,7 +6,7 @@ ghost use Rattle.field.specs.Primes.{Decides};
 ghost use Rattle.divisor.specs.Divisors.{pair};
 ghost use Rattle.curve.specs.Record.{recordOf};
 ghost use Rattle.folds.specs.Contracts.{ToMultiply};
-ghost use Rattle.call_one.specs.Answers.{answerOf};
+ghost use Rattle.call_one.specs.Answers.{CheckIs};
 ghost use Rattle.call_order.specs.Folds.{Folding, ToLook, Folded, NoneBelow};
 use big_numbers::SIZE;
 use call_one::Answer;
@@ -72,7 +71,7 @@ fn is_order(c: Curve, a: Divisor, order: &[u8], primes: &[u8]) -> bool
 }
 
 pub fn check_order(curve: &[u8], divisor: &[u8], order: &[u8], primes: &[u8]) -> Answer
-    ensures { λ r. ⌜ answerOf r ≡ check-order (now (curve .entry)) (now (divisor .entry)) (now (order .entry)) (now (primes .entry)) ⌝ }
+    ensures { λ r. ⌜ CheckIs r (check-order (now (curve .entry)) (now (divisor .entry)) (now (order .entry)) (now (primes .entry))) ⌝ }
 {
     let x = call_one::read_curve_and_divisor(curve, divisor);
     if x.number != 0 {
@@ -84,7 +83,7 @@ pub fn check_order(curve: &[u8], divisor: &[u8], order: &[u8], primes: &[u8]) ->
     let c = x.curve;
     let d = x.divisor;
     if is_order(c, d, order, primes) {
-        return Answer::Done(0);
+        return Answer::Done(0, 0, 0);
     }
     Answer::Refused(refusals::ORDER, 0)
 }

@@ -1,26 +1,28 @@
 -- The call `repeat-call`, by what its parts answer: the curve, and the first repeat of the batch on it.
 use Prim.Native.Nat.{ℕ}
-use mathlib.Core.Path.{_≡_, sym, ap, _∙_}
+use mathlib.Core.Path.{_≡_, refl, ap}
 use mathlib.Core.List.{List, [], _∷_, _++_}
 use Rattle.rules.specs.Records.{CurveRecord}
 use Rattle.rules.specs.Checks.{Checked, taken, go-on}
 use Rattle.rules.specs.Lists.{batch, Repeat, first-repeat}
-use Rattle.rules.specs.Calls.{Result, Reply, deliver, repeat-call}
+use Rattle.rules.specs.Calls.{Result, deliver, repeat-call}
 use Rattle.rules.proofs.calls.Refusals.{on-taken, on-refused}
 use Rattle.record_curve.specs.declared.CurveRead.{CurveRead}
 use Rattle.record_curve.specs.Read.{CurveIs}
-use Rattle.call_repeat.specs.declared.RepeatAnswer.the-variants.{Refused}
-use Rattle.call_repeat.specs.Repeats.{no-repeat, repeat-rule, repeatOf}
+use Rattle.call_one.specs.declared.Answer.{Answer}
+use Rattle.call_one.specs.declared.Answer.the-variants.{Refused}
+use Rattle.call_one.proofs.Written.{goes-on, stopped-as}
+use Rattle.call_repeat.specs.Repeats.{no-repeat, repeat-rule, RepeatIs}
 
 module _ (s b : List ℕ) (r : CurveRead) (h : CurveIs s r) where
   -- what follows on a curve that was taken
   abbrev next : CurveRecord → Checked (Result Repeat)
   next c = go-on (batch c (λ l d. l ++ (d ∷ [])) b []) (λ x. taken (record { bytes = []; own = first-repeat (c .p) (x .result) }))
 
-  pub no-curve : (r .number ≡ 0 → ⊥) → repeatOf (Refused (r .number) 0) ≡ repeat-call s b
+  pub no-curve : (r .number ≡ 0 → ⊥) → RepeatIs (Refused (r .number) 0) (repeat-call s b)
   unfolding repeat-call
-  no-curve z = sym (ap (deliver no-repeat []) (on-refused _ next (h .refuses z)))
+  no-curve z = stopped-as no-repeat refl refl (ap (deliver no-repeat []) (on-refused _ next (h .refuses z)))
 
-  pub on-curve : r .number ≡ 0 → {x : Reply Repeat} → x ≡ repeat-rule (r .curve) b → x ≡ repeat-call s b
+  pub on-curve : r .number ≡ 0 → {x : Answer} → RepeatIs x (repeat-rule (r .curve) b) → RepeatIs x (repeat-call s b)
   unfolding repeat-call
-  on-curve z e = e ∙ sym (ap (deliver no-repeat []) (on-taken _ next (h .takes z)))
+  on-curve z e = goes-on (ap (deliver no-repeat []) (on-taken _ next (h .takes z))) e

@@ -11,8 +11,8 @@ use Rattle.algebra.proofs.zmod.PrimeField.{modulo}
 use Rattle.rules.specs.Pair.{Pair}
 use Rattle.rules.specs.Records.{Checked, PairOf}
 use Rattle.rules.specs.First.{FirstIs}
-use Rattle.rules.specs.Lists.{Batch, Repeat, first-repeat}
-use Rattle.rules.specs.Calls.{Reply, done, deliver}
+use Rattle.rules.specs.Lists.{Batch, Repeat}
+use Rattle.rules.specs.Calls.{done, deliver}
 use Rattle.divisor.specs.declared.Divisor.{Divisor}
 use Rattle.divisor.specs.declared.Divisor.the-variants.{Neutral}
 use Rattle.divisor.specs.Divisors.{pair, Held}
@@ -24,9 +24,10 @@ use Rattle.record_divisor.specs.Read.{DivisorIs}
 use Rattle.repeat.specs.declared.Repeat.{Repeat as Found}
 use Rattle.repeat.specs.declared.Repeat.the-variants.{Pair as FoundPair, Nothing as FoundNothing}
 use Rattle.repeat.specs.First.{at, AllHeld, SameIn, placesOf}
+use Rattle.call_one.specs.declared.Answer.the-variants.{Done, Refused as RefusedAnswer}
+use Rattle.call_one.proofs.Written.{goes-on, stopped-as}
 use Rattle.call_one.proofs.Turns.{Going, begins, read-taken, ends, full, refuses, turns}
-use Rattle.call_repeat.specs.declared.RepeatAnswer.the-variants.{Pair as PairAnswer, Nothing as NothingAnswer, Refused as RefusedAnswer}
-use Rattle.call_repeat.specs.Repeats.{list-rule, no-repeat, repeat-of, repeat-rule, repeatOf}
+use Rattle.call_repeat.specs.Repeats.{list-rule, no-repeat, repeat-of, repeat-rule, RepeatIs}
 use Rattle.call_repeat.proofs.Found.{found-first}
 
 map-snoc : {A B : Type 0} (f : A → B) (l : List A) (x : A) → map f (l ++ (x ∷ [])) ≡ map f l ++ (f x ∷ [])
@@ -53,11 +54,11 @@ module _ (c : Curve) (s : List ℕ) where
     as-rule : {x : Checked (Batch (List (PairOf (recordOf c))))} → list-rule c s ≡ x → repeat-rule c s ≡ deliver no-repeat [] (repeat-of c x)
     as-rule e = ap (λ x. deliver no-repeat [] (repeat-of c x)) e
 
-    pub list-full : a < length s → k ≡ 4096 → repeatOf (RefusedAnswer 14 0) ≡ repeat-rule c s
-    list-full more e = sym (as-rule (full (i .going) more e))
+    pub list-full : a < length s → k ≡ 4096 → RepeatIs (RefusedAnswer 14 0) (repeat-rule c s)
+    list-full more e = stopped-as no-repeat refl refl (as-rule (full (i .going) more e))
 
-    pub list-refuses : (r : DivisorRead) {n : ℕ} → a < length s → k < 4096 → DivisorIs c false s a r → r ≡ Refused n → repeatOf (RefusedAnswer n (k + 1)) ≡ repeat-rule c s
-    list-refuses r more room is e = sym (as-rule (refuses (i .going) more room r is e))
+    pub list-refuses : (r : DivisorRead) {n : ℕ} → a < length s → k < 4096 → DivisorIs c false s a r → r ≡ Refused n → RepeatIs (RefusedAnswer n (k + 1)) (repeat-rule c s)
+    list-refuses r more room is e = stopped-as no-repeat refl refl (as-rule (refuses (i .going) more room r is e))
 
     pub list-turn : (r : DivisorRead) {x : Divisor} {w : ℕ} → a < length s → k < 4096 → DivisorIs c false s a r → r ≡ Taken x → w ≡ getD s a 0 → Listing c s (set d k x) (k + 1) (a + 1 + 16 * w)
     list-turn r {x} more room is e v = record {
@@ -75,11 +76,11 @@ module _ (c : Curve) (s : List ℕ) where
         added = ap (λ (n : ℕ). map (pair (c .m)) (take n (set d k x))) {x = k + 1} {y = suc k} (omega arith) ∙ ap (map (pair (c .m))) (take-suc-set d k x (omega (arith, i .long))) ∙ map-snoc (pair (c .m)) (take k d) x
 
     module _ (over : length s ≤ a) (f : Found) (is : FirstIs (SameIn (c .m) d) k (placesOf f)) where
-      answered : {r : Repeat} → placesOf f ≡ r → record { answer = done 0; out = []; own = r } ≡ repeat-rule c s
-      answered {r} e = sym (as-rule (ends (i .going) over) ∙ ap (λ (t : Repeat). record { answer = done 0; out = []; own = t }) (found-first (c .m) d k (i .all) (i .long) f is ∙ e))
+      answered : {r : Repeat} → placesOf f ≡ r → RepeatIs (Done 0 (r .first) (r .second)) (repeat-rule c s)
+      answered {r} e = goes-on (as-rule (ends (i .going) over) ∙ ap (λ (t : Repeat). record { answer = done 0; out = []; own = t }) (found-first (c .m) d k (i .all) (i .long) f is ∙ e)) (record { values = refl; bytes = refl })
 
-      pub list-pair : {x y : ℕ} → f ≡ FoundPair x y → repeatOf (PairAnswer (x + 1) (y + 1)) ≡ repeat-rule c s
+      pub list-pair : {x y : ℕ} → f ≡ FoundPair x y → RepeatIs (Done 0 (x + 1) (y + 1)) (repeat-rule c s)
       list-pair {x} {y} e = answered (ap placesOf e ∙ ap₂ (λ i j. record { first = i; second = j }) {x = suc x} {y = x + 1} {u = suc y} {v = y + 1} (omega arith) (omega arith))
 
-      pub list-nothing : f ≡ FoundNothing → repeatOf NothingAnswer ≡ repeat-rule c s
+      pub list-nothing : f ≡ FoundNothing → RepeatIs (Done 0 0 0) (repeat-rule c s)
       list-nothing e = answered (ap placesOf e)

@@ -1,14 +1,14 @@
--- The first repeat of a batch on a curve in code, and the paper's values for each case of the call's answer.
+-- The first repeat of a batch on a curve in code, and what the call promises of its answer: its own numbers are the two places.
 use Prim.Native.Nat.{ℕ}
 use mathlib.Core.List.{List, [], _∷_, _++_}
 use Rattle.rules.specs.Checks.{Checked, taken, go-on}
 use Rattle.rules.specs.Records.{PairOf}
 use Rattle.rules.specs.Lists.{Batch, batch, Repeat, first-repeat}
-use Rattle.rules.specs.Calls.{Result, Reply, done, stop, deliver}
+use Rattle.rules.specs.Calls.{Result, Reply, deliver}
 use Rattle.curve.specs.declared.Curve.{Curve}
 use Rattle.curve.specs.Record.{recordOf}
-use Rattle.call_repeat.specs.declared.RepeatAnswer.{RepeatAnswer}
-use Rattle.call_repeat.specs.declared.RepeatAnswer.the-variants.{Pair, Nothing, Refused}
+use Rattle.call_one.specs.declared.Answer.{Answer}
+use Rattle.call_one.specs.Answers.{AnswerIs}
 
 -- the divisors of a batch in a list
 abbrev pub list-rule : (c : Curve) → List ℕ → Checked (Batch (List (PairOf (recordOf c))))
@@ -24,7 +24,6 @@ repeat-of c x = go-on x (λ b. taken (record { bytes = []; own = first-repeat (c
 abbrev pub repeat-rule : (c : Curve) → List ℕ → Reply Repeat
 repeat-rule c s = deliver no-repeat [] (repeat-of c (list-rule c s))
 
-abbrev pub repeatOf : RepeatAnswer → Reply Repeat
-repeatOf (Pair i j) = record { answer = done 0; out = []; own = record { first = i; second = j } }
-repeatOf Nothing = record { answer = done 0; out = []; own = no-repeat }
-repeatOf (Refused n k) = stop no-repeat [] n k
+-- nothing is written
+abbrev pub RepeatIs : Answer → Reply Repeat → Type 0
+RepeatIs r rule = AnswerIs (λ (x : Repeat). (x .first, x .second)) r [] rule

@@ -1,13 +1,13 @@
 -- The call `total-call`, by what its parts answer: the curve, the batch on it, and the record put at the front of the output.
 use Prim.Native.Nat.{ℕ}
-use mathlib.Core.Path.{_≡_, sym, ap, _∙_, subst}
+use mathlib.Core.Path.{_≡_, refl, ap, _∙_, subst}
 use mathlib.Core.List.{List}
 use Rattle.rules.specs.Pair.{neutral}
 use Rattle.rules.specs.Sum.{sum}
 use Rattle.rules.specs.Checks.{Checked, taken, go-on}
 use Rattle.rules.specs.Records.{CurveRecord, PairOf, curve, divisor-bytes}
 use Rattle.rules.specs.Lists.{Batch, batch}
-use Rattle.rules.specs.Calls.{Result, stop, put, deliver, total-call}
+use Rattle.rules.specs.Calls.{Result, put, deliver, total-call}
 use Rattle.rules.proofs.calls.Refusals.{on-taken, on-refused}
 use Rattle.divisor.specs.declared.Divisor.{Divisor}
 use Rattle.divisor.specs.Divisors.{pair}
@@ -15,11 +15,11 @@ use Rattle.curve.specs.Curves.{Holds}
 use Rattle.record_curve.specs.declared.CurveRead.{CurveRead}
 use Rattle.curve.specs.Record.{recordOf}
 use Rattle.record_curve.specs.Read.{CurveIs}
+use Rattle.call_one.specs.declared.Answer.the-variants.{Done as DoneTotal, Refused as RefusedTotal}
 use Rattle.call_one.specs.Answers.{PutIs}
-use Rattle.call_one.proofs.Written.{deliver-none, deliver-all}
+use Rattle.call_one.proofs.Written.{goes-on, stopped-as, wrote-none, wrote-all}
 use Rattle.call_total.specs.declared.TotalRead.{TotalRead}
 use Rattle.call_total.specs.declared.TotalRead.the-variants.{Done, Refused}
-use Rattle.call_total.specs.declared.TotalAnswer.the-variants.{Done as DoneTotal, Refused as RefusedTotal}
 use Rattle.call_total.specs.Totals.{TotalIs, TotalAnswerIs}
 
 module _ (s b out : List ℕ) (r : CurveRead) (h : CurveIs s r) where
@@ -32,7 +32,7 @@ module _ (s b out : List ℕ) (r : CurveRead) (h : CurveIs s r) where
 
   pub no-curve : (r .number ≡ 0 → ⊥) → TotalAnswerIs (RefusedTotal (r .number) 0) out (total-call s b out)
   unfolding total-call
-  no-curve z = sym (ap (deliver 0 out) (on-refused _ next (h .refuses z)))
+  no-curve z = stopped-as 0 refl refl (ap (deliver 0 out) (on-refused _ next (h .refuses z)))
 
   module _ (z : r .number ≡ 0) (t : TotalRead) (is : TotalIs (r .curve) b t) where
     call-is : total-call s b out ≡ deliver 0 out (next (recordOf (r .curve)))
@@ -40,7 +40,7 @@ module _ (s b out : List ℕ) (r : CurveRead) (h : CurveIs s r) where
     call-is = ap (deliver 0 out) (on-taken _ next (h .takes z))
 
     pub no-total : {n k : ℕ} → t ≡ Refused n k → TotalAnswerIs (RefusedTotal n k) out (total-call s b out)
-    no-total e = sym (call-is ∙ ap (λ x. deliver 0 out (after (recordOf (r .curve)) x)) (subst (TotalIs (r .curve) b) e is))
+    no-total e = stopped-as 0 refl refl (call-is ∙ ap (λ x. deliver 0 out (after (recordOf (r .curve)) x)) (subst (TotalIs (r .curve) b) e is))
 
     module _ {d : Divisor} {k : ℕ} (e : t ≡ Done d k) where
       pub total-holds : Holds (r .curve) d
@@ -54,7 +54,7 @@ module _ (s b out : List ℕ) (r : CurveRead) (h : CurveIs s r) where
         writes = call-is ∙ ap (λ x. deliver 0 out (after (recordOf (r .curve)) x)) (subst (TotalIs (r .curve) b) e is .1)
 
         pub too-short : n ≡ 0 → TotalAnswerIs (RefusedTotal 13 0) o (total-call s b out)
-        too-short q = ap (λ (l : List ℕ). stop 0 l 13 0) (room .kept q) ∙ sym (writes ∙ deliver-none out bytes room 0 k q)
+        too-short q = goes-on writes (wrote-none out bytes room 0 k refl q)
 
-        pub total-written : (n ≡ 0 → ⊥) → TotalAnswerIs (DoneTotal n k) o (total-call s b out)
-        total-written q = sym (writes ∙ deliver-all out bytes room 0 k q)
+        pub total-written : (n ≡ 0 → ⊥) → TotalAnswerIs (DoneTotal n k 0) o (total-call s b out)
+        total-written q = goes-on writes (wrote-all out bytes room 0 k (λ n. (n, 0)) q)

@@ -1,4 +1,4 @@
--- What the reader of a batch promises of its total, and the paper's values for each case of the call's answer.
+-- What the reader of a batch promises of its total, and the call of its answer: its own number is the count of records.
 use Prim.Native.Nat.{ℕ}
 use mathlib.Core.Path.{_≡_}
 use mathlib.Core.List.{List}
@@ -6,15 +6,15 @@ use Rattle.rules.specs.Pair.{neutral}
 use Rattle.rules.specs.Sum.{sum}
 use Rattle.rules.specs.Records.{Checked, refused, taken, PairOf}
 use Rattle.rules.specs.Lists.{Batch, batch}
-use Rattle.rules.specs.Calls.{Reply, refusal, done}
+use Rattle.rules.specs.Calls.{Reply}
 use Rattle.divisor.specs.Divisors.{pair}
 use Rattle.curve.specs.declared.Curve.{Curve}
 use Rattle.curve.specs.Curves.{curveOf, Holds}
 use Rattle.curve.specs.Record.{recordOf}
+use Rattle.call_one.specs.declared.Answer.{Answer}
+use Rattle.call_one.specs.Answers.{AnswerIs}
 use Rattle.call_total.specs.declared.TotalRead.{TotalRead}
 use Rattle.call_total.specs.declared.TotalRead.the-variants.{Done, Refused}
-use Rattle.call_total.specs.declared.TotalAnswer.{TotalAnswer}
-use Rattle.call_total.specs.declared.TotalAnswer.the-variants.{Done as DoneTotal, Refused as RefusedTotal}
 
 -- the batch of a curve in code: neutral, then each record added from first to last
 abbrev pub total-rule : (c : Curve) → List ℕ → Checked (Batch (PairOf (recordOf c)))
@@ -24,9 +24,5 @@ abbrev pub TotalIs : Curve → List ℕ → TotalRead → Type 0
 TotalIs c s (Done d k) = Holds c d × (total-rule c s ≡ taken (record { result = pair (c .m) d; count = k }))
 TotalIs c s (Refused n k) = total-rule c s ≡ refused n k
 
-abbrev pub totalOf : TotalAnswer → List ℕ → Reply ℕ
-totalOf (DoneTotal n k) out = record { answer = done n; out = out; own = k }
-totalOf (RefusedTotal n k) out = record { answer = refusal n k; out = out; own = 0 }
-
-abbrev pub TotalAnswerIs : TotalAnswer → List ℕ → Reply ℕ → Type 0
-TotalAnswerIs r out rule = totalOf r out ≡ rule
+abbrev pub TotalAnswerIs : Answer → List ℕ → Reply ℕ → Type 0
+TotalAnswerIs r out rule = AnswerIs (λ (k : ℕ). (k, 0)) r out rule

@@ -1,8 +1,8 @@
 // The total of a batch: records one after the other, read in one pass. The running divisor is kept as a value and written once.
-ghost use mathlib.Core.Path.{_≡_};
 ghost use Rattle.rules.specs.Calls.{total-call};
 ghost use Rattle.curve.specs.Curves.{Sound};
 ghost use Rattle.call_total.specs.Totals.{TotalIs, TotalAnswerIs};
+use call_one::Answer;
 use curve::Curve;
 use divisor::Divisor;
 use record_divisor::DivisorRead;
@@ -10,12 +10,6 @@ use record_divisor::DivisorRead;
 // The total of a batch and how many records it has, or a number and its place.
 pub enum TotalRead {
     Done(Divisor, u64),
-    Refused(u64, u64),
-}
-
-// Done, with the length written and the count of records.
-pub enum TotalAnswer {
-    Done(u64, u64),
     Refused(u64, u64),
 }
 
@@ -44,23 +38,24 @@ pub fn total_of(c: Curve, s: &[u8]) -> TotalRead
     TotalRead::Done(t, k)
 }
 
-pub fn total_batch(curve: &[u8], batch: &[u8], out: &mut [u8]) -> TotalAnswer
+// Its own number is the count of records.
+pub fn total_batch(curve: &[u8], batch: &[u8], out: &mut [u8]) -> Answer
     ensures { λ r. ⌜ TotalAnswerIs r (now (out .exit)) (total-call (now (curve .entry)) (now (batch .entry)) (now (out .entry))) ⌝ }
 {
     let read = record_curve::read_curve(curve);
     let c = read.curve;
     let number = read.number;
     if number != 0 {
-        return TotalAnswer::Refused(number, 0);
+        return Answer::Refused(number, 0);
     }
     match total_of(c, batch) {
         TotalRead::Done(t, k) => {
             let n = call_one::write_out(t, c.m, out);
             if n == 0 {
-                return TotalAnswer::Refused(refusals::OUTPUT_LENGTH, 0);
+                return Answer::Refused(refusals::OUTPUT_LENGTH, 0);
             }
-            TotalAnswer::Done(n, k)
+            Answer::Done(n, k, 0)
         }
-        TotalRead::Refused(n, k) => TotalAnswer::Refused(n, k),
+        TotalRead::Refused(n, k) => Answer::Refused(n, k),
     }
 }

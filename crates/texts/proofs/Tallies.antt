@@ -10,9 +10,9 @@ use lib.ListN.{length, take, length-append}
 use Rattle.rules.specs.Pair.{neutral}
 use Rattle.rules.specs.Sum.{sum}
 use Rattle.rules.specs.Records.{Checked, CurveRecord, PairOf, choose, curve}
-use Rattle.rules.specs.Lists.{Batch, Repeat, batch}
+use Rattle.rules.specs.Lists.{Batch, batch}
 use Rattle.rules.proofs.calls.Refusals.{check}
-use Rattle.rules.specs.Calls.{Reply, repeat-call}
+use Rattle.rules.specs.Calls.{repeat-call}
 use Rattle.field.specs.declared.Modulus.{Modulus}
 use Rattle.divisor.specs.declared.Divisor.{Divisor}
 use Rattle.divisor.specs.Divisors.{pair}
@@ -22,11 +22,12 @@ use Rattle.record_curve.specs.declared.CurveRead.{CurveRead}
 use Rattle.curve.specs.Record.{recordOf}
 use Rattle.record_curve.specs.Read.{CurveIs}
 use Rattle.divisor.proofs.Laws.{weight-is, weight-is-v}
+use Rattle.call_one.specs.declared.Answer.{Answer}
+use Rattle.call_one.specs.Answers.{Values, valuesOf}
 use Rattle.call_total.specs.declared.TotalRead.{TotalRead}
 use Rattle.call_total.specs.declared.TotalRead.the-variants.{Done, Refused}
-use Rattle.call_repeat.specs.declared.RepeatAnswer.{RepeatAnswer}
 use Rattle.call_total.specs.Totals.{TotalIs}
-use Rattle.call_repeat.specs.Repeats.{repeatOf}
+use Rattle.call_repeat.specs.Repeats.{RepeatIs}
 use Rattle.texts.specs.declared.FileRead.{FileRead}
 use Rattle.texts.specs.declared.FileRead.the-variants.{Holds, Unreadable}
 use Rattle.lines.specs.declared.Places.{Places}
@@ -95,9 +96,9 @@ module _ (s b : List ℕ) (r : CurveRead) (h : CurveIs s r) where
       pub total-holds : OnCurve (r .curve) d
       total-holds = subst (TotalIs (r .curve) b) e is .0
 
-      pub three-lines : (a : RepeatAnswer) (q : Places) → repeatOf a ≡ repeat-call s b → placesOf q ≡ repeatOf a .own → three n q (r .curve .m) d ≡ text-of s b
+      pub three-lines : (a : Answer) (q : Places) → RepeatIs a (repeat-call s b) → (q .first, q .second) ≡ valuesOf a .1 → three n q (r .curve .m) d ≡ text-of s b
       three-lines a q f g = sym (on-curve ∙ ap (after (recordOf (r .curve))) (subst (TotalIs (r .curve) b) e is .1)
-          ∙ ap (λ (x : Repeat). count-line n ++ (repeat-line x ++ total-line (r .curve .m .p) (pair (r .curve .m) d))) (sym (g ∙ ap (λ (x : Reply Repeat). x .own) f)))
+          ∙ ap (λ (x : ℕ × ℕ). count-line n ++ (repeat-line (record { first = x .0; second = x .1 }) ++ total-line (r .curve .m .p) (pair (r .curve .m) d))) (sym (g ∙ ap (λ (v : Values). v .1) (f .values))))
 
 -- ---- of a file, and what goes on from its bytes
 module _ (f : FileRead) (s : List ℕ) (go : List ℕ → List ℕ) where

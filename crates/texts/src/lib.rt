@@ -1,12 +1,12 @@
 // What the program prints, made on slices: each function's promise fixes every byte. Nothing here opens, reads or writes a file.
 ghost use mathlib.Core.Path.{_≡_};
 ghost use lib.ListN.{take};
-ghost use Rattle.call_repeat.specs.Repeats.{repeatOf};
+ghost use Rattle.call_one.specs.Answers.{valuesOf};
 ghost use Rattle.lines.specs.Lines.{refused-line};
-ghost use Rattle.lines.specs.Printed.{Printed, placesOf};
+ghost use Rattle.lines.specs.Printed.{Printed};
 ghost use Rattle.text_rule.specs.Text.{text, with-file, text-of};
 ghost use Rattle.texts.specs.Read.{fileOf};
-use call_repeat::RepeatAnswer;
+use call_one::Answer;
 use call_total::TotalRead;
 use lines::Places;
 
@@ -17,19 +17,15 @@ pub enum FileRead {
 }
 
 // The places that a search answers: both 0 for none, and on a refusal.
-fn places_of(r: RepeatAnswer) -> Places
-    ensures { λ p. ⌜ placesOf p ≡ repeatOf r .own ⌝ }
+fn places_of(r: Answer) -> Places
+    ensures { λ p. ⌜ (p .first, p .second) ≡ valuesOf r .1 ⌝ }
 {
     match r {
-        RepeatAnswer::Pair(i, j) => Places {
+        Answer::Done(_, i, j) => Places {
             first: i,
             second: j,
         },
-        RepeatAnswer::Nothing => Places {
-            first: 0,
-            second: 0,
-        },
-        RepeatAnswer::Refused(_, _) => Places {
+        Answer::Refused(_, _) => Places {
             first: 0,
             second: 0,
         },

@@ -1,7 +1,7 @@
 use mathlib.Core.Path.{ap, sym}
-use Rattle.call_repeat.specs.declared.RepeatAnswer.{RepeatAnswer}
-use Rattle.call_repeat.specs.Repeats.{repeatOf}
-use Rattle.c_answers.specs.Flat.{flat-repeat}
+use Rattle.call_one.specs.declared.Answer.{Answer}
+use Rattle.call_one.specs.Answers.{valuesOf}
+use Rattle.c_answers.specs.Flat.{as-repeat}
 use borrow.Author.Needs.{needs}
 use Rattle.c_answers.proofs.flatten_repeat.Statement.{statement}
 use Rattle.c_answers.proofs.flatten_repeat.Tie as tie
@@ -9,21 +9,14 @@ use Rattle.c_answers.proofs.flatten_repeat.Tie as tie
 enum-known-a : tie.Need-enum-known-a
 enum-known-a c = search needs
 
-enum-told : tie.Need-enum-told
-enum-told c = search needs
-
 enum-known-a-2 : tie.Need-enum-known-a-2
 enum-known-a-2 c = search needs
 
 returns : tie.Need-returns
-returns c = sym (ap (λ (a : RepeatAnswer). flat-repeat (repeatOf a)) (c .before .a .given .1))
+returns c = sym (ap (λ (a : Answer). as-repeat (valuesOf a)) (c .before .a .given .1))
 
 returns-2 : tie.Need-returns-2
-returns-2 c = sym (ap (λ (a : RepeatAnswer). flat-repeat (repeatOf a)) (c .enum-told .given .1))
-
-returns-3 : tie.Need-returns-3
-returns-3 c = sym (ap (λ (a : RepeatAnswer). flat-repeat (repeatOf a)) (c .before .a2 .given .1))
+returns-2 c = sym (ap (λ (a : Answer). as-repeat (valuesOf a)) (c .before .a2 .given .1))
 
 pub flatten-repeat-spec : {M : Type 1} → statement M
-flatten-repeat-spec =
-    tie.close (tie.spec enum-known-a enum-told enum-known-a-2 returns returns-2 returns-3)
+flatten-repeat-spec = tie.close (tie.spec enum-known-a enum-known-a-2 returns returns-2)

@@ -1,7 +1,7 @@
 use mathlib.Core.Path.{ap, sym}
-use Rattle.call_total.specs.declared.TotalAnswer.{TotalAnswer}
-use Rattle.call_total.specs.Totals.{totalOf}
-use Rattle.c_answers.specs.Flat.{flat-total}
+use Rattle.call_one.specs.declared.Answer.{Answer}
+use Rattle.call_one.specs.Answers.{valuesOf}
+use Rattle.c_answers.specs.Flat.{as-total}
 use borrow.Author.Needs.{needs}
 use Rattle.c_answers.proofs.flatten_total.Statement.{statement}
 use Rattle.c_answers.proofs.flatten_total.Tie as tie
@@ -13,10 +13,10 @@ enum-known-a-2 : tie.Need-enum-known-a-2
 enum-known-a-2 c = search needs
 
 returns : tie.Need-returns
-returns c = λ o. sym (ap (λ (a : TotalAnswer). flat-total (totalOf a o)) (c .before .a .given .1))
+returns c = sym (ap (λ (a : Answer). as-total (valuesOf a)) (c .before .a .given .1))
 
 returns-2 : tie.Need-returns-2
-returns-2 c = λ o. sym (ap (λ (a : TotalAnswer). flat-total (totalOf a o)) (c .before .a2 .given .1))
+returns-2 c = sym (ap (λ (a : Answer). as-total (valuesOf a)) (c .before .a2 .given .1))
 
 pub flatten-total-spec : {M : Type 1} → statement M
 flatten-total-spec = tie.close (tie.spec enum-known-a enum-known-a-2 returns returns-2)

@@ -29,7 +29,7 @@ returns-2 c =
     let e = c .before .before .read-curve .ensures .takes (c .before .if1 .left) in
     let b = curve-bytes (recordOf (c .before .before .read-curve .result .curve)) (form-of (s .args .curve .now)) in
     let same : b ≡ s .args .curve .now = curve-written (s .args .curve .now) (λ k. c .before .before .before .before .shared-slice-known .given k .fits) e in
-    goes-on (ap (deliver tt (s .args .out .now)) (on-taken _ (λ d. taken (only (curve-bytes d (form-of (s .args .curve .now))))) e)) (wrote-none (s .args .out .now) b (put-none (s .args .out .now) b (ap length same) (c .if2 .taken)) refl)
+    goes-on (ap (deliver tt (s .args .out .now)) (on-taken _ (λ d. taken (only (curve-bytes d (form-of (s .args .curve .now))))) e)) (wrote-none (s .args .out .now) b (put-none (s .args .out .now) b (ap length same) (c .if2 .taken)) tt tt refl refl)
 
 write-bytes-requires : tie.Need-write-bytes-requires
 write-bytes-requires c κs = search needs
@@ -46,7 +46,7 @@ returns-3 c =
     let same : b ≡ s .args .curve .now = curve-written (s .args .curve .now) (λ k. c .before .before .before .before .before .before .before .before .shared-slice-known .given k .fits) e in
     let some : 0 < length (s .args .curve .now) = subst (λ (n : ℕ). 0 < n) (ap length same) (curve-some (recordOf (c .before .before .before .before .before .before .read-curve .result .curve)) (form-of (s .args .curve .now))) in
     goes-on (ap (deliver tt (s .args .out .now)) (on-taken _ (λ d. taken (only (curve-bytes d (form-of (s .args .curve .now))))) e))
-    (wrote-all (s .args .out .now) b (put-all (s .args .out .now) b (ap length same) some (omega (arith, c .before .before .before .before .if2 .left)) (c .before .before .write-bytes .ensures ∙ ap (sets (s .args .out .now) 0) (sym same))) (λ z. omega (arith, some)))
+    (wrote-all (s .args .out .now) b (put-all (s .args .out .now) b (ap length same) some (omega (arith, c .before .before .before .before .if2 .left)) (c .before .before .write-bytes .ensures ∙ ap (sets (s .args .out .now) 0) (sym same))) tt tt (λ x. (0, 0)) (λ z. omega (arith, some)))
 
 pub rewrite-curve-spec : {M : Type 1} → statement M
 rewrite-curve-spec =

@@ -1,5 +1,5 @@
 use mathlib.Core.Path.{ap, _∙_}
-use Rattle.c_answers.specs.Flat.{flat}
+use Rattle.c_answers.specs.Flat.{as-answer}
 use borrow.Author.Needs.{needs}
 use Rattle.tablet.proofs.yubi_check_divisor.Statement.{statement}
 use Rattle.tablet.proofs.yubi_check_divisor.Tie as tie
@@ -11,7 +11,7 @@ flatten-requires : tie.Need-flatten-requires
 flatten-requires c κs = search needs
 
 returns : tie.Need-returns
-returns c = c .flatten .ensures ∙ ap flat (c .before .check-divisor .ensures)
+returns c = c .flatten .ensures ∙ ap as-answer (c .before .check-divisor .ensures)
 
 pub yubi-check-divisor-spec : {M : Type 1} → statement M
 yubi-check-divisor-spec = tie.close (tie.spec check-divisor-requires flatten-requires returns)

@@ -1,5 +1,5 @@
 use mathlib.Core.Path.{ap, _∙_}
-use Rattle.c_answers.specs.Flat.{flat-repeat}
+use Rattle.c_answers.specs.Flat.{as-repeat}
 use borrow.Author.Needs.{needs}
 use Rattle.tablet.proofs.yubi_first_repeat.Statement.{statement}
 use Rattle.tablet.proofs.yubi_first_repeat.Tie as tie
@@ -11,7 +11,7 @@ flatten-repeat-requires : tie.Need-flatten-repeat-requires
 flatten-repeat-requires c κs = search needs
 
 returns : tie.Need-returns
-returns c = c .flatten-repeat .ensures ∙ ap flat-repeat (c .before .first-repeat .ensures)
+returns c = c .flatten-repeat .ensures ∙ ap as-repeat (c .before .first-repeat .ensures .values)
 
 pub yubi-first-repeat-spec : {M : Type 1} → statement M
 yubi-first-repeat-spec = tie.close (tie.spec first-repeat-requires flatten-repeat-requires returns)

@@ -1,5 +1,5 @@
 use mathlib.Core.Path.{ap, _∙_}
-use Rattle.c_answers.specs.Flat.{flat}
+use Rattle.c_answers.specs.Flat.{as-answer}
 use borrow.Author.Needs.{needs}
 use Rattle.tablet.proofs.yubi_opposite.Statement.{statement}
 use Rattle.tablet.proofs.yubi_opposite.Tie as tie
@@ -14,7 +14,7 @@ same-length : tie.Need-same-length
 same-length c = search needs
 
 returns : tie.Need-returns
-returns c = (c .flatten .ensures ∙ ap flat (c .before .before .before .opposite .ensures .answer), c .before .before .before .opposite .ensures .bytes)
+returns c = (c .flatten .ensures ∙ ap as-answer (c .before .before .before .opposite .ensures .values), c .before .before .before .opposite .ensures .bytes)
 
 pub yubi-opposite-spec : {M : Type 1} → statement M
 yubi-opposite-spec = tie.close (tie.spec opposite-requires flatten-requires same-length returns)

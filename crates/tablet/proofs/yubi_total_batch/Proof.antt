@@ -1,8 +1,5 @@
-use Prim.Native.Nat.{ℕ}
-use mathlib.Core.Path.{ap, sym, _∙_}
-use Rattle.tablet.proofs.Outputs.{total-out}
-use Rattle.rules.specs.Calls.{Reply}
-use Rattle.c_answers.specs.Flat.{flat-total}
+use mathlib.Core.Path.{ap, _∙_}
+use Rattle.c_answers.specs.Flat.{as-total}
 use borrow.Author.Needs.{needs}
 use Rattle.tablet.proofs.yubi_total_batch.Statement.{statement}
 use Rattle.tablet.proofs.yubi_total_batch.Tie as tie
@@ -17,7 +14,7 @@ same-length : tie.Need-same-length
 same-length c = search needs
 
 returns : tie.Need-returns
-returns c = let m = c .before .before .before .total-batch in (c .flatten-total .ensures (m .last .1 .1 .0) ∙ ap flat-total (m .ensures), sym (total-out (m .result) (m .last .1 .1 .0)) ∙ ap (λ (x : Reply ℕ). x .out) (m .ensures))
+returns c = let m = c .before .before .before .total-batch in (c .flatten-total .ensures ∙ ap as-total (m .ensures .values), m .ensures .bytes)
 
 pub yubi-total-batch-spec : {M : Type 1} → statement M
 yubi-total-batch-spec =
