@@ -1,83 +1,15 @@
 // A frame's call, run through the exported calls, and its line of text: what tools/README.md says of both. For tests: the contracts
 // say no more than safety asks.
-ghost use mathlib.Core.Path.{_≡_};
-ghost use lib.ListN.{length};
 use c_answers::YubiAnswer;
-use c_answers::YubiMultiple;
-use c_answers::YubiRepeat;
-use c_answers::YubiTotal;
-use scan_flat::YubiRunning;
 use scan_flat::YubiScanned;
 use scan_total::Running;
-
-fn checked(text: &mut [u8], a: YubiAnswer) -> usize {
-    let values = [a.number, a.place, a.length];
-    prints::plain(text, &values)
-}
-
-fn written(text: &mut [u8], a: YubiAnswer, out: &[u8]) -> usize {
-    let values = [a.number, a.place, a.length];
-    prints::with_output(text, &values, out)
-}
-
-fn multiplied(text: &mut [u8], a: YubiMultiple, out: &[u8]) -> usize {
-    let values = [a.number, a.place, a.length, a.doublings, a.additions];
-    prints::with_output(text, &values, out)
-}
-
-fn totalled(text: &mut [u8], a: YubiTotal, out: &[u8]) -> usize {
-    let values = [a.number, a.place, a.length, a.count];
-    prints::with_output(text, &values, out)
-}
-
-fn repeated(text: &mut [u8], a: YubiRepeat) -> usize {
-    let values = [a.number, a.place, a.length, a.first, a.second];
-    prints::plain(text, &values)
-}
-
-fn scanned(text: &mut [u8], a: YubiScanned) -> usize {
-    let t = a.total;
-    let values = [
-        a.number,
-        a.place,
-        a.length,
-        t.weight,
-        t.u0,
-        t.u1,
-        t.u2,
-        t.v0,
-        t.v1,
-        t.v2,
-        t.count,
-    ];
-    prints::plain(text, &values)
-}
-
-fn running(s: &[u8]) -> YubiRunning
-    requires { ⌜ length (now s) ≡ 64 ⌝ }
-{
-    YubiRunning {
-        weight: big_endian::read64(s, 0),
-        u0: big_endian::read64(s, 8),
-        u1: big_endian::read64(s, 16),
-        u2: big_endian::read64(s, 24),
-        v0: big_endian::read64(s, 32),
-        v1: big_endian::read64(s, 40),
-        v2: big_endian::read64(s, 48),
-        count: big_endian::read64(s, 56),
-    }
-}
 
 fn scan(text: &mut [u8], curve: &[u8], record: &[u8], total: &[u8]) -> usize {
     if total.len() != 64 {
         return 0;
     }
-    let a = tablet::yubi_scan(running(total), curve, record);
-    scanned(text, a)
-}
-
-fn is_fresh(t: YubiRunning) -> bool {
-    t.weight | t.u0 | t.u1 | t.u2 | t.v0 | t.v1 | t.v2 | t.count == 0
+    let a = tablet::yubi_scan(answer_lines::running(total), curve, record);
+    answer_lines::scanned(text, a)
 }
 
 // The same scan into a total that is lent. A total of zeros is the library's own fresh one.
@@ -85,14 +17,14 @@ fn scan_lent(text: &mut [u8], curve: &[u8], record: &[u8], total: &[u8]) -> usiz
     if total.len() != 64 {
         return 0;
     }
-    let mut t = running(total);
-    if is_fresh(t) {
+    let mut t = answer_lines::running(total);
+    if answer_lines::is_fresh(t) {
         t = tablet::yubi_fresh_total();
     }
     let s = lends::scan_own(t, curve, record);
     let a = s.answer;
     let after = s.total;
-    scanned(
+    answer_lines::scanned(
         text,
         YubiScanned {
             number: a.number,
@@ -108,11 +40,11 @@ fn scan_inside(text: &mut [u8], curve: &[u8], record: &[u8], total: &[u8]) -> us
     if total.len() != 64 {
         return 0;
     }
-    if !is_fresh(running(total)) {
+    if !answer_lines::is_fresh(answer_lines::running(total)) {
         return scan(text, curve, record, total);
     }
     let s = scan_lent::scan_own(Running::fresh(), curve, record);
-    scanned(
+    answer_lines::scanned(
         text,
         YubiScanned {
             number: s.report.number,
@@ -146,29 +78,29 @@ pub fn line(
 ) -> usize {
     match operation {
         0 => prints::label(text, curve),
-        1 => checked(text, tablet::yubi_check_curve(curve)),
-        2 => checked(text, tablet::yubi_check_divisor(curve, first)),
+        1 => answer_lines::checked(text, tablet::yubi_check_curve(curve)),
+        2 => answer_lines::checked(text, tablet::yubi_check_divisor(curve, first)),
         3..=7 => {
             let a = write(operation, curve, first, second, out);
-            written(text, a, out)
+            answer_lines::written(text, a, out)
         }
         8 => {
             let a = tablet::yubi_multiply(curve, first, second, out);
-            multiplied(text, a, out)
+            answer_lines::multiplied(text, a, out)
         }
         9 => {
             let a = tablet::yubi_total_batch(curve, first, out);
-            totalled(text, a, out)
+            answer_lines::totalled(text, a, out)
         }
-        10 => repeated(text, tablet::yubi_first_repeat(curve, first)),
+        10 => answer_lines::repeated(text, tablet::yubi_first_repeat(curve, first)),
         11 => scan(text, curve, first, total),
         12 => {
             let a = tablet::yubi_multiply_inversion_free(curve, first, second, out);
-            multiplied(text, a, out)
+            answer_lines::multiplied(text, a, out)
         }
         13 => scan_lent(text, curve, first, total),
         14 => scan_inside(text, curve, first, total),
-        15 => checked(text, tablet::yubi_check_order(curve, first, second, total)),
+        15 => answer_lines::checked(text, tablet::yubi_check_order(curve, first, second, total)),
         _ => 0,
     }
 }

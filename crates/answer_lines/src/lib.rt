@@ -1,0 +1,71 @@
+// Each of C's answers as the line that tools/README.md says, and a running total by its 64 bytes. For tests: the contracts say no more than safety asks.
+ghost use mathlib.Core.Path.{_≡_};
+ghost use lib.ListN.{length};
+use c_answers::YubiAnswer;
+use c_answers::YubiMultiple;
+use c_answers::YubiRepeat;
+use c_answers::YubiTotal;
+use scan_flat::YubiRunning;
+use scan_flat::YubiScanned;
+
+pub fn checked(text: &mut [u8], a: YubiAnswer) -> usize {
+    let values = [a.number, a.place, a.length];
+    prints::plain(text, &values)
+}
+
+pub fn written(text: &mut [u8], a: YubiAnswer, out: &[u8]) -> usize {
+    let values = [a.number, a.place, a.length];
+    prints::with_output(text, &values, out)
+}
+
+pub fn multiplied(text: &mut [u8], a: YubiMultiple, out: &[u8]) -> usize {
+    let values = [a.number, a.place, a.length, a.doublings, a.additions];
+    prints::with_output(text, &values, out)
+}
+
+pub fn totalled(text: &mut [u8], a: YubiTotal, out: &[u8]) -> usize {
+    let values = [a.number, a.place, a.length, a.count];
+    prints::with_output(text, &values, out)
+}
+
+pub fn repeated(text: &mut [u8], a: YubiRepeat) -> usize {
+    let values = [a.number, a.place, a.length, a.first, a.second];
+    prints::plain(text, &values)
+}
+
+pub fn scanned(text: &mut [u8], a: YubiScanned) -> usize {
+    let t = a.total;
+    let values = [
+        a.number,
+        a.place,
+        a.length,
+        t.weight,
+        t.u0,
+        t.u1,
+        t.u2,
+        t.v0,
+        t.v1,
+        t.v2,
+        t.count,
+    ];
+    prints::plain(text, &values)
+}
+
+pub fn running(s: &[u8]) -> YubiRunning
+    requires { ⌜ length (now s) ≡ 64 ⌝ }
+{
+    YubiRunning {
+        weight: big_endian::read64(s, 0),
+        u0: big_endian::read64(s, 8),
+        u1: big_endian::read64(s, 16),
+        u2: big_endian::read64(s, 24),
+        v0: big_endian::read64(s, 32),
+        v1: big_endian::read64(s, 40),
+        v2: big_endian::read64(s, 48),
+        count: big_endian::read64(s, 56),
+    }
+}
+
+pub fn is_fresh(t: YubiRunning) -> bool {
+    t.weight | t.u0 | t.u1 | t.u2 | t.v0 | t.v1 | t.v2 | t.count == 0
+}
