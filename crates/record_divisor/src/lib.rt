@@ -29,27 +29,24 @@ pub fn divisor_at(c: Curve, whole: bool, s: &[u8], a: usize) -> DivisorRead
     ensures { λ r. ⌜ DivisorIs c whole (now (s .entry)) a r ⌝ }
 {
     if s.len() <= a {
-        return DivisorRead::Refused(refusals::DIVISOR_LENGTH);
+        return DivisorRead::Refused(refusals::DIVISOR_LENGTH); // empty
     }
     let w = big_endian::wide(s[a]) as usize;
     let g = c.g;
     if g < w {
         return DivisorRead::Refused(refusals::WEIGHT);
     }
-    if record_fits(whole, a + 1 + 16 * w, s.len()) {
-        let x = record_numbers::residues_at(s, a + 1, 2 * w, c.m);
-        let r = x.r;
-        if x.below {
-            let d = Divisor::of_row(w, r);
-            if c.contains(d) {
-                DivisorRead::Taken(d)
-            } else {
-                DivisorRead::Refused(refusals::NOT_ON_CURVE)
-            }
-        } else {
-            DivisorRead::Refused(refusals::DIVISOR_COEFFICIENT)
-        }
-    } else {
-        DivisorRead::Refused(refusals::DIVISOR_LENGTH)
+    if !record_fits(whole, a + 1 + 16 * w, s.len()) {
+        return DivisorRead::Refused(refusals::DIVISOR_LENGTH);
     }
+    let x = record_numbers::residues_at(s, a + 1, 2 * w, c.m);
+    let r = x.r;
+    if !x.below {
+        return DivisorRead::Refused(refusals::DIVISOR_COEFFICIENT);
+    }
+    let d = Divisor::of_row(w, r);
+    if !c.contains(d) {
+        return DivisorRead::Refused(refusals::NOT_ON_CURVE);
+    }
+    DivisorRead::Taken(d)
 }

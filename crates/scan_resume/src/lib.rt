@@ -42,29 +42,33 @@ pub fn take_up(c: Curve, d: Divisor, count: u64) -> TakenUp
             divisor: d,
         };
     }
-    if in_range(d, m) {
-        let x = scan_numbers::resumed(d, m);
-        if c.contains(x) {
-            if refusals::MOST_COUNT < count {
-                return TakenUp {
-                    number: refusals::RUNNING_TOTAL,
-                    divisor: d,
-                };
-            }
-            if count == refusals::MOST_COUNT {
-                return TakenUp {
-                    number: refusals::FULL,
-                    divisor: d,
-                };
-            }
-            return TakenUp {
-                number: 0,
-                divisor: x,
-            };
-        }
+    if !in_range(d, m) {
+        return TakenUp {
+            number: refusals::RUNNING_TOTAL,
+            divisor: d,
+        };
+    }
+    let x = scan_numbers::resumed(d, m);
+    if !c.contains(x) {
+        return TakenUp {
+            number: refusals::RUNNING_TOTAL,
+            divisor: d,
+        };
+    }
+    if refusals::MOST_COUNT < count {
+        return TakenUp {
+            number: refusals::RUNNING_TOTAL,
+            divisor: d,
+        };
+    }
+    if count == refusals::MOST_COUNT {
+        return TakenUp {
+            number: refusals::FULL,
+            divisor: d,
+        };
     }
     TakenUp {
-        number: refusals::RUNNING_TOTAL,
-        divisor: d,
+        number: 0,
+        divisor: x,
     }
 }

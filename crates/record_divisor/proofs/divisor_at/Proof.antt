@@ -3,6 +3,7 @@ use native.Mathlib.Omega.{arith}
 use Rattle.field.proofs.Decide.{decided-yes, decided-no}
 use Rattle.record_divisor.proofs.Divisors.{no-weight, too-heavy, no-room, fits-within, too-large, held, on-curve, off-curve}
 use borrow.Author.Needs.{needs}
+use borrow.Author.Tests.{not-true, not-false}
 use Rattle.record_divisor.proofs.divisor_at.Statement.{statement}
 use Rattle.record_divisor.proofs.divisor_at.Tie as tie
 
@@ -30,6 +31,9 @@ add-record-fits-2 c = search needs
 record-fits-requires : tie.Need-record-fits-requires
 record-fits-requires c κs = search needs
 
+returns-3 : tie.Need-returns-3
+returns-3 c = let s = c .before .before .before .before .before .before .before in no-room (s .args .c) (s .pre .0) (s .args .whole) (s .args .s .now) (s .args .a) _ (c .before .before .before .wide .ensures .0) (c .before .before .before .before .before .if1 .left) (c .before .before .if2 .left) (sym (c .before .record-fits .ensures) ∙ not-true _ (c .if3 .taken))
+
 add-residues-at : tie.Need-add-residues-at
 add-residues-at c = search needs
 
@@ -37,25 +41,22 @@ mul-residues-at : tie.Need-mul-residues-at
 mul-residues-at c = search needs
 
 residues-at-requires : tie.Need-residues-at-requires
-residues-at-requires c κs = let s = c .before .before .before .before .before .before .before in (s .pre .0 .good, omega (arith, s .pre .0 .most), omega (arith, fits-within (s .args .whole) _ _ (sym (c .before .record-fits .ensures) ∙ c .if3 .taken)))
+residues-at-requires c κs = let s = c .before .before .before .before .before .before .before in (s .pre .0 .good, omega (arith, s .pre .0 .most), omega (arith, fits-within (s .args .whole) _ _ (sym (c .before .record-fits .ensures) ∙ not-false _ (c .if3 .left))))
+
+returns-4 : tie.Need-returns-4
+returns-4 c = let s = c .before .before .before .before .before .before .before .before .before .before .before in too-large (s .args .c) (s .pre .0) (s .args .whole) (s .args .s .now) (s .args .a) _ (c .before .before .before .before .before .before .before .wide .ensures .0) (c .before .before .before .before .before .before .before .before .before .if1 .left) (c .before .before .before .before .before .before .if2 .left) (sym (c .before .before .before .before .before .record-fits .ensures) ∙ not-false _ (c .before .before .before .before .if3 .left)) _ (c .before .before .before .residues-at .ensures) (not-true _ (c .if4 .taken))
 
 of-row-requires : tie.Need-of-row-requires
 of-row-requires c κs = search needs
 
 contains-requires : tie.Need-contains-requires
-contains-requires c κs = let s = c .before .before .before .before .before .before .before .before .before .before .before in (s .pre .0, (held (s .args .c) (s .pre .0) (s .args .whole) (s .args .s .now) (s .args .a) _ (c .before .before .before .before .before .before .before .wide .ensures .0) (c .before .before .before .before .before .before .before .before .before .if1 .left) (c .before .before .before .before .before .before .if2 .left) (sym (c .before .before .before .before .before .record-fits .ensures) ∙ c .before .before .before .before .if3 .taken) _ (c .before .before .before .residues-at .ensures) (c .before .if4 .taken) _ (c .of-row .ensures .0) (c .of-row .ensures .1), omega (arith, c .of-row .ensures .0, c .before .before .before .before .before .before .if2 .left)))
-
-returns-3 : tie.Need-returns-3
-returns-3 c = let s = c .before .before .before .before .before .before .before .before .before .before .before .before .before in on-curve (s .args .c) (s .pre .0) (s .args .whole) (s .args .s .now) (s .args .a) _ (c .before .before .before .before .before .before .before .before .before .wide .ensures .0) (c .before .before .before .before .before .before .before .before .before .before .before .if1 .left) (c .before .before .before .before .before .before .before .before .if2 .left) (sym (c .before .before .before .before .before .before .before .record-fits .ensures) ∙ c .before .before .before .before .before .before .if3 .taken) _ (c .before .before .before .before .before .residues-at .ensures) (c .before .before .before .if4 .taken) _ (c .before .before .of-row .ensures .0) (c .before .before .of-row .ensures .1) (decided-yes (c .if5 .taken) (c .before .contains .ensures))
-
-returns-4 : tie.Need-returns-4
-returns-4 c = let s = c .before .before .before .before .before .before .before .before .before .before .before .before .before in off-curve (s .args .c) (s .pre .0) (s .args .whole) (s .args .s .now) (s .args .a) _ (c .before .before .before .before .before .before .before .before .before .wide .ensures .0) (c .before .before .before .before .before .before .before .before .before .before .before .if1 .left) (c .before .before .before .before .before .before .before .before .if2 .left) (sym (c .before .before .before .before .before .before .before .record-fits .ensures) ∙ c .before .before .before .before .before .before .if3 .taken) _ (c .before .before .before .before .before .residues-at .ensures) (c .before .before .before .if4 .taken) _ (c .before .before .of-row .ensures .0) (c .before .before .of-row .ensures .1) (decided-no (c .if5 .left) (c .before .contains .ensures))
+contains-requires c κs = let s = c .before .before .before .before .before .before .before .before .before .before .before .before in (s .pre .0, (held (s .args .c) (s .pre .0) (s .args .whole) (s .args .s .now) (s .args .a) _ (c .before .before .before .before .before .before .before .before .wide .ensures .0) (c .before .before .before .before .before .before .before .before .before .before .if1 .left) (c .before .before .before .before .before .before .before .if2 .left) (sym (c .before .before .before .before .before .before .record-fits .ensures) ∙ not-false _ (c .before .before .before .before .before .if3 .left)) _ (c .before .before .before .before .residues-at .ensures) (not-false _ (c .before .if4 .left)) _ (c .of-row .ensures .0) (c .of-row .ensures .1), omega (arith, c .of-row .ensures .0, c .before .before .before .before .before .before .before .if2 .left)))
 
 returns-5 : tie.Need-returns-5
-returns-5 c = let s = c .before .before .before .before .before .before .before .before .before .before in too-large (s .args .c) (s .pre .0) (s .args .whole) (s .args .s .now) (s .args .a) _ (c .before .before .before .before .before .before .wide .ensures .0) (c .before .before .before .before .before .before .before .before .if1 .left) (c .before .before .before .before .before .if2 .left) (sym (c .before .before .before .before .record-fits .ensures) ∙ c .before .before .before .if3 .taken) _ (c .before .before .residues-at .ensures) (c .if4 .left)
+returns-5 c = let s = c .before .before .before .before .before .before .before .before .before .before .before .before .before .before in off-curve (s .args .c) (s .pre .0) (s .args .whole) (s .args .s .now) (s .args .a) _ (c .before .before .before .before .before .before .before .before .before .before .wide .ensures .0) (c .before .before .before .before .before .before .before .before .before .before .before .before .if1 .left) (c .before .before .before .before .before .before .before .before .before .if2 .left) (sym (c .before .before .before .before .before .before .before .before .record-fits .ensures) ∙ not-false _ (c .before .before .before .before .before .before .before .if3 .left)) _ (c .before .before .before .before .before .before .residues-at .ensures) (not-false _ (c .before .before .before .if4 .left)) _ (c .before .before .of-row .ensures .0) (c .before .before .of-row .ensures .1) (decided-no {b = c .before .contains .result} (not-true _ (c .if5 .taken)) (c .before .contains .ensures))
 
 returns-6 : tie.Need-returns-6
-returns-6 c = let s = c .before .before .before .before .before .before .before in no-room (s .args .c) (s .pre .0) (s .args .whole) (s .args .s .now) (s .args .a) _ (c .before .before .before .wide .ensures .0) (c .before .before .before .before .before .if1 .left) (c .before .before .if2 .left) (sym (c .before .record-fits .ensures) ∙ c .if3 .left)
+returns-6 c = let s = c .before .before .before .before .before .before .before .before .before .before .before .before .before .before in on-curve (s .args .c) (s .pre .0) (s .args .whole) (s .args .s .now) (s .args .a) _ (c .before .before .before .before .before .before .before .before .before .before .wide .ensures .0) (c .before .before .before .before .before .before .before .before .before .before .before .before .if1 .left) (c .before .before .before .before .before .before .before .before .before .if2 .left) (sym (c .before .before .before .before .before .before .before .before .record-fits .ensures) ∙ not-false _ (c .before .before .before .before .before .before .before .if3 .left)) _ (c .before .before .before .before .before .before .residues-at .ensures) (not-false _ (c .before .before .before .if4 .left)) _ (c .before .before .of-row .ensures .0) (c .before .before .of-row .ensures .1) (decided-yes {b = c .before .contains .result} (not-false _ (c .if5 .left)) (c .before .contains .ensures))
 
 pub divisor-at-spec : {M : Type 1} → statement M
 divisor-at-spec =
@@ -69,12 +70,12 @@ divisor-at-spec =
     mul-record-fits
     add-record-fits-2
     record-fits-requires
+    returns-3
     add-residues-at
     mul-residues-at
     residues-at-requires
+    returns-4
     of-row-requires
     contains-requires
-    returns-3
-    returns-4
     returns-5
     returns-6)
