@@ -1,27 +1,25 @@
 -- Folds of a divisor in code. Gives: that a multiple's weight tells whether it is neutral (`folded`); what the loop over the listed primes keeps (`Looking`), to the test of `orders`; and that test with those
 -- of n and of the list, as the rule has them together (`not-zero` and its like, `decided`).
 use Prim.Native.Nat.{ℕ, _+_, _*_, _/_, _%_, _≤_, _<_}
-use mathlib.Core.Path.{_≡_, refl, sym, ap, _∙_, subst}
+use mathlib.Core.Path.{_≡_, sym, ap, _∙_, subst}
 use mathlib.Core.Bool.{Bool, true, false, not, true≢false, false≢true}
 use mathlib.Core.List.{List, [], _∷_}
 use native.Mathlib.Decide.{ℕ-discrete}
 use native.Mathlib.Omega.{arith}
-use lib.Dec.{eqb, ltb}
+use lib.Dec.{eqb}
 use lib.ListN.{length}
-use borrow.Author.Tests.{eq-eqb, ne-eqb, lt-ltb, ltb-true}
+use borrow.Author.Tests.{eq-eqb, ne-eqb}
 use Rattle.orders.specs.Tests.{order?, none-below?}
 use Rattle.rules.specs.Bytes.{number, word32, words32}
 use Rattle.rules.specs.Tests.{weighs?}
-use Rattle.rules.specs.Records.{below?}
 use Rattle.rules.specs.Calls.{listed}
-use Rattle.rules.proofs.calls.Tests.{both-true, true-both}
 use Rattle.rules.proofs.calls.Orders.{Tested}
 use Rattle.field.specs.Primes.{Decides}
 use Rattle.divisor.specs.declared.Divisor.{Divisor}
 use Rattle.divisor.specs.Divisors.{weightOf, pair}
 use Rattle.curve.specs.declared.Curve.{Curve}
 use Rattle.curve.specs.Record.{recordOf}
-use Rattle.witness.specs.Witness.{AllSmall, AllSome, MadeOf}
+use Rattle.witness.specs.Witness.{AllSome, MadeOf}
 use Rattle.witness.proofs.Listed.{none-stop, none-turn, none-end}
 use Rattle.witness.proofs.Accepted.{parts, comes-to}
 use Rattle.folds.specs.declared.Multiple.{Multiple}
@@ -30,6 +28,7 @@ use Rattle.big_numbers.specs.declared.Divided.{Divided}
 use Rattle.big_numbers.specs.Numbers.{DividedBy}
 use Rattle.big_numbers.proofs.Stripped.{row, row-all, row-next, row-end}
 use Rattle.call_factors.proofs.Multiples.{weightless, weighty}
+use Rattle.record_prime.proofs.Prime.{all-small, small-all}
 use Rattle.call_order.specs.Folds.{fold?, Folded, NoneBelow}
 
 -- ---- one fold
@@ -73,17 +72,6 @@ module _ (c : Curve) (a : Divisor) (n : ℕ) (s : List ℕ) (k j : ℕ) (h : Loo
   pub look-end : k ≤ j → NoneBelow c a n (words32 s 0 k) true
   look-end l = record { is = none-end (fold? c a) n (words32 s 0 k) _ (h .is) (row-end s k j l) }
 
--- ---- each below 2^31
-small-below : (l : List ℕ) → AllSmall l → below? 2147483648 l ≡ true
-unfolding below?
-small-below [] h = refl
-small-below (q ∷ l) h = true-both (lt-ltb q 2147483648 (h .0)) (small-below l (h .1))
-
-below-small : (l : List ℕ) → below? 2147483648 l ≡ true → AllSmall l
-unfolding below?
-below-small [] e = tt
-below-small (q ∷ l) e = let t = both-true (ltb q 2147483648) (below? 2147483648 l) e in (ltb-true q 2147483648 (t .0), below-small l (t .1))
-
 -- ---- the whole test: m is the order's number
 module _ (c : Curve) (a : Divisor) (order primes : List ℕ) (m : ℕ) (m-is : m ≡ number order) where
   abbrev Is : Type 0
@@ -97,7 +85,7 @@ module _ (c : Curve) (a : Divisor) (order primes : List ℕ) (m : ℕ) (m-is : m
   not-zero z o = false≢true (sym (ap (λ (k : ℕ). order? (fold? c a) k (listed primes)) z) ∙ passes o)
 
   pub not-made : (MadeOf m (listed primes) → ⊥) → Is → ⊥
-  not-made g o = g (record { is = parts (fold? c a) m (listed primes) (passes o) .made; small = below-small (listed primes) (o .small) })
+  not-made g o = g (record { is = parts (fold? c a) m (listed primes) (passes o) .made; small = small-all (listed primes) (o .small) })
 
   pub not-here : fold? c a m ≡ false → Is → ⊥
   not-here e o = true≢false (sym (parts (fold? c a) m (listed primes) (passes o) .here) ∙ e)
@@ -106,7 +94,7 @@ module _ (c : Curve) (a : Divisor) (order primes : List ℕ) (m : ℕ) (m-is : m
   decided pos w f made here true e = record {
     whole = w;
     few = f;
-    small = small-below (listed primes) (made .small);
+    small = all-small (listed primes) (made .small);
     is = ap (λ (k : ℕ). order? (fold? c a) k (listed primes)) (sym m-is) ∙ comes-to (fold? c a) m (listed primes) pos (made .is) here ∙ sym e;
   }
   decided pos w f made here false e = λ o. true≢false (sym (passes o) ∙ comes-to (fold? c a) m (listed primes) pos (made .is) here ∙ sym e)

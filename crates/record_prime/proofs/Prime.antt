@@ -39,12 +39,13 @@ odd-yes p h = true-both (le-leb 3 p (h .from)) (true-both (le-leb p 230584300921
 odd-no : (p : ℕ) → (Odd p → ⊥) → odd-number? p ≡ false
 odd-no p h = otherwise (odd-number? p) (λ e. let o = odd-number e in h (record { from = o .from; most = o .most; odd = o .odd }))
 
-all-small : (l : List ℕ) → AllSmall l → below? 2147483648 l ≡ true
+-- each listed number below 2^31, as a fact and as the rules' test (`call_order` cites both)
+pub all-small : (l : List ℕ) → AllSmall l → below? 2147483648 l ≡ true
 unfolding below?
 all-small [] h = refl
 all-small (q ∷ l) h = true-both (lt-ltb q 2147483648 (h .0)) (all-small l (h .1))
 
-small-all : (l : List ℕ) → below? 2147483648 l ≡ true → AllSmall l
+pub small-all : (l : List ℕ) → below? 2147483648 l ≡ true → AllSmall l
 unfolding below?
 small-all [] e = tt
 small-all (q ∷ l) e = let t = both-true (ltb q 2147483648) (below? 2147483648 l) e in (ltb-true q 2147483648 (t .0), small-all l (t .1))
