@@ -6,7 +6,8 @@ use Rattle.algebra.proofs.ring.Quote.{ring, quote}
 use Rattle.algebra.proofs.poly.Poly.{poly}
 use Rattle.algebra.proofs.poly.Term.{C, X, constants}
 use Rattle.algebra.proofs.list.Ops.{whole}
-use Rattle.algebra.proofs.list.Value.{pol, mon, pol-nil, pol-cons, mon-cons, pol-whole}
+use Rattle.algebra.proofs.list.Value.{pol, mon, pol-cons, mon-cons, pol-whole}
+use Rattle.algebra.proofs.list.Short.{pol1, pol2, pol3}
 
 module _ (F : CRing) where
   open CRing F using (El as A, add as _⊕_, mul as _⊗_, neg as opp)
@@ -27,15 +28,6 @@ module _ (F : CRing) where
   twice-is : (v : A) → C F (v ⊕ v) ≡ C F v + C F v
   twice-is v = (constants F) .h-add v v
 
-  one-is : (v0 : A) → pol F (v0 ∷ []) ≡ C F v0
-  one-is v0 = pol-cons F v0 [] ∙ ap (λ s. C F v0 + X F * s) (pol-nil F) ∙ ring (poly F) (C F v0 ∷ X F ∷ []) (search quote depth 40) refl
-
-  two-is : (v0 v1 : A) → pol F (v0 ∷ v1 ∷ []) ≡ C F v0 + X F * C F v1
-  two-is v0 v1 = pol-cons F v0 (v1 ∷ []) ∙ ap (λ s. C F v0 + X F * s) (one-is v1)
-
-  three-is : (v0 v1 v2 : A) → pol F (v0 ∷ v1 ∷ v2 ∷ []) ≡ C F v0 + X F * (C F v1 + X F * C F v2)
-  three-is v0 v1 v2 = pol-cons F v0 (v1 ∷ v2 ∷ []) ∙ ap (λ s. C F v0 + X F * s) (two-is v1 v2)
-
   -- the first coefficients of a list, and of a monic one
   next : (h : A) (l : List A) {b : P} → pol F l ≡ b → pol F (h ∷ l) ≡ C F h + X F * b
   next h l e = pol-cons F h l ∙ ap (λ s. C F h + X F * s) e
@@ -47,7 +39,7 @@ module _ (F : CRing) where
     pub square-one : pol F ((f0 ⊖ v0 ⊗ v0) ∷ whole F t) ≡ mon F (f0 ∷ t) + neg (pol F (v0 ∷ []) * pol F (v0 ∷ []))
     square-one = next (f0 ⊖ v0 ⊗ v0) (whole F t) (pol-whole F t) ∙ ap (λ s. s + X F * mon F t) (less-is f0 v0 v0)
         ∙ ring (poly F) (C F f0 ∷ C F v0 ∷ X F ∷ mon F t ∷ []) (search quote depth 40) refl
-        ∙ sym (ap₂ (λ s v. s + neg (v * v)) (mon-cons F f0 t) (one-is v0))
+        ∙ sym (ap₂ (λ s v. s + neg (v * v)) (mon-cons F f0 t) (pol1 F v0))
 
     module _ (f1 f2 v1 : A) where
       pub square-two : pol F ((f0 ⊖ v0 ⊗ v0) ∷ (f1 ⊖ (v0 ⊕ v0) ⊗ v1) ∷ (f2 ⊖ v1 ⊗ v1) ∷ whole F t)
@@ -57,7 +49,7 @@ module _ (F : CRing) where
           ∙ ap₂ (λ s r. s + X F * r) (less-is f0 v0 v0)
           (ap₂ (λ s r. s + X F * r) (less-is f1 (v0 ⊕ v0) v1 ∙ ap (λ s. C F f1 + neg (s * C F v1)) (twice-is v0)) (ap (λ s. s + X F * mon F t) (less-is f2 v1 v1)))
           ∙ ring (poly F) (C F f0 ∷ C F f1 ∷ C F f2 ∷ C F v0 ∷ C F v1 ∷ X F ∷ mon F t ∷ []) (search quote depth 40) refl
-          ∙ sym (ap₂ (λ s v. s + neg (v * v)) (next-mon f0 (f1 ∷ f2 ∷ t) (next-mon f1 (f2 ∷ t) (mon-cons F f2 t))) (two-is v0 v1))
+          ∙ sym (ap₂ (λ s v. s + neg (v * v)) (next-mon f0 (f1 ∷ f2 ∷ t) (next-mon f1 (f2 ∷ t) (mon-cons F f2 t))) (pol2 F v0 v1))
 
       module _ (f3 f4 v2 : A) where
         abbrev h2 : A
@@ -80,4 +72,4 @@ module _ (F : CRing) where
             (ap₂ (λ s r. s + X F * r) (less-is f3 (v1 ⊕ v1) v2 ∙ ap (λ s. C F f3 + neg (s * C F v2)) (twice-is v1))
             (ap (λ s. s + X F * mon F t) (less-is f4 v2 v2)))))
             ∙ ring (poly F) (C F f0 ∷ C F f1 ∷ C F f2 ∷ C F f3 ∷ C F f4 ∷ C F v0 ∷ C F v1 ∷ C F v2 ∷ X F ∷ mon F t ∷ []) (search quote depth 40) refl
-            ∙ sym (ap₂ (λ s v. s + neg (v * v)) (next-mon f0 (f1 ∷ f2 ∷ f3 ∷ f4 ∷ t) (next-mon f1 (f2 ∷ f3 ∷ f4 ∷ t) (next-mon f2 (f3 ∷ f4 ∷ t) (next-mon f3 (f4 ∷ t) (mon-cons F f4 t))))) (three-is v0 v1 v2))
+            ∙ sym (ap₂ (λ s v. s + neg (v * v)) (next-mon f0 (f1 ∷ f2 ∷ f3 ∷ f4 ∷ t) (next-mon f1 (f2 ∷ f3 ∷ f4 ∷ t) (next-mon f2 (f3 ∷ f4 ∷ t) (next-mon f3 (f4 ∷ t) (mon-cons F f4 t))))) (pol3 F v0 v1 v2))

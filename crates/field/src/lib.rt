@@ -164,6 +164,13 @@ impl Residue {
         false
     }
 
+    pub fn is_one(self, m: Modulus) -> bool
+        requires { ⌜ Kept m self ⌝ }
+        ensures { λ r. ⌜ Decides r (el m self ≡ zmod (m .p) .one) ⌝ }
+    {
+        self.settle(m).equal(Residue::one(m), m)
+    }
+
     pub fn add(self, other: Residue, m: Modulus) -> Residue
         requires { ⌜ Kept m self × Kept m other ⌝ }
         ensures { λ r. ⌜ Stands m r (zmod (m .p) .add (el m self) (el m other)) ⌝ }

@@ -8,13 +8,13 @@ use mathlib.Core.List.{List, [], _∷_}
 use native.Mathlib.Omega.{arith}
 use lib.ListN.{getD}
 use Rattle.algebra.proofs.ring.CRing.{CRing, add-neg, add-zer, mul-zer}
-use Rattle.algebra.proofs.ring.Quote.{ring, quote}
 use Rattle.algebra.proofs.poly.Series.{Ser, addS, negS}
 use Rattle.algebra.proofs.poly.Bound.{Below}
 use Rattle.algebra.proofs.poly.Poly.{poly, coef, poly-ext, coef-add, coef-neg}
-use Rattle.algebra.proofs.poly.Term.{at, C, X}
+use Rattle.algebra.proofs.poly.Term.{at, C}
 use Rattle.algebra.proofs.list.Ops.{addL, mulL, negL, whole}
-use Rattle.algebra.proofs.list.Value.{pol, mon, coef-pol, pol-nil, pol-cons, pol-whole, pol-add, pol-mul, pol-neg}
+use Rattle.algebra.proofs.list.Value.{pol, mon, coef-pol, pol-whole, pol-add, pol-mul, pol-neg}
+use Rattle.algebra.proofs.list.Short.{pol1}
 
 module _ (F : CRing) where
   open CRing F using (El as A, zer as 𝟘)
@@ -46,13 +46,10 @@ module _ (F : CRing) where
   lst (ti a b) = mulL F (lst a) (lst b)
   lst (ne a) = negL F (lst a)
 
-  constant : (a : A) → C F a ≡ pol F (a ∷ [])
-  constant a = sym (pol-cons F a [] ∙ ap (λ t. C F a ⊕ X F * t) (pol-nil F) ∙ ring (poly F) (C F a ∷ X F ∷ []) (search quote depth 40) refl)
-
   pub listed : (e : Px) → val e ≡ pol F (lst e)
   listed (lo l) = refl
   listed (mo l) = sym (pol-whole F l)
-  listed (co a) = constant a
+  listed (co a) = sym (pol1 F a)
   listed (pl a b) = ap₂ _⊕_ (listed a) (listed b) ∙ sym (pol-add F (lst a) (lst b))
   listed (ti a b) = ap₂ _*_ (listed a) (listed b) ∙ sym (pol-mul F (lst a) (lst b))
   listed (ne a) = ap neg (listed a) ∙ sym (pol-neg F (lst a))

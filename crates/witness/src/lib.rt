@@ -63,13 +63,6 @@ pub fn is_made_of(n: u64, q: [u64; MOST], k: usize) -> bool
     left == 1
 }
 
-fn is_one(x: Residue, m: Modulus) -> bool
-    requires { ⌜ Kept m x ⌝ }
-    ensures { λ r. ⌜ Decides r (el m x ≡ zmod (m .p) .one) ⌝ }
-{
-    x.settle(m).equal(Residue::one(m), m)
-}
-
 // Whether no power of a by n / q is 1, for each q of the first k listed.
 fn is_none_below(a: Residue, n: u64, q: [u64; MOST], k: usize, m: Modulus) -> bool
     requires { ⌜ Kept m a × ((k ≤ 15) × AllSome (take k q)) ⌝ }
@@ -77,7 +70,7 @@ fn is_none_below(a: Residue, n: u64, q: [u64; MOST], k: usize, m: Modulus) -> bo
 {
     let mut j: usize = 0;
     while j < k {
-        if is_one(a.power(n / q[j], m), m) {
+        if a.power(n / q[j], m).is_one(m) {
             return false;
         }
         j += 1;
@@ -97,7 +90,7 @@ pub fn accepts(p: u64, a: u64, q: [u64; MOST], k: usize) -> bool
     let m = Modulus::of(p);
     match Residue::read(a, m) {
         ResidueRead::Below(x) => {
-            if !is_one(x.power(n, m), m) {
+            if !x.power(n, m).is_one(m) {
                 return false;
             }
             is_none_below(x, n, q, k, m)

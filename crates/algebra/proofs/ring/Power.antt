@@ -1,19 +1,19 @@
--- Powers in a commutative ring. Gives: `power`; how it goes with an exponent that is one more or twice another, a sum or a product; powers of a product and of 1; the test that a power
--- is 1 (`power-one?`).
+-- Powers in a commutative ring. Gives: `power`; how it goes with an exponent that is one more or twice another, a sum or a product, or a power of 2; powers of a product, of 1 and of 0; the test that
+-- a power is 1 (`power-one?`).
 -- Shut (`unfoldable`): `power`, `power-one?`.
-use Prim.Native.Nat.{ℕ, zero, suc, _+_, _-_, _*_, _/_, _%_, _<_}
+use Prim.Native.Nat.{ℕ, zero, suc, _+_, _-_, _*_, _/_, _%_, _^_, _<_}
 use mathlib.Core.Path.{_≡_, refl, sym, ap, _∙_}
 use mathlib.Core.List.{[], _∷_}
 use mathlib.Core.Logic.{_↔_}
 use mathlib.Core.Bool.{Bool, true, decide, decide-iff}
 use native.Mathlib.Omega.{arith}
-use native.Mathlib.Nat.{zero-add, suc-mul, zero-mul}
-use Rattle.algebra.proofs.ring.CRing.{CRing, mul-one}
+use native.Mathlib.Nat.{zero-add, suc-mul, zero-mul, pow-suc}
+use Rattle.algebra.proofs.ring.CRing.{CRing, mul-one, zer-mul}
 use Rattle.algebra.proofs.ring.Quote.{ring, quote}
 use Rattle.algebra.proofs.ring.Field.{Arith}
 
 module _ (R : CRing) where
-  open CRing R using (El as A, mul as _⊗_, one as 𝟙, one-mul, mul-assoc)
+  open CRing R using (El as A, mul as _⊗_, zer as 𝟘, one as 𝟙, one-mul, mul-assoc)
 
   infixl 70 _⊗_
   unfoldable pub power : A → ℕ → A
@@ -23,6 +23,14 @@ module _ (R : CRing) where
   pub power-none : (a : A) → power a 0 ≡ 𝟙
   unfolding power
   power-none a = refl
+
+  pub power-suc : (a : A) (n : ℕ) → power a (suc n) ≡ a ⊗ power a n
+  unfolding power
+  power-suc a n = refl
+
+  pub power-first : (a : A) → power a 1 ≡ a
+  unfolding power
+  power-first a = mul-one R a
 
   pub power-more : (a : A) (n : ℕ) → 0 < n → power a n ≡ a ⊗ power a (n - 1)
   unfolding power
@@ -56,6 +64,16 @@ module _ (R : CRing) where
   unfolding power
   power-of-one zero = refl
   power-of-one (suc n) = one-mul (power 𝟙 n) ∙ power-of-one n
+
+  pub power-of-zer : (n : ℕ) → power 𝟘 (suc n) ≡ 𝟘
+  power-of-zer n = power-suc 𝟘 n ∙ zer-mul R (power 𝟘 n)
+
+  -- by squaring
+  pub power-double : (a : A) (i : ℕ) → power a (2 ^ suc i) ≡ power a (2 ^ i) ⊗ power a (2 ^ i)
+  power-double a i = ap (power a) {x = 2 ^ suc i} {y = 2 ^ i + 2 ^ i} (omega (arith, pow-suc 2 i)) ∙ power-add a (2 ^ i) (2 ^ i)
+
+  pub power-square : (a : A) (i : ℕ) → power (a ⊗ a) (2 ^ i) ≡ power a (2 ^ suc i)
+  power-square a i = power-of-mul a a (2 ^ i) ∙ sym (power-double a i)
 
 module _ (K : Arith) (a : K .base .El) (n : ℕ) where
   unfoldable pub power-one? : Bool

@@ -20,7 +20,6 @@ use Rattle.field.proofs.Residue.power.Reads as power-reads
 use Rattle.field.proofs.Residue.read.Reads as read-reads
 use Rattle.witness.proofs.is_made_of.Reads as is-made-of-reads
 use Rattle.witness.proofs.is_none_below.Reads as is-none-below-reads
-use Rattle.witness.proofs.is_one.Reads as is-one-reads
 
 -- src/lib.rt:93:13
 sub-n : tie.Need-sub-n

@@ -16,7 +16,6 @@ use Rattle.witness.proofs.is_none_below.Tie as tie
 use Rattle.witness.proofs.is_none_below.Reads as reads
 use Rattle.witness.proofs.is_none_below.Lts as lts
 use Rattle.field.proofs.Residue.power.Reads as power-reads
-use Rattle.witness.proofs.is_one.Reads as is-one-reads
 
 abbrev Inv-loop : tie.InvT-loop
 Inv-loop a n k m q j₀ j = (j ≤ k) × (none-below? (power-one? (modulo (m .p)) (el m a)) n (drop j (take k q)) ≡ none-below? (power-one? (modulo (m .p)) (el m a)) n (take k q))
