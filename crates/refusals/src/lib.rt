@@ -37,6 +37,8 @@ pub const WITNESS: u64 = 18;
 
 pub const EMPTY_KEY: u64 = 19;
 
+pub const NO_ROOT: u64 = 26;
+
 pub const ORDER: u64 = 27;
 
 // The most records of a batch or of a running total, as a length and as a count.

@@ -7,7 +7,7 @@ use mathlib.Core.Path.{_≡_, sym, _∙_, subst}
 use mathlib.Core.List.{List, [], _∷_, _++_, map, foldl, flatten, Perm}
 use mathlib.Core.Bool.{true}
 use mathlib.Core.Logic.{_↔_}
-use lib.ListN.{length, drop}
+use lib.ListN.{length, take, drop}
 use Rattle.algebra.proofs.ring.Field.{Arith}
 use Rattle.algebra.proofs.zmod.Prime.{Prime}
 use Rattle.algebra.proofs.zmod.PrimeField.{modulo}
@@ -38,6 +38,8 @@ use Rattle.rules.proofs.calls.Taken.{total-result}
 use Rattle.rules.proofs.calls.Keys.{EmptyKey}
 use Rattle.rules.specs.Calls.{check-order}
 use Rattle.rules.proofs.calls.Orders.{Ordered, OrderDone, NotOrder}
+use Rattle.rules.specs.Calls.{split-call}
+use Rattle.rules.proofs.calls.Splits.{Unsplit, SplitDone}
 use Rattle.rules.proofs.calls.Rewrites
 use Rattle.rules.proofs.calls.Written
 use Rattle.rules.proofs.calls.Delivered
@@ -46,6 +48,7 @@ use Rattle.rules.proofs.calls.Same as SameLaws
 use Rattle.rules.proofs.calls.Taken
 use Rattle.rules.proofs.calls.Keys
 use Rattle.rules.proofs.calls.Orders
+use Rattle.rules.proofs.calls.Splits
 use Rattle.rules.proofs.calls.Done
 use Rattle.rules.proofs.calls.Sums
 use Rattle.rules.proofs.calls.Totals
@@ -169,6 +172,20 @@ module _ (s a order primes : List ℕ) where
 
   pub order-refused : (check-order s a order primes .number ≡ 27) ↔ NotOrder s a order primes
   order-refused = Orders.order-27 s a order primes
+
+-- ---- splitting a divisor (W-213)
+module _ (s a out : List ℕ) where
+  -- 26 exactly where the weight is below 2 or no number below p is a root of u, what is checked before passing
+  pub split-refused : (answered (split-call s a out) ≡ 26) ↔ Unsplit s a
+  split-refused = Splits.split-26 s a out
+
+  -- where it answers 0: 34 or 50 bytes, two records, of the part at the root that the ticket names and of the rest
+  pub split-back : answered (split-call s a out) ≡ 0 → SplitDone s a (split-call s a out)
+  split-back = Splits.split-done s a out
+
+  -- and their sum is the divisor
+  pub split-then-add : answered (split-call s a out) ≡ 0 → (o : List ℕ) → add-call s (take 17 (front (split-call s a out))) (drop 17 (front (split-call s a out))) o ≡ rewrite-divisor s a o
+  split-then-add = Splits.split-add s a out
 
 -- ---- demand 3: totals
 module _ (s : List ℕ) {c : CurveRecord} (ec : read-curve s ≡ taken c) (rs : List (List ℕ)) (good : AllRecords c rs) where

@@ -32,5 +32,8 @@ pub mod Totals
 pub mod Scans
 pub mod Sequences
 pub mod Rewrites
+pub mod Search
+pub mod SplitRoots
+pub mod Splits
 -- the place of a refusal
 pub mod CallPlaces

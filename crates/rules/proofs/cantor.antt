@@ -17,3 +17,5 @@ pub mod Unique
 pub mod Group
 pub mod Totals
 pub mod Signed
+-- W-213
+pub mod Split

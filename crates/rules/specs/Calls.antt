@@ -1,6 +1,6 @@
 -- Document 01, "Numbers the tablet shows": each call as a function from the bytes lent to its whole answer and to every byte of the output as it
 -- returns. A call's rule is what it comes to, its checks in their order and then a result; `deliver` makes the answer of it, the same for every call: 13
--- where the output is too short, and a refusal has length 0, none of the call's own numbers, and leaves the output as it was. Here are the numbers 12 to 15, 19 and 27;
+-- where the output is too short, and a refusal has length 0, none of the call's own numbers, and leaves the output as it was. Here are the numbers 12 to 15, 19, 26 and 27;
 -- 16 and 17 are the program's (texts). At the end, of "The pole's list", the running total and the scan.
 use Prim.Native.Nat.{ℕ, _+_, _/_, _%_}
 use mathlib.Core.List.{List, [], _∷_, _++_}
@@ -8,6 +8,8 @@ use mathlib.Core.Bool.{Bool, not}
 use lib.Dec.{eqb, ltb, leb}
 use lib.ListN.{length}
 use lib.Seq.{sets}
+use Rattle.algebra.proofs.zmod.Zmod.{zmod}
+use Rattle.algebra.proofs.zmod.PrimeField.{modulo}
 use Rattle.orders.specs.Tests.{order?}
 use Rattle.rules.specs.Bytes.{number, words32}
 use Rattle.rules.specs.Pair.{neutral, opposite}
@@ -16,6 +18,7 @@ use Rattle.rules.specs.Multiple.{multiple, doublings, additions}
 use Rattle.rules.specs.Tests.{weighs?, on-curve?}
 use Rattle.rules.specs.Checks.{Checked, refused, taken, choose, Check, first-failed, go-on}
 use Rattle.rules.specs.Records.{both, CurveRecord, curve, PairOf, made-of, below?, elements, numbers, read-curve, read-divisor, form-of, curve-bytes, divisor-bytes}
+use Rattle.rules.specs.Split.{part-at, rest-at, split-root}
 use Rattle.rules.specs.Lists.{batch, most-records, Repeat, first-repeat}
 
 pub record Answer : Type 0 where
@@ -133,6 +136,17 @@ check-order s a order primes = (deliver (tt {0}) [] (
     go-on (read-divisor c 1 a) (λ x.
     first-failed (order-checks c order primes x)
     (record { bytes = []; own = tt }))))) .answer
+
+-- ---- W-213, a divisor split at a root of its u: the part there, then the rest, their records one after the other; 26 where there is no such root
+abbrev pub split-result : (c : CurveRecord) → PairOf c → zmod (c .p) .El → Result (Unit {0})
+split-result c x y = record { bytes = divisor-bytes (c .p) (part-at (modulo (c .p)) y x) ++ divisor-bytes (c .p) (rest-at (modulo (c .p)) y x); own = tt }
+
+unfoldable pub split-call : List ℕ → List ℕ → List ℕ → Reply (Unit {0})
+unfolding read-curve divisor-bytes part-at rest-at split-root
+split-call s a out = deliver tt out (
+    go-on (read-curve s) (λ c.
+    go-on (read-divisor c 1 a) (λ x.
+    go-on (split-root (c .p) x) (λ y. taken (split-result c x y)))))
 
 -- ---- a batch: its total with the count of records, its first repeat
 unfoldable pub total-call : List ℕ → List ℕ → List ℕ → Reply ℕ

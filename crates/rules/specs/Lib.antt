@@ -8,4 +8,5 @@ pub mod Checks
 pub mod Records
 pub mod First
 pub mod Lists
+pub mod Split
 pub mod Calls

@@ -3,6 +3,7 @@
 ghost use mathlib.Core.Path.{_≡_};
 ghost use Rattle.rules.specs.Calls.{check-curve, check-divisor, rewrite-curve, rewrite-divisor, add-call, double-call, opposite-call, multiply-call, total-call, repeat-call};
 ghost use Rattle.rules.specs.Calls.{check-order};
+ghost use Rattle.rules.specs.Calls.{split-call};
 ghost use Rattle.rules.specs.Calls.{fresh};
 ghost use Rattle.scan_flat.specs.Flats.{flat-running, scanned-as, FlatScanIs};
 ghost use Rattle.c_answers.specs.Flat.{flat, flat-multiple, flat-total, flat-repeat};
@@ -66,6 +67,14 @@ pub extern "C" fn yubi_opposite(curve: &[u8], a: &[u8], out: &mut [u8]) -> YubiA
     ensures output { λ r. ⌜ now (out .exit) ≡ opposite-call (now (curve .entry)) (now (a .entry)) (now (out .entry)) .out ⌝ }
 {
     c_answers::flatten(call_group::opposite(curve, a, out))
+}
+
+#[no_mangle]
+pub extern "C" fn yubi_split(curve: &[u8], divisor: &[u8], out: &mut [u8]) -> YubiAnswer
+    ensures answer { λ r. ⌜ r ≡ flat (split-call (now (curve .entry)) (now (divisor .entry)) (now (out .entry)) .answer) ⌝ }
+    ensures output { λ r. ⌜ now (out .exit) ≡ split-call (now (curve .entry)) (now (divisor .entry)) (now (out .entry)) .out ⌝ }
+{
+    c_answers::flatten(call_split::split(curve, divisor, out))
 }
 
 #[no_mangle]

@@ -15,6 +15,11 @@ use Rattle.rules.specs.Checks.{Checked, refused, taken, first-failed, go
 use Rattle.rules.specs.Records.{CurveRecord, curve, PairOf, read-curve, read-divisor}
 use Rattle.rules.specs.Lists.{batch}
 use Rattle.rules.specs.Calls.{order-checks, check-order}
+use Rattle.rules.specs.Calls.{split-call}
+use Rattle.rules.specs.Split.{split-root}
+use Rattle.rules.proofs.calls.CurveRecords.{accepts}
+use Rattle.rules.proofs.calls.SplitRoots.{split-refused}
+use Rattle.rules.proofs.calls.Splits.{pos-of}
 use Rattle.rules.specs.Calls.{Result, Reply, deliver, check-curve, check-divisor, rewrite-curve, from-one, rewrite-divisor, double-call, opposite-call, add-call, multiply-checks, multiply-call, total-call, repeat-call, Running, resume, scan-call}
 use Rattle.rules.proofs.calls.Checks.{refused-as}
 use Rattle.rules.proofs.calls.Places.{At, None, Placed, elsewhere, placed-on, placed-taken, curve-place, divisor-place, resume-place, Faulty, batch-place}
@@ -82,6 +87,12 @@ module _ (s out : List ℕ) where
     where
       K : ℕ → ℕ → Type 0
       K = On s (λ c. OfTwo c a b)
+
+  -- 26 has place 0
+  pub split-place : (a : List ℕ) → Stands Alone (split-call s a out)
+  unfolding split-call
+  split-place a = delivered-place tt out Alone _ (on-curve Alone s _ (λ c e. alone c a _ (λ x.
+      placed-on Alone None (split-root (c .p) x) _ (λ n k q. let r = split-refused (c .p) x (pos-of c (accepts s e)) q in elsewhere None (λ l u. omega (arith, r .0)) (r .1)) (λ n j q h. absurd h) (λ y q. placed-taken Alone _))))
 
   -- 12 and 19 have place 0
   pub multiply-place : (a scalar : List ℕ) → Stands Alone (multiply-call s a scalar out)

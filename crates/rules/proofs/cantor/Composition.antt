@@ -50,7 +50,7 @@ module _ (E : Curve) (o : OverField E) where
   monic-product l m = subst (Monic F (length l + length m)) (sym (coef-mul F (mon F l) (mon F m))) (monic-mul F (mon-monic F l) (mon-monic F m))
 
   -- where u1 · u2 = d · d · q and u1, u2, d are monic, q is monic already
-  already-monic : (l m d q : L) → mon F l * mon F m ≡ mon F d * mon F d * pol F q → mon F (monic (E .K) q) ≡ pol F q
+  pub already-monic : (l m d q : L) → mon F l * mon F m ≡ mon F d * mon F d * pol F q → mon F (monic (E .K) q) ≡ pol F q
   unfolding monic low
   already-monic l m d q h = go (top (E .K) q) (top-is K q)
     where

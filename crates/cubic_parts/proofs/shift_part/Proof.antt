@@ -1,0 +1,42 @@
+use Rattle.field.proofs.Laws.{settled-kept, zero-settles}
+use Rattle.cubic_parts.proofs.Parts.{part-of, shift-leaves}
+use borrow.Author.Needs.{needs}
+use Rattle.cubic_parts.proofs.shift_part.Statement.{statement}
+use Rattle.cubic_parts.proofs.shift_part.Tie as tie
+
+one-requires : tie.Need-one-requires
+one-requires c κs = search needs
+
+zero-requires : tie.Need-zero-requires
+zero-requires c κs = search needs
+
+number-requires : tie.Need-number-requires
+number-requires c κs = search needs
+
+sub-raise : tie.Need-sub-raise
+sub-raise c = search needs
+
+raise-requires : tie.Need-raise-requires
+raise-requires c κs = let s = c .before .before .before in record { by = s .pre .by; base = record { k0 = s .pre .kept; k1 = settled-kept (s .args .m) (c .before .before .one .ensures .settled); k2 = settled-kept (s .args .m) (zero-settles (s .args .m) _ (s .pre .by .good) (c .before .zero .ensures) .settled) } }
+
+sub-requires : tie.Need-sub-requires
+sub-requires c κs = search needs
+
+common-requires : tie.Need-common-requires
+common-requires c κs = search needs
+
+returns : tie.Need-returns
+returns c = let s = c .before .before .before .before .before .before .before .before in part-of (s .args .m) (s .pre .by .good) (s .args .u) _ (c .common .ensures) _ _ (shift-leaves (s .args .m) (s .args .u) (c .before .before .before .before .before .before .before .one .ensures) (zero-settles (s .args .m) _ (s .pre .by .good) (c .before .before .before .before .before .before .zero .ensures)) (s .args .a) _ (c .before .before .before .before .before .number .ensures) (c .before .before .before .before .raise .ensures) (c .before .before .before .sub .ensures))
+
+pub shift-part-spec : {M : Type 1} → statement M
+shift-part-spec =
+    tie.close
+    (tie.spec
+    one-requires
+    zero-requires
+    number-requires
+    sub-raise
+    raise-requires
+    sub-requires
+    common-requires
+    returns)
