@@ -1,6 +1,6 @@
 """corner_table.py: document 01's "Street corners" as tables, line by line, and the records they speak of; corners.py runs them
 through the calls of the product, selfcheck.py holds reference.py to them. All is written out by hand from the document, the
-witnesses and what breaks them from W-201, the orders and what breaks them from W-214.
+witnesses and what breaks them from W-201, the splits from W-213, the orders and what breaks them from W-214.
 """
 from records import curve_record, divisor_record, in_4_bytes
 
@@ -226,6 +226,47 @@ BROKEN_ORDERS = with_lists(
     ("a byte alone", CURVE_A, NEUTRAL, b"\1", b"\0", 27),
     ("32 listed", CURVE_A, XXX_X1, b"\n", (2, 5) * 16, 27),
     ("33 listed", CURVE_A, XXX_X1, b"\n", (2, 5) * 16 + (5,), 27),
+)
+
+def splits_at_largest(g):
+    """On x^(2g+1) + 1 modulo 2^61 - 1, where 2 is the square of 2^31: the points over 0, 1 and -1 have y = 1, 2^31 and 0."""
+    curve = power_and_1(g, LARGEST, BY_LARGEST)
+    at_1, at_less_1 = divisor_record([LARGEST - 1], [2**31]), X1_0
+    yield "split-v2-genus-%d-1-and-less-1" % g, curve, divisor_record([LARGEST - 1, 0], [2**30, 2**30]), (at_less_1, at_1)
+    yield "split-v2-genus-%d-0-and-less-1" % g, curve, XXX_X1, (X_1, X1_0)
+    yield "split-v2-genus-%d-double" % g, curve, XX_1, (X_1, X_1)
+    if g == 3:
+        both = divisor_record([0, LARGEST - 1], [1, 2**31 - 1])
+        yield "split-v2-0-and-1-and-less-1", curve, divisor_record([0, LARGEST - 1, 0], [1, 2**30, 2**30 - 1]), (at_less_1, both)
+        yield "split-v2-triple", curve, B_XXX_1, (X_1, XX_1)
+
+
+# W-213: name, curve, divisor, its two parts, or None for 26. On A there are points (0, 1), (1, 3), (5, 5) and (6, 0), on B (0, 1), (5, 2), (6, 3),
+# (8, 5) and (10, 0).
+SPLITS = (
+    ("split-A1", CURVE_A, XX6X, (X_1, X6_3)),
+    ("split-A2", CURVE_A, XX_1, (X_1, X_1)),
+    ("split-A3", CURVE_A, XX_6, (X_6, X_6)),
+    ("split-A9", CURVE_A, XX4X4, (divisor_record([2], [5]), divisor_record([2], [5]))),
+    ("split-A-y=0", CURVE_A, XXX_X1, (X_1, X1_0)),
+    ("split-A-larger-root-first", CURVE_A, divisor_record([6, 0], [5, 5]), (X1_0, X6_3)),  # roots 6 and 1, so u_0 = 1 and 6
+    ("split-A-neutral", CURVE_A, NEUTRAL, None),
+    ("split-A-weight-1", CURVE_A, X_1, None),
+    ("split-A-no-root", CURVE_A, divisor_record([1, 0], [4, 1]), None),  # (x² + 1, x + 4)
+    ("split-B-triple", CURVE_B, B_XXX_1, (X_1, XX_1)),
+    ("split-B-triple-opposite", CURVE_B, B_XXX_10, (B_X_10, divisor_record([0, 0], [10, 0]))),
+    ("split-B-three", CURVE_B, divisor_record([2, 8, 3], [8, 1, 0]), (divisor_record([3], [5]), divisor_record([8, 0], [8, 1]))),  # 5, 6 and 8
+    ("split-B-double-0-and-5", CURVE_B, divisor_record([0, 0, 6], [1, 0, 4]), (divisor_record([6], [2]), XX_1)),
+    ("split-B-0-and-double-6", CURVE_B, divisor_record([0, 3, 10], [1, 4, 0]), (divisor_record([5], [3]), divisor_record([0, 5], [1, 4]))),
+    ("split-B-0-alone", CURVE_B, divisor_record([0, 9, 0], [1, 2, 6]), (X_1, divisor_record([9, 0], [2, 2]))),  # x·(x² + 9)
+    ("split-B-no-root", CURVE_B, divisor_record([1, 5, 0], [3, 0, 6]), None),  # x³ + 5x + 1
+    ("split-B-weight-2", CURVE_B, XXX_X1, (X_1, X1_0)),
+    ("split-B-weight-2-double", CURVE_B, XX_1, (X_1, X_1)),
+    ("split-B-weight-2-no-root", CURVE_B, divisor_record([9, 0], [2, 2]), None),
+    ("split-B-weight-1", CURVE_B, B_X_10, None),
+    ("split-B-neutral", CURVE_B, NEUTRAL, None),
+    *splits_at_largest(2),
+    *splits_at_largest(3),
 )
 
 # Version 2: name, curve, number. Those that have 18 are a fault each, where it can stand alone.

@@ -3,7 +3,7 @@
 
     python3 tools/reference.py tally DIR    prints what the program prints for DIR's files `curve` and `batch`
 
-It was written from document 01 and, of document 02, W-201, W-205, W-207, W-208 and W-214, and shares no code with the product. Where the document leaves a choice (the flat
+It was written from document 01 and, of document 02, W-201, W-205, W-207, W-208, W-213 and W-214, and shares no code with the product. Where the document leaves a choice (the flat
 running total, the place in a double, an opposite or a multiple, the order of 16 and 17) it follows the project's settled
 readings, as the product does: on those the two agreeing says nothing about the reading. Headings in quotes are the document's own. Each public call is one
 function from the bytes lent to it to a pair: the answer's fields in the order of the call's answer, and the
@@ -106,6 +106,49 @@ def greatest_common_divisor(a, b, p):
 
 def derivative(a, p):
     return polynomial([i * c for i, c in enumerate(a)][1:], p)
+
+
+def value_at(a, x, p):
+    value = 0
+    for c in reversed(a):
+        value = (value * x + c) % p
+    return value
+
+
+def power_modulo(a, n, m, p):
+    """The n-th power of a modulo m."""
+    power = modulo(ONE, m, p)
+    for bit in bin(n)[2:]:
+        power = modulo(times(power, power, p), m, p)
+        if bit == "1":
+            power = modulo(times(power, a, p), m, p)
+    return power
+
+
+TRIED = 2000  # below it the roots modulo p are found by trying all numbers
+
+
+@lru_cache(maxsize=None)
+def roots_of(a, p):
+    """The different roots of a modulo p, as numbers below p. x^p - x has each number once for a root, so that a's greatest common divisor
+    with it is the product of x less each of them."""
+    if p < TRIED:
+        return tuple(x for x in range(p) if value_at(a, x, p) == 0)
+    x = (0, 1)
+    product = greatest_common_divisor(a, minus(power_modulo(x, p, a, p), x, p), p)[0]
+    roots = parted(product, 0, p)
+    if len(roots) != degree(product) or any(value_at(a, x, p) for x in roots):
+        raise ArithmeticError("roots that aren't those of the polynomial")
+    return tuple(sorted(roots))
+
+
+def parted(product, shift, p):
+    """The roots of a product of different x - r: some half of the r + shift are squares, and have the (p-1)/2-th power 1."""
+    if degree(product) < 2:
+        return [-product[0] % p] if degree(product) == 1 else []
+    squares = minus(power_modulo((shift, 1), (p - 1) // 2, product, p), ONE, p)
+    part = greatest_common_divisor(product, squares, p)[0]
+    return parted(part, shift + 1, p) + parted(quotient_of(product, part, p), shift + 1, p)
 
 
 # ---------------------------------------------------------------------------------------------------------
@@ -272,6 +315,22 @@ def is_order_of(curve, divisor, n, primes):
         return multiple_of(curve, divisor, m)[0] == NEUTRAL
 
     return is_neutral(n) and not any(is_neutral(n // q) for q in primes)
+
+
+def parts_of(curve, divisor):
+    """W-213: the two that a divisor is split into, or None "exactly when u has no root modulo p, or weight is below 2"."""
+    p = curve.p
+    roots = roots_of(divisor.u, p) if weight(divisor) >= 2 else ()
+    if not roots:
+        return None
+    if weight(divisor) == 2:
+        # "two weight 1 divisors whose sum is it, the one with smaller u_0 first": u_0 is the root's opposite
+        root = min(roots, key=lambda x: -x % p)
+    else:
+        # "a weight 1 divisor at the largest root of u as a number below p, then the weight 2 rest"
+        root = max(roots)
+    at_root = polynomial([-root, 1], p)
+    return [Divisor(u, modulo(divisor.v, u, p)) for u in (at_root, quotient_of(divisor.u, at_root, p))]
 
 
 def total_of(curve, divisors):
@@ -528,6 +587,19 @@ def multiply(curve, a, scalar, out):
         return write_divisor(result), (doublings, additions)
 
     return answered(work, out, extra=2)
+
+
+def split(curve, a, out):
+    """number, place, length. W-213: "The two records stand one after the other"; 26 comes before 13, place 0."""
+
+    def work():
+        on = read_curve(curve)
+        parts = parts_of(on, read_divisor(on, a, 1))
+        if parts is None:
+            raise Refused(26)
+        return b"".join(map(write_divisor, parts)), ()
+
+    return answered(work, out)
 
 
 def check_order(curve, divisor, order, primes):

@@ -1,6 +1,6 @@
 #!/usr/bin/env python3
 """selfcheck.py: reference.py held against every example of document 01, against the rules of refusal by hand,
-and against methods that share nothing with it: ideals.py for sums, point counts for the number of valid divisors.
+and against methods that share nothing with it: ideals.py for sums, point counts for the number of valid divisors, searches for splits.
 
     python3 tools/selfcheck.py    prints how many checks held; exit 1 on a failure
 
@@ -10,13 +10,15 @@ import itertools
 import math
 import sys
 
+import classes
 import ideals
 import orders
 import reference as r
+import splits
 import witnesses
 from corner_table import (
     B_X_10, B_XXX_1, B_XXX_10, BROKEN_ORDERS, BY_7, CASE_P, CASE_P_COUNT, CASE_P_REPEAT, CASE_P_TOTAL, CURVE_A, CURVE_B, CURVES, DIVISORS,
-    BY_LARGEST, KEYS, LARGEST, NEUTRAL, ORDERS, SCALARS, WITNESSED, X1_0, X6_3, X_1, X_6, XX6X, XX_1, XX_6, XXX_X1, each_example,
+    BY_LARGEST, KEYS, LARGEST, NEUTRAL, ORDERS, SCALARS, SPLITS, TWOS, WITNESSED, X1_0, X6_3, X_1, X_6, XX6X, XX_1, XX_6, XXX_X1, each_example,
 )  # fmt: skip
 from records import curve_record, divisor_record, in_4_bytes
 
@@ -106,6 +108,7 @@ def check_corners():
             expect("rewrite", r.rewrite_divisor(CURVE_A, record, out), ((number, 1, 0), out))
             expect("double", r.double(CURVE_A, record, out), ((number, 1, 0), out))
             expect("opposite", r.opposite(CURVE_A, record, out), ((number, 1, 0), out))
+            expect("split", r.split(CURVE_A, record, out), ((number, 1, 0), out))
             expect("multiply", r.multiply(CURVE_A, record, b"\1", out), ((number, 1, 0, 0, 0), out))
             expect("add, first", r.add(CURVE_A, record, X_1, out), ((number, 1, 0), out))
             expect("add, second", r.add(CURVE_A, X_1, record, out), ((number, 2, 0), out))
@@ -191,6 +194,7 @@ def check_order():
             expect("curve first", r.add(curve, wrong, wrong, b""), ((number, 0, 0), b""))
             expect("curve first", r.double(curve, wrong, b""), ((number, 0, 0), b""))
             expect("curve first", r.opposite(curve, wrong, b""), ((number, 0, 0), b""))
+            expect("curve first", r.split(curve, wrong, b""), ((number, 0, 0), b""))
             expect("curve first", r.multiply(curve, wrong, bytes(33), b""), ((number, 0, 0, 0, 0), b""))
             expect("curve first", r.check_order(curve, wrong, bytes(33), b"\0"), ((number, 0, 0), None))
             expect("curve first", r.total_batch(curve, wrong, b""), ((number, 0, 0, 0), b""))
@@ -205,6 +209,7 @@ def check_order():
             expect("before 12 and 27", r.check_order(CURVE_A, wrong, order, primes), ((number, 1, 0), None))
         expect("before 13", r.double(CURVE_A, wrong, b""), ((number, 1, 0), b""))
         expect("before 13", r.opposite(CURVE_A, wrong, b""), ((number, 1, 0), b""))
+        expect("before 26 and 13", r.split(CURVE_A, wrong, b""), ((number, 1, 0), b""))
         expect("before 13", r.rewrite_divisor(CURVE_A, wrong, b""), ((number, 1, 0), b""))
         expect("15 first", r.scan(bad_total, CURVE_A, wrong), ((15, 0, 0) + bad_total, None))
         expect("14 first", r.scan(full_total, CURVE_A, wrong), ((14, 0, 0) + full_total, None))
@@ -247,7 +252,7 @@ def check_key_orders():
     for g, p, stored, witness, stride in curves:
         record = curve_record(g, p, stored, witness=witness)
         curve = r.read_curve(record)
-        for divisor in all_divisors(curve)[::stride]:
+        for divisor in splits.all_divisors(curve)[::stride]:
             a, order, total = r.write_divisor(divisor), 1, tuple(divisor)
             while total != tuple(r.NEUTRAL):
                 total, order = ideals.sum_by_ideals(g, p, curve.f, total, divisor), order + 1
@@ -266,6 +271,57 @@ def check_key_orders():
             expect("lists for %d of %d" % (n, order), accepted, [right] if n == order else [])
             faultless = [primes for primes in lists if not orders.faults_of(order, n, in_4_bytes(primes))]
             expect("lists without a fault for %d of %d" % (n, order), faultless, accepted)
+
+
+def check_splits():
+    """The tables by hand; every divisor of small curves in both versions held to the search over all pairs, and added up again; at large primes
+    roots that are known, or known not to be there."""
+    for name, curve, a, parts in SPLITS:
+        if parts is None:
+            for length in (0, 33, 34, 50):
+                expect(name, r.split(curve, a, GUARD * length), ((26, 0, 0), GUARD * length))
+        else:
+            expect_written(name, lambda out: r.split(curve, a, out), b"".join(parts))
+    for g, p, stored, witness in SPLIT_CURVES:
+        record = curve_record(g, p, stored, witness=witness)
+        curve = r.read_curve(record)
+        for divisor, parts in splits.searched(curve):
+            a = r.write_divisor(divisor)
+            if parts is None:
+                for length in (0, 50):
+                    expect("no split of " + a.hex(), r.split(record, a, GUARD * length), ((26, 0, 0), GUARD * length))
+            else:
+                one, other = map(r.write_divisor, parts)
+                expect_written("split of " + a.hex(), lambda out: r.split(record, a, out), one + other)
+                expect_written("split and added", lambda out: r.add(record, one, other, out), a)
+    for p in (1009, 2147483647, TWOS, LARGEST):
+        for n in range(1, 60):
+            x, y, z = roots = [pow(5, n * k, p) for k in (1, 2, 3)]
+            factors = [(-root % p, 1) for root in roots]
+            cubic = r.times(r.times(*factors[:2], p), factors[2], p)
+            square = r.times(factors[0], factors[0], p)
+            for u, wanted in (
+                (cubic, roots), (r.times(*factors[:2], p), (x, y)), (square, (x,)), (r.times(square, factors[2], p), (x, z)),
+                (r.times(square, factors[0], p), (x,)), (r.times((0, 1), factors[1], p), (0, y)),
+            ):  # fmt: skip
+                expect("known roots", set(r.roots_of(u, p)), set(wanted))
+            # (x - a)² and (x - a)³ less b^n, where b is neither a square nor a cube: none, and with x - y only y
+            nonresidue = {1009: 11, 2147483647: 7, TWOS: 5, LARGEST: 37}[p]
+            for degree, power in ((2, pow(nonresidue, 2 * n + 1, p)), (3, pow(nonresidue, 3 * n + 1, p))):
+                less = r.minus(classes.product([factors[0]] * degree, p), (power,), p)
+                expect("known to have no root", r.roots_of(less, p), ())
+                if degree == 2:
+                    expect("known to have one", r.roots_of(r.times(less, factors[1], p), p), (y,))
+
+
+# Of each genus at p = 3, 5, 7, 11, 13, in either version
+SPLIT_CURVES = (
+    (2, 3, (1, 0, 0, 0, 0), None), (2, 3, (1, 1, 0, 0, 1), (2, (2,))), (2, 5, (0, 4, 0, 0, 0), None), (2, 5, (1, 2, 0, 3, 3), (2, (2,))),
+    (2, 7, (1, 0, 0, 0, 0), None), (2, 7, (3, 1, 4, 1, 5), BY_7), (2, 11, (1, 0, 0, 0, 0), None), (2, 13, (2, 7, 1, 8, 2), (2, (2, 3))),
+    (3, 3, (1, 2, 0, 0, 0, 0, 0), None), (3, 3, (0, 1, 1, 0, 0, 1, 1), (2, (2,))), (3, 5, (0, 4, 0, 0, 0, 0, 1), None),
+    (3, 5, (1, 0, 0, 0, 0, 0, 0), (2, (2,))), (3, 7, (1, 6, 0, 0, 0, 0, 0), BY_7), (3, 11, (1, 0, 0, 0, 0, 0, 0), None),
+    (3, 13, (2, 7, 1, 8, 2, 8, 1), (2, (2, 3))),
+)  # fmt: skip
 
 
 def check_batches():
@@ -392,18 +448,6 @@ def check_program():
 # ---------------------------------------------------------------------------------------------------------
 
 
-def all_divisors(curve):
-    g, p = curve.g, curve.p
-    found = []
-    for w in range(g + 1):
-        for u in itertools.product(range(p), repeat=w):
-            for v in itertools.product(range(p), repeat=w):
-                divisor = r.Divisor(u + (1,), r.polynomial(v, p))
-                if r.divides_f_less_v_squared(curve, divisor.u, divisor.v):
-                    found.append(divisor)
-    return found
-
-
 def points_over_extension(curve, k):
     """The number of points of y² = f(x) over the field of p^k elements, with the one at infinity."""
     p = curve.p
@@ -477,7 +521,7 @@ def check_small_curves():
     for g, p, stored in curves:
         name = "g = %d, p = %d, f = %s" % (g, p, stored)
         curve = r.read_curve(curve_record(g, p, stored))
-        divisors = all_divisors(curve)
+        divisors = splits.all_divisors(curve)
         known = set(divisors)
         expect(name + ": number of valid divisors", len(divisors), group_order(curve))
         table, most_steps = {}, 0
@@ -581,6 +625,7 @@ def main():
         check_order,
         check_witnesses,
         check_key_orders,
+        check_splits,
         check_batches,
         check_running_totals,
         check_program,
