@@ -1,10 +1,10 @@
 #!/usr/bin/env python3
-"""corners.py: makes the last part of what the program `vectors` reads, data/corners, and of what it prints: every street corner
-of document 01, with a star or without, run through the calls, one line each: a label and the answer.
+"""corners.py: makes the last part of what the program `vectors` reads, data/corners.a and data/corners.b, and of what it prints: every street
+corner of document 01, with a star or without, run through the calls, one line each: a label and the answer.
 
     python3 tools/corners.py             writes the data; vectors.py writes the expected text, which ends with the corners'
     python3 tools/corners.py --check     writes nothing: the data must be what it would write, and the expected text end so
-    --input PATH, --expected PATH        other files than crates/vectors/data/corners and crates/vectors/stdout
+    --input PATH, --expected PATH        other files than crates/vectors/data/corners (in parts, corners.a and corners.b) and crates/vectors/stdout
 
 The format is frames.py's, with a label before each frame. What document 01 says of a corner stands in corner_table.py;
 reference.py's answer must agree with it or nothing is written.
@@ -17,11 +17,11 @@ import ideals
 import reference as r
 from corner_table import (
     BY_LARGEST, CASE_P, CASE_P_COUNT, CASE_P_REPEAT, CASE_P_TOTAL, CURVE_A, CURVES, DIVISORS, FLIPPED, KEYS, LARGEST, NEUTRAL, ORDERS, SCALARS,
-    WITNESSED, X6_3, X_1, X_6, XX6X, XX_1, XX_6, each_example, power_and_1,
+    SPLITS, WITNESSED, X6_3, X_1, X_6, XX6X, XX_1, XX_6, each_example, power_and_1,
 )  # fmt: skip
 from frames import (
     ADD, CHECK_CURVE, CHECK_DIVISOR, CHECK_ORDER, DOUBLE, FIRST_REPEAT, GUARD, MULTIPLY, OPPOSITE, REWRITE_CURVE, REWRITE_DIVISOR, SCAN,
-    MOST_PART, TOTAL_BATCH, WITH_OUTPUT, Frame, answer, decoded, encoded, label, text_of,
+    SPLIT, TOTAL_BATCH, WITH_OUTPUT, Frame, answer, in_parts, label, part_paths, read_parts, text_of,
 )  # fmt: skip
 from records import curve_record, divisor_record
 
@@ -83,6 +83,7 @@ def every_call(name, curve, a, number, place=0, second=X_1):
     corner(name + "-add-second", Frame(ADD, curve, second, a, 49), number, 2 * place)
     corner(name + "-double", Frame(DOUBLE, curve, a, b"", 49), number, place)
     corner(name + "-opposite", Frame(OPPOSITE, curve, a, b"", 49), number, place)
+    corner(name + "-split", Frame(SPLIT, curve, a, b"", 50), number, place)
     corner(name + "-multiply", Frame(MULTIPLY, curve, a, b"\3", 49), number, place, more=(0, 0))
     corner(name + "-total", Frame(TOTAL_BATCH, curve, second + a, b"", 49), number, 2 * place, more=(0,))
     corner(name + "-repeat", Frame(FIRST_REPEAT, curve, second + second + a), number, 3 * place, more=(0, 0))
@@ -182,6 +183,19 @@ def put_orders():
         corner(name, Frame(CHECK_ORDER, curve, a, order, primes=primes), number)
 
 
+def put_splits():
+    for name, curve, a, parts in SPLITS:
+        if parts is None:
+            corner(name, Frame(SPLIT, curve, a, b"", 50), 26)
+            corner(name + "-no-output", Frame(SPLIT, curve, a), 26)
+        else:
+            result = b"".join(parts)
+            corner(name, Frame(SPLIT, curve, a, b"", len(result) + 3), 0, 0, result)
+            corner(name + "-room", Frame(SPLIT, curve, a, b"", len(result)), 0, 0, result)
+            corner(name + "-no-room", Frame(SPLIT, curve, a, b"", len(result) - 1), 13)
+            summed(name + "-back", curve, *parts, a)
+
+
 def put_slips():
     """ "Slips a fitter would make", those that the corners above don't show: two reductions in genus 3, f_6 ≠ 0 with
     p = 7. The sums' results come from ideals.py."""
@@ -208,15 +222,18 @@ def put_slips():
         assert found == 3
 
 
+MOST_PARTS = 2  # that the program reads
+
+
 def made():
-    """The data and the text that the corners are answered by."""
+    """The data in parts, and the text that the corners are answered by."""
     if not frames:
-        for put in (put_sums, put_curves, put_witnessed, put_bounds, put_case_p, put_flipped, put_orders, put_slips):
+        for put in (put_sums, put_curves, put_witnessed, put_bounds, put_case_p, put_flipped, put_orders, put_slips, put_splits):
             put()
-    data = b"".join(map(encoded, frames))
-    text = "".join(map(text_of, decoded(data)))
-    assert len(data) <= MOST_PART and len(text) <= MOST_PART  # one part
-    return data, text
+    lines = list(map(text_of, frames))
+    parts = in_parts(frames, lines)
+    assert len(parts) <= MOST_PARTS
+    return parts, "".join(lines)
 
 
 def main():
@@ -226,21 +243,22 @@ def main():
     parser.add_argument("--input", default=os.path.normpath(os.path.join(root, "data", "corners")))
     parser.add_argument("--expected", default=os.path.normpath(os.path.join(root, "stdout")))
     options = parser.parse_args()
-    data, text = made()
+    parts, text = made()
+    data = b"".join(parts)
     wrong = 0
     if options.check:
-        with open(options.input, "rb") as file:
-            if file.read() != data:
-                print("%s isn't what it should be" % options.input)
-                wrong = 1
+        if read_parts(options.input) != data:
+            print("%s.a and on aren't what they should be" % options.input)
+            wrong = 1
         with open(options.expected, encoding="ascii") as file:
             if not file.read().endswith("\n" + text):
                 print("%s doesn't end as it should" % options.expected)
                 wrong = 1
     else:
-        os.makedirs(os.path.dirname(os.path.abspath(options.input)), exist_ok=True)
-        with open(options.input, "wb") as file:
-            file.write(data)
+        for path, part in zip(part_paths(options.input, len(parts)), parts):
+            os.makedirs(os.path.dirname(os.path.abspath(path)), exist_ok=True)
+            with open(path, "wb") as file:
+                file.write(part)
     print("%d corners, %d bytes of input, %d bytes of expected text" % (len(labels), len(data), len(text)))
     return wrong
 

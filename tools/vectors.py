@@ -16,13 +16,14 @@ import hashlib
 import itertools
 import os
 import sys
-from collections import Counter
+from collections import Counter, defaultdict
 
 import classes
 import corners
 import ideals
 import orders
 import reference as r
+import splits
 import witnesses
 from corner_table import (
     BROKEN_ORDERS, BY_FIFTEEN, BY_LARGEST, BY_LARGEST_LISTED, BY_LONG_2, BY_LONG_3, BY_MANY, BY_MORE, BY_OVER, BY_SAFE, BY_TWOS,
@@ -30,18 +31,18 @@ from corner_table import (
 )  # fmt: skip
 from frames import (
     ADD, CALLS, CHECK_CURVE, CHECK_DIVISOR, CHECK_ORDER, DOUBLE, FIRST_REPEAT, GUARD, MOST_OUTPUT, MULTIPLY, NAMES, OPPOSITE, REWRITE_CURVE,
-    REWRITE_DIVISOR, SCAN, TOTAL_BATCH, WITH_OUTPUT, Frame, answer, decoded, encoded, in_parts, part_paths, read_parts, text_of,
+    REWRITE_DIVISOR, SCAN, SPLIT, TOTAL_BATCH, WITH_OUTPUT, Frame, answer, decoded, encoded, in_parts, part_paths, read_parts, text_of,
 )  # fmt: skip
 from records import curve_record, divisor_record, in_4_bytes
 
 PRIMES = classes.PRIMES
 GENERA = (2, 3)
-# Of input, which stands in the repository, with the expected text and some 65,000 of the corners: under a megabyte, 1,048,576. W-201's composite
-# numbers are 112,000 of it.
-MOST_BYTES = 1035000
+# Of input, which stands in the repository, with the expected text and some 92,000 of the corners: a bound to keep the program quick. W-201's
+# composite numbers are 112,000 of it, W-213's splits 245,000.
+MOST_BYTES = 1280000
 ENOUGH = 20  # of each main kind of sum, per genus and prime
 NEUTRAL_RECORD = r.write_divisor(r.NEUTRAL)
-NUMBERS = tuple(range(16)) + (18, 19, 27)  # that the calls answer
+NUMBERS = tuple(range(16)) + (18, 19, 26, 27)  # that the calls answer
 # Primes of version 2, with witnesses
 LARGE = {2147483647: BY_VERSION_1S_LARGEST, LARGEST: BY_LARGEST, TWOS: BY_TWOS, FIFTEEN: BY_FIFTEEN}
 
@@ -98,13 +99,6 @@ def square_root(a, p):
     return root
 
 
-def value_at(polynomial, x, p):
-    value = 0
-    for c in reversed(polynomial):
-        value = (value * x + c) % p
-    return value
-
-
 def drawn_curve(dice, g, p, roots, top):
     """An accepted curve whose f has the given number of drawn roots and f_2g = 0 or not, as top says."""
     for _ in range(4000):
@@ -138,7 +132,7 @@ class Pool:
         tries = range(p) if p < 2000 else [dice.below(p) for _ in range(60)] + known_roots
         self.points, self.flats = [], []  # weight 1 with y ≠ 0, one of each pair; weight 1 with y = 0
         for x in tries:
-            y = square_root(value_at(curve.f, x, p), p)
+            y = square_root(r.value_at(curve.f, x, p), p)
             if y == 0:
                 self.flats.append(r.Divisor((-x % p, 1), r.ZERO))
             elif y is not None:
@@ -180,6 +174,13 @@ class Pool:
         while True:
             a = self.anything()
             if a != r.NEUTRAL:
+                return a
+
+    def to_split(self, can_be):
+        """A divisor that isn't neutral and can be split, or can't."""
+        while True:
+            a = self.heavy()
+            if (r.parts_of(self.curve, a) is not None) == can_be:
                 return a
 
     def signed_points(self, n):
@@ -712,7 +713,7 @@ class Base:
         stages = [("curve", fault) for fault in CURVE_FAULTS[version]]
         first = [("first", fault) for fault in DIVISOR_FAULTS]
         second = [("second", fault) for fault in DIVISOR_FAULTS]
-        if operation in (CHECK_DIVISOR, REWRITE_DIVISOR, DOUBLE, OPPOSITE, MULTIPLY, CHECK_ORDER):
+        if operation in (CHECK_DIVISOR, REWRITE_DIVISOR, DOUBLE, OPPOSITE, MULTIPLY, CHECK_ORDER, SPLIT):
             stages += first
         elif operation in (ADD, TOTAL_BATCH, FIRST_REPEAT):
             stages += first + second
@@ -722,6 +723,8 @@ class Base:
             stages += [("scalar", "12"), ("key", "19")]
         if operation == CHECK_ORDER:
             stages += [("scalar", "12"), ("order", "27")]
+        if operation == SPLIT:
+            stages.append(("split", "26"))
         if operation in WITH_OUTPUT:
             stages.append(("output", "13"))
         self.stages = stages
@@ -749,7 +752,7 @@ class Base:
         if curve is None:
             return None
         first = second = primes = b""
-        known = pool.heavy() if operation == CHECK_ORDER else None
+        known = pool.heavy() if operation == CHECK_ORDER else pool.to_split(not by_part["split"]) if operation == SPLIT else None
         total, places = None, {"first": 1, "second": 2}
         if operation in (TOTAL_BATCH, FIRST_REPEAT):
             # good records, the first fault, good records, the second fault; 8 can stand only at the end
@@ -798,7 +801,7 @@ class Base:
         output = 0
         if operation in WITH_OUTPUT:
             # one that would fit or, mostly, one that wouldn't: the earlier fault wins over that too
-            fits = 199 if operation == REWRITE_CURVE else 49
+            fits = {REWRITE_CURVE: 199, SPLIT: 50}.get(operation, 49)
             output = 0 if by_part.get("output") else dice.pick([fits, 2, 4, 8])
             if by_part.get("output") and len(faults) == 1:
                 # the only fault: one byte short of the need, or shorter
@@ -949,7 +952,7 @@ def witnessed_pool(dice, g, p, roots=1, top=True):
     """A pool on a curve of version 2."""
     while True:
         curve, chosen = drawn_curve(dice, g, p, roots, top)
-        pool = Pool(dice, curve._replace(witness=r.Witness(*(LARGE.get(p) or witnesses.witness_of(p)))), chosen)
+        pool = Pool(dice, witnessed_curve(curve), chosen)
         if pool.has_divisors:
             return pool
 
@@ -1017,6 +1020,48 @@ def put_known_orders(dice, collection):
             multiple, (*_, q) = orders.MULTIPLES[g, p]
             a = r.multiple_of(curve, Pool(dice, curve, []).heavy(), multiple // q)[0]
             put_order(dice, collection, curve, a, 1)
+
+
+def witnessed_curve(curve):
+    """The same in version 2."""
+    return curve._replace(witness=r.Witness(*(LARGE.get(curve.p) or witnesses.witness_of(curve.p))))
+
+
+def put_split(dice, collection, curve, a):
+    """A split with room for it, sometimes also one byte short; where there is none, with an output and without."""
+    frame = Frame(SPLIT, r.write_curve(curve), r.write_divisor(a))
+    need = need_of(frame)
+    if need == 0:
+        collection.put(frame._replace(output=dice.pick([0, 0, 50, 50, 34])))
+        return
+    collection.put(frame._replace(output=enough_output(dice, need)))
+    if dice.below(8) == 0:
+        collection.put(frame._replace(output=dice.pick([need - 1, need - 1, need - 1, 17, 0])))
+
+
+SPLIT_PRIMES = (3, 5, 7, 11, 13)  # with all divisors of a curve, or many of them
+MOST_OF_A_CURVE = 400
+
+
+def put_splits(dice, collection):
+    """Every divisor of weight 2 or 3 on a curve of each genus and small prime, in both versions by turns, in genus 3 at p = 11 and 13 some of them;
+    then each shape of u in both versions, and weights that can't be split."""
+    for n, (g, p) in enumerate(itertools.product(GENERA, SPLIT_PRIMES)):
+        curve = drawn_curve(dice, g, p, dice.below(3), bool(dice.below(2)))[0]
+        curve = witnessed_curve(curve) if n % 2 else curve
+        heavy = [a for a in splits.all_divisors(curve) if r.weight(a) >= 2]
+        for a in heavy if len(heavy) <= MOST_OF_A_CURVE else dice.turned(heavy)[: MOST_OF_A_CURVE // 4]:
+            put_split(dice, collection, curve, a)
+    for g, p in itertools.product(GENERA, SPLIT_PRIMES + (1009, 65537, *LARGE)):
+        for n, shape in enumerate(splits.shapes(g, p)):
+            for version in (1, 2) if p <= 65537 else (2, 2) if p in (TWOS, LARGEST) else (2,):
+                if p > 13 or (n + p // 2) % 2 == version - 1:
+                    curve, a = splits.drawn(dice, g, p, shape)
+                    put_split(dice, collection, witnessed_curve(curve) if version == 2 else curve, a)
+        curve, a = splits.drawn(dice, g, p, (2, splits.TWO, False))
+        for whole in (curve, witnessed_curve(curve)) if p <= 11 else (witnessed_curve(curve),) if p > 65537 else (curve,):
+            for light, output in ((r.NEUTRAL, dice.pick([0, 34])), (r.parts_of(curve, a)[0], dice.pick([0, 50]))):
+                collection.put(Frame(SPLIT, r.write_curve(whole), r.write_divisor(light), b"", output))
 
 
 def put_every_divisor_fault(dice, collection, pools):
@@ -1088,7 +1133,7 @@ def put_long_batches(dice, collection, pools_of):
     x = 1
     while len(points) < 400:
         x += 1 + dice.below(1000)
-        y = square_root(value_at(pool.curve.f, x, pool.curve.p), pool.curve.p)
+        y = square_root(r.value_at(pool.curve.f, x, pool.curve.p), pool.curve.p)
         if y:
             points.append(divisor_record([pool.curve.p - x], [y if dice.below(2) else pool.curve.p - y]))
     collection.put(Frame(FIRST_REPEAT, pool.record, b"".join(points)))
@@ -1169,6 +1214,8 @@ def made(seed):
     put_refusals(dice, collection, [CHECK_ORDER], with_orders)
     put_known_orders(dice, collection)
     put_orders(dice, collection, with_orders[1][::2] + with_orders[2] + [pools_of[3, 3][1], witnessed[3, 3]])
+    put_refusals(dice, collection, [SPLIT], {1: faulty, 2: [witnessed[g, p] for g in GENERA for p in (7, 11)]})
+    put_splits(dice, collection)
     return collection
 
 
@@ -1206,6 +1253,8 @@ class Census:
         self.witnessed = Counter()
         self.composites = set()
         self.key_orders = Counter()
+        self.splits = Counter()
+        self.split_on = defaultdict(set)  # by curve, the divisors of weight 2 or 3
         self.text = []
         for frame in frames:
             self.take(frame)
@@ -1245,6 +1294,7 @@ class Census:
                 self.batches["over 4,096"] += 1
         self.take_witness(frame, number)
         self.take_order(frame, number)
+        self.take_split(frame, number)
         if operation == MULTIPLY and number in (0, 19):
             self.multiples[r.read_curve(frame.curve).g, frame.second] += 1  # 0 as a scalar is 19
         if number != 0:
@@ -1312,6 +1362,32 @@ class Census:
             ):  # fmt: skip
                 self.key_orders[what] += holds
 
+    def take_split(self, frame, number):
+        """What is split or has 26, by the shape of u; an answer that doesn't fit the shape is an error. And what room there is."""
+        if frame.operation != SPLIT or number not in (0, 13, 26):
+            return
+        curve = r.read_curve(frame.curve)
+        a = r.read_divisor(curve, frame.first, 1)
+        shape = splits.shape_of(a.u, curve.p) if r.weight(a) >= 2 else (r.weight(a), splits.NONE, False)
+        if (number == 26) != (shape[1] == splits.NONE):
+            raise AssertionError("%s: %r answers %d" % (splits.words(shape), frame, number))
+        if number == 13:
+            self.splits["weight %d, a byte short" % shape[0]] += need_of(frame) - 1 == frame.output
+            return
+        if shape[0] >= 2:
+            self.split_on[curve].add(a)
+            self.splits[curve.g, curve.p, shape] += 1
+        self.splits[curve.g, 1 if curve.witness is None else 2, shape] += 1
+        if number == 0:
+            self.splits["weight %d, just enough room" % shape[0]] += frame.output == 2 + 16 * shape[0]
+        else:
+            self.splits["26 without an output"] += frame.output == 0
+
+    def curves_split_whole(self):
+        """Genus and p of the small curves whose every divisor of weight 2 or 3 is split or has 26."""
+        small = {curve: taken for curve, taken in self.split_on.items() if curve.p <= 13 and len(taken) > 2}
+        return {(curve.g, curve.p) for curve, taken in small.items() if {a for a in splits.all_divisors(curve) if r.weight(a) >= 2} == taken}
+
     def shortfalls(self):
         short = []
 
@@ -1368,6 +1444,18 @@ class Census:
             need("orders: " + alone, self.key_orders[alone], 4)
         for what, least in (("n = 1", 10), ("with leading zeros", 20), ("of 32 bytes", 5), ("of over 100 bits", 2), ("15 primes", 2), ("2^31 - 1 listed", 2)):
             need("orders: " + what, self.key_orders[what], least)
+        for g, version in itertools.product(GENERA, (1, 2)):
+            for shape in [shape for shape in splits.SHAPES if shape[0] <= g] + [(0, splits.NONE, False), (1, splits.NONE, False)]:
+                need("splits, g = %d, version %d: %s" % (g, version, splits.words(shape)), self.splits[g, version, shape], 4)
+        for g, p in itertools.product(GENERA, (TWOS, LARGEST)):
+            for shape in splits.shapes(g, p):
+                need("splits, g = %d, p = %d: %s" % (g, p, splits.words(shape)), self.splits[g, p, shape], 2)
+        whole = self.curves_split_whole()
+        for g, p in itertools.product(GENERA, SPLIT_PRIMES):
+            if g == 2 or p <= 7:
+                need("splits, g = %d, p = %d: every divisor of a curve" % (g, p), (g, p) in whole, 1)
+        for what in ("weight 2, a byte short", "weight 3, a byte short", "weight 2, just enough room", "weight 3, just enough room", "26 without an output"):
+            need("splits: " + what, self.splits[what], 20)
         # Neighbours in the order: each two stages that follow each other and can go together, in every call and version.
         for operation, version in itertools.product(CALLS, CURVE_FAULTS):
             stages = Base(None, operation, None, version).stages
@@ -1427,6 +1515,11 @@ class Census:
         for g, version in itertools.product(GENERA, (1, 2)):
             yield "orders, g = %d, version %d: right %d, wrong %d" % (g, version, *(self.key_orders[g, version, what] for what in ("right", "wrong")))
         yield "orders: " + ", ".join("%s %d" % (what, n) for what, n in sorted((k, n) for k, n in self.key_orders.items() if isinstance(k, str)))
+        for shape in [(0, splits.NONE, False), (1, splits.NONE, False), *splits.SHAPES]:
+            kinds = [(g, version) for g in GENERA for version in (1, 2) if shape[0] <= g]
+            yield "splits, %s: " % splits.words(shape) + ", ".join("g = %d, version %d %d" % (*kind, self.splits[(*kind, shape)]) for kind in kinds)
+        yield "splits: " + ", ".join("%s %d" % (what, n) for what, n in sorted((k, n) for k, n in self.splits.items() if isinstance(k, str)))
+        yield "splits, every divisor of a curve: " + ", ".join("g = %d, p = %d" % key for key in sorted(self.curves_split_whole()))
         singles = sum(1 for order in self.orders if len(order) == 3)
         yield "refusals: %d stages by themselves, %d pairs of faults where the earlier must win" % (
             singles,

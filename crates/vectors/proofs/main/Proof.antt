@@ -4,16 +4,16 @@ use Rattle.vectors.proofs.main.Statement.{statement}
 use Rattle.vectors.proofs.main.Tie as tie
 
 abbrev Inv-loop : tie.InvT-loop
-Inv-loop k₀ t3 k = k ≤ 26
+Inv-loop k₀ a b k = k ≤ 26
 
 abbrev μ-loop : tie.MeasureT-loop
-μ-loop k₀ t3 k = 26 - k
+μ-loop k₀ a b k = 26 - k
 
 loop-holds : tie.Need-loop-holds Inv-loop μ-loop
 loop-holds c = search needs
 
-add-t5 : tie.Need-add-t5 Inv-loop μ-loop
-add-t5 c = search needs
+add-t6 : tie.Need-add-t6 Inv-loop μ-loop
+add-t6 c = search needs
 
 slice-aggregate-print-file : tie.Need-slice-aggregate-print-file Inv-loop μ-loop
 slice-aggregate-print-file c = search needs
@@ -36,6 +36,12 @@ slice-aggregate-print-file-2 c = search needs
 print-file-requires-2 : tie.Need-print-file-requires-2 Inv-loop μ-loop
 print-file-requires-2 c κs = search needs
 
+slice-aggregate-print-file-3 : tie.Need-slice-aggregate-print-file-3 Inv-loop μ-loop
+slice-aggregate-print-file-3 c = search needs
+
+print-file-requires-3 : tie.Need-print-file-requires-3 Inv-loop μ-loop
+print-file-requires-3 c κs = search needs
+
 returns : tie.Need-returns Inv-loop μ-loop
 returns c = search needs
 
@@ -46,7 +52,7 @@ main-spec =
     Inv-loop
     μ-loop
     loop-holds
-    add-t5
+    add-t6
     slice-aggregate-print-file
     print-file-requires
     add-k
@@ -54,4 +60,6 @@ main-spec =
     loop-again
     slice-aggregate-print-file-2
     print-file-requires-2
+    slice-aggregate-print-file-3
+    print-file-requires-3
     returns)
