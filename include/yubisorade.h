@@ -33,6 +33,7 @@
  * ROOM THAT ALWAYS SUFFICES for an output
  *   a divisor  33 bytes for g = 2, 49 for g = 3 (YUBI_DIVISOR_ROOM)
  *   a curve    54 bytes for g = 2, 70 for g = 3 in version 1; 183 and 199 in version 2 (YUBI_CURVE_ROOM)
+ *   a split    34 bytes for weight 2, 50 for weight 3 (YUBI_SPLIT_ROOM)
  *   A smaller output does where the result is shorter: 1 + 16w bytes for weight w, a curve as long as it was given.
  *
  * STACK
@@ -64,8 +65,8 @@
  *   11   u doesn't divide f - v^2                               scan again; if it stays, the meter isn't on this curve:
  *                                                               leave it out and report it
  *   12   the scalar or the order has more than 32 bytes         mend the caller: a scalar has at most 256 bits
- *   13   the output is shorter than the result                  mend the caller: lend YUBI_DIVISOR_ROOM or
- *                                                               YUBI_CURVE_ROOM bytes
+ *   13   the output is shorter than the result                  mend the caller: lend YUBI_DIVISOR_ROOM, YUBI_CURVE_ROOM or
+ *                                                               YUBI_SPLIT_ROOM bytes
  *   14   a batch goes on after 4096 good records, or a running  close this list and begin a new one
  *        total already holds 4096
  *   15   a running total's divisor has a number of p or more,   begin the list again with yubi_fresh_total: the total is
@@ -77,6 +78,8 @@
  *                                                               with a right witness
  *   19   the divisor given or its multiple is neutral, in       don't commission the meter: its key would be empty. Ask
  *        yubi_multiply or yubi_multiply_inversion_free          the office for a new key
+ *   26   in yubi_split: the divisor's weight is below 2, or u   keep that divisor whole: it can't be split, and nothing is
+ *        has no root modulo p                                   wrong with the meter
  *   27   in yubi_check_order: the order isn't shown to be the   don't rely on that order. Load order and list again; if
  *        divisor's: it is 0, or not made up of powers of just   it stays, ask the office for the key's order
  *        the listed primes, or its multiple isn't neutral, or
@@ -86,7 +89,7 @@
  *
  *   Where several would fit, the first in this order is given: the curve's 1 (under 6 bytes), 2, 3, 4, then in version 1 1, 5,
  *   and in version 2 1 (ends before k), 18 (k), 1, 5, 18, then in both 6, 7; for a scan 15, 14; then the divisors from first to
- *   last, each 8 (empty), 9, 8 (length), 10, 11; then 12; then 19 or 27; then 13.
+ *   last, each 8 (empty), 9, 8 (length), 10, 11; then 12; then 19, 26 or 27; then 13.
  */
 #ifndef YUBISORADE_H
 #define YUBISORADE_H
@@ -98,9 +101,10 @@
 extern "C" {
 #endif
 
-/* Bytes that hold any divisor record, any curve record, the longest scalar or order. */
+/* Bytes that hold any divisor record, any curve record, the two records of any split, the longest scalar or order. */
 #define YUBI_DIVISOR_ROOM 49
 #define YUBI_CURVE_ROOM 199
+#define YUBI_SPLIT_ROOM 50
 #define YUBI_SCALAR_ROOM 32
 
 /* The most primes of an order. */
@@ -188,6 +192,14 @@ YubiAnswer yubi_double(const uint8_t *curve, size_t curve_length, const uint8_t 
 /* Writes the opposite of the divisor a, (u, -v), to out: 0 to 11, 13. */
 YubiAnswer yubi_opposite(const uint8_t *curve, size_t curve_length, const uint8_t *a, size_t a_length, uint8_t *out,
                          size_t out_length);
+
+/* Splits a divisor in two whose sum it is, and writes their records to out, one behind the other: 0 to 11, 13, 26. The first has
+ * weight 1, 17 bytes: (x - r, v(r)) at a root r of u. Of weight 2 the other has weight 1 too, 34 bytes in all: the one with the
+ * smaller u_0, which is p - r or 0, stands first, and at a double root they are equal. Of weight 3 the first is at the largest root,
+ * as a number below p, and the other has weight 2, 50 bytes in all; it may have roots too and can be split again. A weight below 2,
+ * and a u without a root, give 26, however short the output is. yubi_add of the two gives the divisor back. */
+YubiAnswer yubi_split(const uint8_t *curve, size_t curve_length, const uint8_t *divisor, size_t divisor_length, uint8_t *out,
+                      size_t out_length);
 
 /* Writes the sum of n copies of the divisor a to out, n the scalar: 0 to 13, 19. There are no empty keys: a neutral divisor, and
  * a scalar whose multiple is neutral, 0 among them, give 19. Its time depends on the scalar. */

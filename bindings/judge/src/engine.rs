@@ -12,6 +12,7 @@ pub enum Call<'a> {
     Add { curve: &'a [u8], a: &'a [u8], b: &'a [u8] },
     Double { curve: &'a [u8], a: &'a [u8] },
     Opposite { curve: &'a [u8], a: &'a [u8] },
+    Split { curve: &'a [u8], divisor: &'a [u8] },
     Multiply { curve: &'a [u8], a: &'a [u8], scalar: &'a [u8] },
     MultiplyInversionFree { curve: &'a [u8], a: &'a [u8], scalar: &'a [u8] },
     CheckOrder { curve: &'a [u8], divisor: &'a [u8], order: &'a [u8], primes: &'a [u8] },
@@ -102,6 +103,7 @@ macro_rules! answer_through {
             Call::Add { curve, a, b } => reply!(calls::add(curve, a, b, $out)),
             Call::Double { curve, a } => reply!(calls::double(curve, a, $out)),
             Call::Opposite { curve, a } => reply!(calls::opposite(curve, a, $out)),
+            Call::Split { curve, divisor } => reply!(calls::split(curve, divisor, $out)),
             Call::Multiply { curve, a, scalar } => {
                 reply!(calls::multiply(curve, a, scalar, $out), [doublings, additions])
             }

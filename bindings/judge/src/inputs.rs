@@ -32,6 +32,14 @@ impl Rng {
     pub fn bytes(&mut self, n: usize) -> Vec<u8> {
         (0..n).map(|_| self.next() as u8).collect()
     }
+
+    /// A record, not empty, with one bit flipped.
+    pub fn flip(&mut self, record: &[u8]) -> Vec<u8> {
+        let mut changed = record.to_vec();
+        let at = self.below(8 * record.len() as u64);
+        changed[at as usize / 8] ^= 1 << (at % 8);
+        changed
+    }
 }
 
 /// Numbers modulo p, and polynomials as lists from the constant term up: as simple as can be, for making inputs only.
@@ -103,6 +111,45 @@ pub mod simple {
 
     pub fn value(f: &[u64], x: u64, p: u64) -> u64 {
         f.iter().rev().fold(0, |sum, &c| (mul(sum, x, p) + c) % p)
+    }
+
+    /// The product of two polynomials that aren't empty lists.
+    pub fn product(a: &[u64], b: &[u64], p: u64) -> Vec<u64> {
+        let mut c = vec![0; a.len() + b.len() - 1];
+        for (i, &x) in a.iter().enumerate() {
+            for (sum, &y) in c[i..].iter_mut().zip(b) {
+                *sum = (*sum + mul(x, y, p)) % p;
+            }
+        }
+        c
+    }
+
+    /// How many different roots a monic polynomial has in the field: the degree of its gcd with x^p - x.
+    pub fn count_roots(u: &[u64], p: u64) -> usize {
+        let degree = u.len() - 1;
+        let reduced = |mut c: Vec<u64>| {
+            while c.len() > degree {
+                let top = c.pop().expect("a coefficient");
+                let shift = c.len() - degree;
+                for (i, &x) in u[..degree].iter().enumerate() {
+                    c[i + shift] = (c[i + shift] + p - mul(top, x, p)) % p;
+                }
+            }
+            c
+        };
+        if degree == 0 {
+            return 0;
+        }
+        let mut power = vec![1];
+        for i in (0..64).rev() {
+            power = reduced(product(&power, &power, p));
+            if p >> i & 1 == 1 {
+                power = reduced(product(&power, &[0, 1], p));
+            }
+        }
+        power.resize(degree.max(2), 0);
+        power[1] = (power[1] + p - 1) % p;
+        common_degree(u, &power, p)
     }
 
     /// The degree of the gcd of two polynomials, not both zero.
@@ -408,4 +455,47 @@ fn written(call: impl FnOnce(&mut [u8]) -> u64) -> Vec<u8> {
     let mut out = [0; 49];
     let length = call(&mut out) as usize;
     out[..length].to_vec()
+}
+
+/// The neutral divisor, then all of each weight: a brute search.
+pub fn every_divisor(sample: &Sample) -> Vec<Vec<u8>> {
+    let p = sample.p;
+    let mut found = Vec::new();
+    for weight in 0..=sample.genus {
+        for k in 0..p.pow(2 * weight as u32) {
+            let numbers: Vec<u64> = (0..2 * weight as u32).map(|i| k / p.pow(i) % p).collect();
+            let record = divisor_record(&numbers[..weight], &numbers[weight..]);
+            if plain::check_divisor(&sample.curve, &record).number == 0 {
+                found.push(record);
+            }
+        }
+    }
+    found
+}
+
+#[cfg(test)]
+mod tests {
+    use super::*;
+
+    /// y² = x^5 + 1 modulo 7 has 50 divisors.
+    #[test]
+    fn every_divisor_is_found() {
+        let (f, curve) = (vec![1, 0, 0, 0, 0], curve_record(2, 7, &[1, 0, 0, 0, 0], None));
+        let sample = Sample { genus: 2, p: 7, f, witness: None, curve, pool: Vec::new() };
+        let found = every_divisor(&sample);
+        assert_eq!((found.len(), &found[0]), (50, &vec![0]));
+    }
+
+    /// Every polynomial of degree 1 to 3 over small fields.
+    #[test]
+    fn roots_are_counted() {
+        for (p, degree) in [3u64, 5, 7].into_iter().flat_map(|p| (1..4).map(move |degree| (p, degree))) {
+            for k in 0..p.pow(degree) {
+                let mut u: Vec<u64> = (0..degree).map(|i| k / p.pow(i) % p).collect();
+                u.push(1);
+                let wanted = (0..p).filter(|&x| simple::value(&u, x, p) == 0).count();
+                assert_eq!(simple::count_roots(&u, p), wanted, "{} {:?}", p, u);
+            }
+        }
+    }
 }

@@ -2,6 +2,7 @@
 
 use crate::engine::{Call, Engine, Reply};
 use crate::inputs::{Class, Pair, Rng};
+use crate::splits::Shape;
 use std::collections::BTreeMap;
 
 /// Differences that are printed in full; the rest are only counted.
@@ -32,6 +33,10 @@ pub struct Tally {
     pub twins: u64,
     /// Orders that were accepted.
     pub orders: u64,
+    /// Splits of good divisors by the shape of u, and how many of them had the root 0.
+    pub splits: BTreeMap<Shape, (u64, u64)>,
+    /// Splits that were done, and whose parts each engine was asked to add.
+    pub added_back: u64,
     /// Calls by the number answered.
     pub numbers: BTreeMap<u64, u64>,
     pub census: BTreeMap<(usize, u64), Census>,
@@ -93,7 +98,9 @@ impl<'e> Judge<'e> {
         let [first, second] = &outcomes;
         let mut faults = Vec::new();
         for (outcome, engine) in outcomes.iter().zip(self.engines) {
-            if let Some(fault) = broken_rule(call, outcome, before, guard, room) {
+            let broken = broken_rule(call, outcome, before, guard, room);
+            if let Some(fault) = broken.or_else(|| broken_split(engine, call, &outcome.reply, &outcome.buffer[guard..]))
+            {
                 faults.push(format!("{}: {}", engine.name(), fault));
             }
         }
@@ -125,6 +132,7 @@ impl<'e> Judge<'e> {
         let reply = second.reply;
         *self.tally.numbers.entry(reply.number).or_default() += 1;
         self.tally.orders += u64::from(matches!(call, Call::CheckOrder { .. }) && reply.number == 0);
+        self.tally.added_back += u64::from(matches!(call, Call::Split { .. }) && reply.number == 0);
         let moved = matches!(call, Call::Scan { .. } | Call::ScanLent { .. }) && reply.total.weight > 0;
         let wrote = !matches!(call, Call::RewriteCurve { .. }) && reply.length > 1;
         if reply.number == 0 && (moved || wrote) {
@@ -163,9 +171,13 @@ fn broken_rule(call: &Call, outcome: &Outcome, before: &[u8], guard: usize, room
         return Some("bytes behind the result changed");
     }
     let multiply = matches!(call, Call::Multiply { .. } | Call::MultiplyInversionFree { .. });
-    let order = matches!(call, Call::CheckOrder { .. });
-    let own = multiply && reply.number == 19 || order && reply.number == 27;
-    if !matches!(reply.number, 0..=15 | 18) && !own {
+    let own = match call {
+        Call::Multiply { .. } | Call::MultiplyInversionFree { .. } => 19,
+        Call::Split { .. } => 26,
+        Call::CheckOrder { .. } => 27,
+        _ => 0,
+    };
+    if !matches!(reply.number, 0..=15 | 18) && reply.number != own {
         return Some("a number that isn't in the call's table");
     }
     if multiply && written == 1 {
@@ -192,6 +204,22 @@ fn broken_rule(call: &Call, outcome: &Outcome, before: &[u8], guard: usize, room
     None
 }
 
+/// A split that is done must come to the divisor again, by the same engine's sum of the two records it wrote.
+fn broken_split(engine: &dyn Engine, call: &Call, reply: &Reply, output: &[u8]) -> Option<&'static str> {
+    let (curve, divisor) = match *call {
+        Call::Split { curve, divisor } if reply.number == 0 => (curve, divisor),
+        _ => return None,
+    };
+    let written = &output[..reply.length as usize];
+    if written.len() != divisor.len() + 1 {
+        return Some("a length that the split can't have");
+    }
+    let (a, b) = written.split_at(17);
+    let mut sum = [0; 49];
+    let length = engine.answer(&Call::Add { curve, a, b }, &mut sum).length as usize;
+    Some("the parts don't add up").filter(|_| sum[..length] != *divisor)
+}
+
 fn hex(bytes: &[u8]) -> String {
     bytes.iter().map(|byte| format!("{:02x}", byte)).collect()
 }
@@ -206,6 +234,7 @@ fn shown(call: &Call) -> String {
         Call::Add { curve, a, b } => format!("add {} {} {}", hex(curve), hex(a), hex(b)),
         Call::Double { curve, a } => format!("double {} {}", hex(curve), hex(a)),
         Call::Opposite { curve, a } => format!("opposite {} {}", hex(curve), hex(a)),
+        Call::Split { curve, divisor } => format!("split {} {}", hex(curve), hex(divisor)),
         Call::Multiply { curve, a, scalar } => format!("multiply {} {} {}", hex(curve), hex(a), hex(scalar)),
         Call::MultiplyInversionFree { curve, a, scalar } => {
             format!("multiply_inversion_free {} {} {}", hex(curve), hex(a), hex(scalar))

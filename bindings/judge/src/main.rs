@@ -14,6 +14,7 @@ mod judge;
 mod multiples;
 mod orders;
 mod plan;
+mod splits;
 
 use engine::{Engine, Plain};
 use inputs::Class;
@@ -132,4 +133,9 @@ fn report_pairs(tally: &Tally) {
     }
     println!("{} multiples by both multiply calls on the same bytes", tally.twins);
     println!("{} orders accepted", tally.orders);
+    println!("splits of good divisors, by u:");
+    for (shape, (all, with_zero)) in &tally.splits {
+        println!("  {}: {} (root 0 {})", shape, all, with_zero);
+    }
+    println!("{} splits done, and their parts added by both engines", tally.added_back);
 }

@@ -1,7 +1,7 @@
 //! Multiples by both multiply calls, where the second engine meets special pairs, and at full size.
 
 use crate::engine::Call;
-use crate::inputs::{divisor_record, Sample};
+use crate::inputs::{every_divisor, Sample};
 use crate::judge::Judge;
 
 const SMALL: [(usize, u64); 6] = [(2, 3), (2, 5), (2, 7), (2, 11), (3, 3), (3, 5)];
@@ -45,27 +45,11 @@ pub fn run(judge: &mut Judge, count: u64) {
     println!("p {:?}: {} multiples by scalars of 32 bytes", LARGE, judge.tally.twins - before);
 }
 
-/// The neutral divisor, then all of each weight: a brute search.
-fn every_divisor(sample: &Sample) -> Vec<Vec<u8>> {
-    let p = sample.p;
-    let mut found = Vec::new();
-    for weight in 0..=sample.genus {
-        for k in 0..p.pow(2 * weight as u32) {
-            let numbers: Vec<u64> = (0..2 * weight as u32).map(|i| k / p.pow(i) % p).collect();
-            let record = divisor_record(&numbers[..weight], &numbers[weight..]);
-            if plain::check_divisor(&sample.curve, &record).number == 0 {
-                found.push(record);
-            }
-        }
-    }
-    found
-}
-
 #[cfg(test)]
 mod tests {
     use super::*;
     use crate::engine::{Engine, Plain, Reply};
-    use crate::inputs::{curve_record, Rng};
+    use crate::inputs::Rng;
 
     /// The plain engine, its second multiply call wrong where the scalar is 255.
     struct Wrong;
@@ -98,14 +82,5 @@ mod tests {
             }
             assert_eq!((judge.tally.twins, judge.tally.differences), (3, differences));
         }
-    }
-
-    /// y² = x^5 + 1 modulo 7 has 50 divisors.
-    #[test]
-    fn every_divisor_is_found() {
-        let (f, curve) = (vec![1, 0, 0, 0, 0], curve_record(2, 7, &[1, 0, 0, 0, 0], None));
-        let sample = Sample { genus: 2, p: 7, f, witness: None, curve, pool: Vec::new() };
-        let found = every_divisor(&sample);
-        assert_eq!((found.len(), &found[0]), (50, &vec![0]));
     }
 }

@@ -4,6 +4,7 @@ use crate::engine::Call;
 use crate::inputs::{curve_record, divisor_record, numbers_of, simple, Class, Rng, Sample, Witness};
 use crate::judge::Judge;
 use crate::orders::{self, Shown};
+use crate::splits;
 use plain::Running;
 
 /// 2^61 - 1 and the last two are version 2's own; p - 1 has 56 twos in the first of the two and 15 primes in the second.
@@ -13,6 +14,7 @@ pub const PRIMES: [u64; 9] =
 const MOST: usize = 4096;
 const ROOM: usize = 49;
 const CURVE_ROOM: usize = 199;
+const SPLIT_ROOM: usize = 50;
 
 /// Numbers that a curve can't have for p: out of range, even, or with factors.
 const NO_PRIMES: [u64; 14] =
@@ -39,6 +41,9 @@ pub fn run(judge: &mut Judge, count: u64) {
         multiples(judge, &sample);
         orders::of_sample(judge, &sample);
         orders::of_known(judge, genus, p);
+        splits::of_sample(judge, &sample);
+        splits::of_shapes(judge, genus, p);
+        splits::output_lengths(judge, &sample);
         small_batches(judge, &sample);
         large_batches(judge, &sample);
         output_lengths(judge, &sample);
@@ -304,6 +309,7 @@ fn record_lengths(judge: &mut Judge, sample: &Sample) {
         let divisor = fitted(good);
         judge.put(Call::CheckDivisor { curve, divisor: &divisor }, 0);
         judge.put(Call::Add { curve, a: good, b: &divisor }, ROOM);
+        splits::put(judge, curve, &divisor, SPLIT_ROOM);
         judge.put(Call::TotalBatch { curve, batch: &divisor }, ROOM);
         judge.put(Call::Scan { total: Running::default(), curve, record: &divisor }, 0);
         judge.put(Call::CheckDivisor { curve, divisor: &noise[..length] }, 0);
@@ -312,26 +318,20 @@ fn record_lengths(judge: &mut Judge, sample: &Sample) {
     }
 }
 
-fn flip(rng: &mut Rng, record: &[u8]) -> Vec<u8> {
-    let mut changed = record.to_vec();
-    let at = rng.below(8 * record.len() as u64);
-    changed[at as usize / 8] ^= 1 << (at % 8);
-    changed
-}
-
 /// One bit of a record flipped.
 fn flipped_bits(judge: &mut Judge, sample: &Sample) {
     let good = &sample.curve;
     for _ in 0..60 {
         let (a, b) = (sample.any(&mut judge.rng), sample.any(&mut judge.rng));
-        let curve = flip(&mut judge.rng, good);
+        let curve = judge.rng.flip(good);
         judge.put(Call::CheckCurve { curve: &curve }, 0);
         // Under a changed curve the divisors are mostly off it.
         judge.put(Call::Add { curve: &curve, a, b }, ROOM);
-        let a = flip(&mut judge.rng, a);
+        let a = judge.rng.flip(a);
         judge.put(Call::CheckDivisor { curve: good, divisor: &a }, 0);
         judge.put(Call::Add { curve: good, a: b, b: &a }, ROOM);
         judge.put(Call::Double { curve: good, a: &a }, ROOM);
+        splits::put(judge, &curve, b, SPLIT_ROOM);
     }
 }
 
@@ -525,6 +525,7 @@ struct Faults {
     scalar: bool,
     key: bool,
     order: bool,
+    root: bool,
     room: bool,
 }
 
@@ -540,6 +541,7 @@ impl Faults {
             scalar: self.scalar | other.scalar,
             key: self.key | other.key,
             order: self.order | other.order,
+            root: self.root | other.root,
             room: self.room | other.room,
         }
     }
@@ -548,7 +550,7 @@ impl Faults {
 /// Puts a call with these faults.
 type Put = fn(&mut Judge, &Sample, Faults);
 
-/// The refusals of add, multiply, an order's check, total and scan, in their order: each alone, with its neighbour, and with all that follow.
+/// The refusals of add, multiply, an order's check, split, total and scan, in their order: each alone, with its neighbour, and with all that follow.
 fn neighbouring_faults(judge: &mut Judge, sample: &Sample) {
     let none = Faults::default();
     let curve: Vec<Faults> = curve_fault_kinds(sample).into_iter().map(|k| Faults { curve: 1 << k, ..none }).collect();
@@ -557,14 +559,16 @@ fn neighbouring_faults(judge: &mut Judge, sample: &Sample) {
     let scalar = vec![Faults { scalar: true, ..none }];
     let key = vec![Faults { key: true, ..none }];
     let order = vec![Faults { order: true, ..none }];
+    let root = vec![Faults { root: true, ..none }];
     let room = vec![Faults { room: true, ..none }];
     let totals: Vec<Faults> = (0..TOTAL_FAULTS).map(|k| Faults { total: 1 << k, ..none }).collect();
     let full = vec![Faults { full: true, ..none }];
 
-    let orders: [(Put, Vec<Faults>); 5] = [
+    let orders: [(Put, Vec<Faults>); 6] = [
         (put_add, [&curve[..], &a, &b, &room].concat()),
         (put_multiply, [&curve[..], &a, &scalar, &key, &room].concat()),
         (put_order, [&curve[..], &a, &scalar, &order].concat()),
+        (put_split, [&curve[..], &a, &root, &room].concat()),
         (put_total, [&curve[..], &a, &b, &room].concat()),
         (put_scan, [&curve[..], &totals, &full, &a].concat()),
     ];
@@ -617,6 +621,18 @@ fn put_order(judge: &mut Judge, sample: &Sample, faults: Faults) {
     shown.put(judge, &curve, &divisor);
 }
 
+fn put_split(judge: &mut Judge, sample: &Sample, faults: Faults) {
+    let curve = faulty_curve(&mut judge.rng, sample, faults.curve);
+    let (splits, others): (Vec<&Vec<u8>>, Vec<_>) = sample.pool.iter().partition(|a| splits::can_be_split(sample, a));
+    // A small curve may have no divisor with a root.
+    let from = if faults.root || splits.is_empty() { &others } else { &splits };
+    let mut divisor = judge.rng.pick(from).to_vec();
+    if faults.a != 0 {
+        divisor = faulty_divisor(&mut judge.rng, sample, faults.a);
+    }
+    splits::put(judge, &curve, &divisor, if faults.room { 33 } else { SPLIT_ROOM });
+}
+
 fn put_total(judge: &mut Judge, sample: &Sample, faults: Faults) {
     let curve = faulty_curve(&mut judge.rng, sample, faults.curve);
     let good = sample.any(&mut judge.rng).to_vec();
@@ -649,9 +665,10 @@ fn mixed_faults(judge: &mut Judge, sample: &Sample) {
             scalar: rng.one_in(4),
             key: rng.one_in(4),
             order: rng.one_in(2),
+            root: rng.one_in(2),
             room: rng.one_in(4),
         };
-        let put: Put = *rng.pick(&[put_add as Put, put_multiply, put_order, put_total, put_scan]);
+        let put: Put = *rng.pick(&[put_add as Put, put_multiply, put_order, put_split, put_total, put_scan]);
         put(judge, sample, faults);
     }
 }
@@ -779,9 +796,9 @@ mod tests {
     #[test]
     fn plain_agrees_with_itself() {
         let mut judge = Judge::new(&Plain, &Plain, 2, true);
-        run(&mut judge, 150_000);
+        run(&mut judge, 170_000);
         assert_eq!(judge.tally.differences, 0);
-        for number in (0..=15).chain([18, 19, 27]) {
+        for number in (0..=15).chain([18, 19, 26, 27]) {
             assert!(judge.tally.numbers[&number] >= 20, "{} {:?}", number, judge.tally.numbers);
         }
         assert_eq!(judge.tally.census.len(), 2 * PRIMES.len());

@@ -66,6 +66,10 @@ impl Curve {
     pub fn multiple(&self, a: &Divisor, n: &[u8]) -> Divisor {
         over!(self, curve => curve.multiple(a, n))
     }
+
+    pub fn split(&self, a: &Divisor) -> Option<[Divisor; 2]> {
+        over!(self, curve => curve.split(a))
+    }
 }
 
 /// A reduced divisor in Mumford's form: u monic of degree `weight` ≤ g, deg v < deg u, u divides f - v². The arrays hold the
@@ -84,7 +88,7 @@ impl Divisor {
         Divisor { weight: self.weight, u: self.u.map(&each), v: self.v.map(&each) }
     }
 
-    fn from_polys(u: &Poly, v: &Poly) -> Divisor {
+    pub fn from_polys(u: &Poly, v: &Poly) -> Divisor {
         let mut divisor = Divisor { weight: u.len() - 1, ..Divisor::NEUTRAL };
         for i in 0..divisor.weight {
             divisor.u[i] = u.at(i);
@@ -93,7 +97,7 @@ impl Divisor {
         divisor
     }
 
-    fn polys(&self, k: impl Field) -> (Poly, Poly) {
+    pub fn polys(&self, k: impl Field) -> (Poly, Poly) {
         (Poly::monic(k, &self.u[..self.weight]), Poly::new(&self.v[..self.weight]))
     }
 }

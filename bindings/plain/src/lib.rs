@@ -32,6 +32,7 @@ mod large;
 mod order;
 mod poly;
 mod record;
+mod split;
 mod witness;
 
 use curve::{Curve, Divisor};
@@ -43,6 +44,9 @@ pub const MOST_RECORDS: u64 = 4096;
 
 /// The longest scalar in bytes, and the longest order.
 pub const SCALAR_ROOM: usize = 32;
+
+/// Bytes that hold the two records of any split.
+pub const SPLIT_ROOM: usize = 50;
 
 /// What most calls answer.
 #[derive(Clone, Copy, Debug, Default, PartialEq, Eq)]
@@ -164,6 +168,22 @@ pub fn double(curve: &[u8], a: &[u8], out: &mut [u8]) -> Answer {
 /// The opposite of a divisor.
 pub fn opposite(curve: &[u8], a: &[u8], out: &mut [u8]) -> Answer {
     read_pair(curve, a).and_then(|(curve, a)| write_divisor(&curve, &curve.opposite(&a), out)).into()
+}
+
+/// Two divisors whose sum is the one given, one record after the other: of weight 2 two of weight 1, the one with the smaller u_0 first; of weight
+/// 3 the one of weight 1 at the largest root of u, then the rest. Refused where u has no root, or the weight is below 2.
+pub fn split(curve: &[u8], divisor: &[u8], out: &mut [u8]) -> Answer {
+    read_pair(curve, divisor)
+        .and_then(|(curve, a)| {
+            let parts = curve.split(&a).ok_or(Refused::new(26))?;
+            let (mut both, mut length) = ([0; SPLIT_ROOM], 0);
+            for part in &parts {
+                length += write_divisor(&curve, part, &mut both[length..])?;
+            }
+            out.get_mut(..length).ok_or(Refused::new(13))?.copy_from_slice(&both[..length]);
+            Ok(length)
+        })
+        .into()
 }
 
 /// The n-fold sum of a divisor. The scalar n has 0 to 32 bytes, big-endian. Neither the divisor nor the sum may be neutral: no empty keys.

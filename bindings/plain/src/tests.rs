@@ -617,6 +617,124 @@ fn point_over(c: &[u8], genus: u8, p: u64, x: u64) -> Option<Vec<u8>> {
     Some(divisor(&[p - x], &[y])).filter(|record| check_divisor(c, record).number == 0)
 }
 
+/// What a split answers, with an output that suffices: its two records, or nothing for 26.
+fn parts(c: &[u8], a: &[u8]) -> Option<(Vec<u8>, Vec<u8>)> {
+    let mut out = [0x55; 60];
+    let answer = split(c, a, &mut out);
+    let length = answer.length as usize;
+    assert!(out[length..].iter().all(|&byte| byte == 0x55));
+    if answer.number == 26 {
+        assert_eq!(answer, Answer { number: 26, ..Answer::default() });
+        return None;
+    }
+    assert_eq!((answer.number, answer.place, length), (0, 0, 2 + 16 * usize::from(a[0])));
+    assert_eq!(split(c, a, &mut out[..length - 1]).number, 13);
+    Some((out[..17].to_vec(), out[17..length].to_vec()))
+}
+
+/// The numbers of a record: u_0 to u_(w-1), then v_0 to v_(w-1).
+fn numbers(record: &[u8]) -> Vec<u64> {
+    record[1..].chunks_exact(8).map(|chunk| u64::from_be_bytes(chunk.try_into().unwrap())).collect()
+}
+
+/// Every divisor of small curves: the first part is at the root that the ticket names, found by trying all numbers; both parts are divisors and
+/// their sum is the one that was split.
+#[test]
+fn splits_of_every_divisor() {
+    let curves: [(u8, u64, Vec<u8>); 8] = [
+        (2, 3, curve(2, 3, &[1, 2, 0, 1, 2])),
+        (2, 5, curve(2, 5, &[2, 1, 0, 0, 3])),
+        (2, 7, curve_a()),
+        (2, 7, witnessed(2, 7, &[1, 0, 0, 0, 0], 3, 2, &[2, 3])),
+        (2, 11, curve(2, 11, &[4, 0, 0, 7, 1])),
+        (2, 13, curve(2, 13, &[3, 1, 0, 0, 0])),
+        (3, 3, curve(3, 3, &[0, 2, 1, 0, 0, 1, 2])),
+        (3, 5, curve(3, 5, &[1, 3, 0, 2, 0, 0, 4])),
+    ];
+    let mut shapes = HashMap::new();
+    for (genus, p, c) in curves {
+        for a in every_divisor(&c, u32::from(genus), p) {
+            let (weight, all) = (usize::from(a[0]), numbers(&a));
+            let value = |x: u64| all[..weight].iter().rev().fold(1, |sum, c| (sum * x + c) % p);
+            let roots: Vec<u64> = (0..p).filter(|&x| value(x) == 0).collect();
+            *shapes.entry((weight, roots.len())).or_insert(0) += 1;
+            let root = match weight {
+                2 => roots.iter().min_by_key(|&r| (p - r) % p),
+                3 => roots.iter().max(),
+                _ => None,
+            };
+            let y = |x: u64| all[weight..].iter().rev().fold(0, |sum, c| (sum * x + c) % p);
+            let wanted = root.map(|&r| divisor(&[(p - r) % p], &[y(r)]));
+            let found = parts(&c, &a);
+            assert_eq!(found.as_ref().map(|(point, _)| point), wanted.as_ref(), "{} {:?}", p, all);
+            if let Some((point, rest)) = found {
+                assert_eq!(usize::from(rest[0]), weight - 1);
+                assert_eq!(sum(&c, &point, &rest), a);
+                // The smaller u_0 first; equal ones at a double root.
+                assert!(weight != 2 || numbers(&point)[0] <= numbers(&rest)[0]);
+                assert_eq!(weight == 2 && point == rest, weight == 2 && roots.len() == 1);
+            }
+        }
+    }
+    // Every number of roots with every weight.
+    for (weight, roots) in [(0, 0), (1, 1), (2, 0), (2, 1), (2, 2), (3, 0), (3, 1), (3, 2), (3, 3)] {
+        assert!(shapes[&(weight, roots)] > 2, "{} {}", weight, roots);
+    }
+}
+
+#[test]
+fn splits_refused_in_order() {
+    let (c, point) = (curve_a(), divisor(&[0], &[1]));
+    let number = |a: &[u8], room: usize| {
+        let mut out = vec![0x55; room];
+        let answer = split(&c, a, &mut out);
+        assert_eq!(answer.length, if answer.number == 0 { 34 } else { 0 });
+        assert!(answer.number == 0 || out.iter().all(|&byte| byte == 0x55));
+        (answer.number, answer.place)
+    };
+    // (x² + 6x, 2x + 1) is (x, 1) and (x + 6, 3).
+    let both = divisor(&[0, 6], &[1, 2]);
+    assert_eq!(parts(&c, &both), Some((point.clone(), divisor(&[6], &[3]))));
+    for room in 0..60 {
+        assert_eq!(number(&both, room), if room < 34 { (13, 0) } else { (0, 0) });
+    }
+    // x² + 1 has no root modulo 7.
+    let rootless: Vec<Vec<u8>> =
+        every_divisor(&c, 2, 7).into_iter().filter(|a| a[0] == 2 && numbers(a)[..2] == [1, 0]).collect();
+    assert!(!rootless.is_empty());
+    for a in rootless.iter().chain([&neutral(), &point]) {
+        assert_eq!((number(a, 0), number(a, 60)), ((26, 0), (26, 0)));
+    }
+    for (wanted, wrong) in
+        [(8, vec![]), (9, vec![3]), (8, vec![2]), (10, divisor(&[7], &[2])), (11, divisor(&[0], &[2]))]
+    {
+        assert_eq!((number(&wrong, 0), number(&wrong, 60)), ((wanted, 1), (wanted, 1)));
+    }
+    assert_eq!(split(&c[..53], &[], &mut []), Answer { number: 1, ..Answer::default() });
+}
+
+/// Sums of points of the largest fields of both versions: of different, of two equal and of three equal ones.
+#[test]
+fn splits_of_large_divisors() {
+    for (genus, p) in [(2, 0x7fff_ffff), (3, 0x7fff_ffff), (2, P61), (3, P61)] {
+        let f: Vec<u64> = std::iter::once(1).chain(std::iter::repeat(0).take(2 * usize::from(genus))).collect();
+        let c = if p == P61 { largest(genus, &f) } else { curve(genus, p, &f) };
+        let points: Vec<Vec<u8>> = (1..).filter_map(|x| point_over(&c, genus, p, x)).take(3).collect();
+        let [a, b, e] = [&points[0], &points[1], &points[2]];
+        // The larger x has the smaller u_0, and (x, 1) the smallest of all.
+        let zero = divisor(&[0], &[1]);
+        for (first, second) in [(b, a), (e, a), (&zero, a), (a, a), (e, e), (&zero, &zero)] {
+            assert_eq!(parts(&c, &sum(&c, first, second)), Some((first.clone(), second.clone())), "{} {}", genus, p);
+        }
+        if genus == 3 {
+            for [first, second, third] in [[e, a, b], [e, a, a], [e, e, a], [a, &zero, &zero], [a, a, a]] {
+                let rest = sum(&c, second, third);
+                assert_eq!(parts(&c, &sum(&c, first, &rest)), Some((first.clone(), rest)), "{}", p);
+            }
+        }
+    }
+}
+
 /// In genus 3, composed degree 6 that takes two reductions, on the largest field of each version: (m + n)-fold is m-fold plus n-fold.
 #[test]
 fn multiples_add_up_on_the_largest_field() {

@@ -39,6 +39,9 @@ pub const DIVISOR_ROOM: usize = 49;
 /// Bytes that hold any curve record, of version 1 or 2.
 pub const CURVE_ROOM: usize = 199;
 
+/// Bytes that hold the two records of any split.
+pub const SPLIT_ROOM: usize = 50;
+
 /// Bytes of the longest scalar or order.
 pub const SCALAR_ROOM: usize = 32;
 
@@ -132,6 +135,36 @@ pub fn double(curve: &[u8], a: &[u8], out: &mut [u8]) -> Result<usize, Refusal> 
 /// Writes the opposite of a divisor to the front of `out` and gives its length.
 pub fn opposite(curve: &[u8], a: &[u8], out: &mut [u8]) -> Result<usize, Refusal> {
     length_of(raw::opposite(curve, a, out))
+}
+
+/// Splits a divisor in two whose sum it is, writes their records to the front of `out`, one behind the other, and gives their length together.
+///
+/// The first is of weight 1 and 17 bytes long. Of a divisor of weight 2 it is the one with the smaller u_0, and the other is of weight 1 too; of
+/// weight 3 it is the one at the largest root of u, as a number below p, and the other is of weight 2. Where u has no root, or the weight is below 2,
+/// [`Refusal::NoRoot`].
+///
+/// ```
+/// # fn main() -> Result<(), yubisorade::Refusal> {
+/// # let mut curve = b"HJC\x00\x01\x02".to_vec();
+/// # for number in [7u64, 1, 0, 0, 0, 0] {
+/// #     curve.extend_from_slice(&number.to_be_bytes());
+/// # }
+/// # let mut meter = vec![1];
+/// # for number in [0u64, 1] {
+/// #     meter.extend_from_slice(&number.to_be_bytes());
+/// # }
+/// use yubisorade::{double, split, Refusal, DIVISOR_ROOM, SPLIT_ROOM};
+/// let mut twice = [0; DIVISOR_ROOM];
+/// let length = double(&curve, &meter, &mut twice)?;
+/// let mut parts = [0; SPLIT_ROOM];
+/// assert_eq!(split(&curve, &twice[..length], &mut parts), Ok(34));
+/// assert_eq!((&parts[..17], &parts[17..34]), (&meter[..], &meter[..]));
+/// assert_eq!(split(&curve, &meter, &mut parts), Err(Refusal::NoRoot));
+/// # Ok(())
+/// # }
+/// ```
+pub fn split(curve: &[u8], divisor: &[u8], out: &mut [u8]) -> Result<usize, Refusal> {
+    length_of(raw::split(curve, divisor, out))
 }
 
 /// Writes the sum of n copies of a divisor to the front of `out`; the scalar n has 0 to 32 bytes, big-endian. Where the divisor or the

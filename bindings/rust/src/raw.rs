@@ -122,6 +122,14 @@ extern "C" {
         out: *mut u8,
         out_length: usize,
     ) -> YubiAnswer;
+    fn yubi_split(
+        curve: *const u8,
+        curve_length: usize,
+        divisor: *const u8,
+        divisor_length: usize,
+        out: *mut u8,
+        out_length: usize,
+    ) -> YubiAnswer;
     fn yubi_multiply(
         curve: *const u8,
         curve_length: usize,
@@ -219,6 +227,11 @@ pub fn double(curve: &[u8], a: &[u8], out: &mut [u8]) -> YubiAnswer {
 /// Writes -a to `out`.
 pub fn opposite(curve: &[u8], a: &[u8], out: &mut [u8]) -> YubiAnswer {
     unsafe { yubi_opposite(curve.as_ptr(), curve.len(), a.as_ptr(), a.len(), out.as_mut_ptr(), out.len()) }
+}
+
+/// Writes the two parts of a divisor to `out`.
+pub fn split(curve: &[u8], divisor: &[u8], out: &mut [u8]) -> YubiAnswer {
+    unsafe { yubi_split(curve.as_ptr(), curve.len(), divisor.as_ptr(), divisor.len(), out.as_mut_ptr(), out.len()) }
 }
 
 /// Writes the scalar-fold sum of a to `out`.

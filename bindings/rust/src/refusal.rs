@@ -41,6 +41,8 @@ pub enum Refusal {
     Witness,
     /// 19: the divisor given or its multiple is neutral.
     EmptyKey,
+    /// 26: the weight is below 2, or u has no root modulo p.
+    NoRoot,
     /// 27: the order isn't shown to be the divisor's by the list of its primes.
     Order,
 }
@@ -70,12 +72,13 @@ impl Refusal {
             15 => Refusal::RunningTotal,
             18 => Refusal::Witness,
             19 => Refusal::EmptyKey,
+            26 => Refusal::NoRoot,
             27 => Refusal::Order,
             other => panic!("libtablet.a answered {}, which isn't a number of the contract", other),
         })
     }
 
-    /// The contract's number, 1 to 15, 18, 19 or 27.
+    /// The contract's number, 1 to 15, 18, 19, 26 or 27.
     pub fn number(self) -> u64 {
         match self {
             Refusal::CurveLength => 1,
@@ -95,6 +98,7 @@ impl Refusal {
             Refusal::RunningTotal => 15,
             Refusal::Witness => 18,
             Refusal::EmptyKey => 19,
+            Refusal::NoRoot => 26,
             Refusal::Order => 27,
         }
     }
@@ -140,6 +144,7 @@ impl Refusal {
             }
             Refusal::Witness => "in version 2, k isn't 1 to 15 or the witness doesn't show p prime",
             Refusal::EmptyKey => "the divisor given or its multiple is neutral",
+            Refusal::NoRoot => "the weight is below 2, or u has no root modulo p",
             Refusal::Order => {
                 "the order is 0, or isn't made up of powers of just the listed primes, or its multiple isn't neutral, or that of a q-th \
                  of it is; or the list isn't whole, too long, not rising, or has a number that is no prime below 2^31 or doesn't divide it"
@@ -163,7 +168,7 @@ mod tests {
     #[test]
     fn numbers_and_places_come_back() {
         assert_eq!(Refusal::check(0, 0), Ok(()));
-        for number in (1..=15).chain([18, 19, 27]) {
+        for number in (1..=15).chain([18, 19, 26, 27]) {
             let place = if (8..=11).contains(&number) { 7 } else { 0 };
             let refusal = Refusal::check(number, place).unwrap_err();
             assert_eq!((refusal.number(), refusal.place()), (number, place));

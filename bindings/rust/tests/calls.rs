@@ -140,6 +140,44 @@ fn orders() {
     assert_eq!(check_order(&a[..53], &[], &[0; 33], &[0]), Err(Refusal::CurveLength));
 }
 
+/// W-213: parts in their order, equal ones, what can't be split, and every part adds up.
+#[test]
+fn splits() {
+    let p = (1 << 61) - 1;
+    let primes = [2, 3, 5, 7, 11, 13, 31, 41, 61, 151, 331, 1321];
+    let (a, b) = (curve_a(), curve(3, 11, &[1, 0, 0, 0, 0, 0, 0]));
+    let (a_61, b_61) =
+        (witnessed(2, p, &[1, 0, 0, 0, 0], 37, &primes), witnessed(3, p, &[1, 0, 0, 0, 0, 0, 0], 37, &primes));
+    for (c, whole, parts) in [
+        // u_0 = 0 comes before all others, and so the root 0.
+        (&a, divisor(&[0, 6], &[1, 2]), [divisor(&[0], &[1]), divisor(&[6], &[3])]),
+        (&a, divisor(&[0, 0], &[1, 0]), [divisor(&[0], &[1]), divisor(&[0], &[1])]),
+        (&a_61, divisor(&[0, 1], &[1, 1]), [divisor(&[0], &[1]), divisor(&[1], &[0])]),
+        (&b, divisor(&[0, 1], &[1, 1]), [divisor(&[0], &[1]), divisor(&[1], &[0])]),
+        // The triple root 0, and the largest root -1 before it.
+        (&b, divisor(&[0, 0, 0], &[1, 0, 0]), [divisor(&[0], &[1]), divisor(&[0, 0], &[1, 0])]),
+        (&b, divisor(&[0, 0, 1], &[1, 0, 10]), [divisor(&[1], &[0]), divisor(&[0, 0], &[1, 0])]),
+        (&b_61, divisor(&[0, 0, 1], &[1, 0, p - 1]), [divisor(&[1], &[0]), divisor(&[0, 0], &[1, 0])]),
+    ] {
+        let [first, second] = &parts;
+        assert_eq!(written(|out| split(c, &whole, out)), [&first[..], second].concat());
+        assert_eq!(written(|out| add(c, first, second, out)), whole);
+        let length = 2 + 16 * usize::from(whole[0]);
+        assert_eq!(split(c, &whole, &mut vec![0; length]), Ok(length));
+        assert_eq!(split(c, &whole, &mut vec![0; length - 1]), Err(Refusal::OutputLength));
+    }
+    // x² + 1 has no root modulo 7, and neither the neutral divisor nor a point is split.
+    let rootless = divisor(&[1, 0], &[4, 1]);
+    assert_eq!(check_divisor(&a, &rootless), Ok(()));
+    for whole in [&rootless, &divisor(&[0], &[1]), &vec![0]] {
+        for room in [0, 33, SPLIT_ROOM] {
+            assert_eq!(split(&a, whole, &mut vec![0; room]), Err(Refusal::NoRoot));
+        }
+    }
+    assert_eq!(split(&a, &divisor(&[0], &[2]), &mut []), Err(Refusal::NotOnCurve { place: 1 }));
+    assert_eq!(split(&a[..53], &[], &mut []), Err(Refusal::CurveLength));
+}
+
 #[test]
 fn the_pole_of_the_contract() {
     let (c, a, b) = (curve_a(), divisor(&[0], &[1]), divisor(&[6], &[3]));

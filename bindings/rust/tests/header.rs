@@ -146,6 +146,7 @@ fn declarations_are_the_headers() {
         "yubi_rewrite_divisor",
         "yubi_scan",
         "yubi_scan_lent",
+        "yubi_split",
         "yubi_total_batch",
     ];
     assert_eq!(calls, wanted);
@@ -168,6 +169,7 @@ fn a_changed_declaration_shows() {
         ("const uint8_t *primes,", "const uint32_t *primes,"),
         ("const uint8_t *order, size_t order_length, ", ""),
         ("yubi_opposite", "yubi_negate"),
+        ("YubiAnswer yubi_split(const uint8_t *curve, size_t curve_length, ", "YubiAnswer yubi_split("),
     ];
     let rust = declared_in_rust(RAW);
     for (old, new) in changes {
@@ -187,6 +189,7 @@ fn constants_are_the_headers() {
     };
     assert_eq!(defined("YUBI_DIVISOR_ROOM"), yubisorade::DIVISOR_ROOM as u64);
     assert_eq!(defined("YUBI_CURVE_ROOM"), yubisorade::CURVE_ROOM as u64);
+    assert_eq!(defined("YUBI_SPLIT_ROOM"), yubisorade::SPLIT_ROOM as u64);
     assert_eq!(defined("YUBI_SCALAR_ROOM"), yubisorade::SCALAR_ROOM as u64);
     assert_eq!(defined("YUBI_MOST_PRIMES"), yubisorade::MOST_PRIMES as u64);
     assert_eq!(defined("YUBI_MOST_RECORDS"), yubisorade::MOST_RECORDS);
