@@ -6,8 +6,8 @@
 # looks at the library's product of residues, and exits 1 where the compiler didn't make one multiplication of each product of
 # words; builds both into one program and prints, for genus 2, genus 3 with f_6 = 0 and genus 3 with another f_6 at p = 2^31 - 1, and for the
 # first two at p = 2^61 - 1, in records of version 2, the median
-# time of a batch total of 4,096 records, of a 256-bit multiple, of the search for a repeat among 4,096 different meters and of the check of
-# the curve record alone, and the ratio. Then it counts the instructions of
+# time of a batch total of 4,096 records, of a 256-bit multiple, of the search for a repeat among 4,096 different meters, of the check of
+# the curve record alone and of the split of a sum of as many points as the genus, and the ratio. Then it counts the instructions of
 # each, exactly, by Debian's qemu-user or by valgrind, whichever is there. Under an emulator times say nothing but their ratio.
 set -eu
 cd "$(dirname "$0")/.."
@@ -86,7 +86,7 @@ say "instructions, by $counter: two runs that differ in one round"
 declare -A names=([2]="genus 2" [3]="genus 3, f_6 = 0" [3-f6]="genus 3, f_6 ≠ 0")
 names+=([2-61]="genus 2, 2^61 - 1" [3-61]="genus 3, f_6 = 0, 2^61 - 1")
 for curve in 2 3 3-f6 2-61 3-61; do
-    for work in total multiple repeat check; do
+    for work in total multiple repeat check split; do
         counts=()
         for engine in proved plain; do
             one=$(instructions $engine $work $curve 1)

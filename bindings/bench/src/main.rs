@@ -4,7 +4,7 @@
 //!     bench count ENGINE WORK CURVE N     does a work N times and prints nothing, for a counter of instructions
 //!
 //! ENGINE is `proved` or `plain`, WORK is `total` (a batch of 4,096 records), `multiple` (a 256-bit scalar), `repeat` (the first repeat
-//! among 4,096 different meters) or `check` (the curve record alone), CURVE is `2` for genus
+//! among 4,096 different meters), `check` (the curve record alone) or `split` (a sum of as many points as the genus), CURVE is `2` for genus
 //! 2, `3` for genus 3 with f_6 = 0, or `3-f6` for genus 3 with another f_6, p = 2,147,483,647 in records of version 1; `2-61` and `3-61` are the
 //! first two at p = 2^61 - 1, in records of version 2 with their witness. Every call checks its curve and its records, in both engines. A program
 //! that was built without
@@ -18,7 +18,7 @@ const RECORDS: usize = 4096;
 /// Curve to number.
 type Check = fn(&[u8]) -> u64;
 
-/// Curve, batch and output to number and length.
+/// Curve, batch or divisor, and output to number and length.
 type Total = fn(&[u8], &[u8], &mut [u8]) -> (u64, u64);
 
 /// Curve and batch to number, first and second.
@@ -34,6 +34,7 @@ struct Engine {
     multiple: Multiple,
     repeat: Repeat,
     check: Check,
+    split: Total,
 }
 
 const PLAIN: Engine = Engine {
@@ -51,6 +52,10 @@ const PLAIN: Engine = Engine {
         (answer.number, answer.first, answer.second)
     },
     check: |curve| plain::check_curve(curve).number,
+    split: |curve, divisor, out| {
+        let answer = plain::split(curve, divisor, out);
+        (answer.number, answer.length)
+    },
 };
 
 #[cfg(feature = "proved")]
@@ -69,6 +74,10 @@ const PROVED: Engine = Engine {
         (answer.number, answer.first, answer.second)
     },
     check: |curve| yubisorade::raw::check_curve(curve).number,
+    split: |curve, divisor, out| {
+        let answer = yubisorade::raw::split(curve, divisor, out);
+        (answer.number, answer.length)
+    },
 };
 #[cfg(not(feature = "proved"))]
 const PROVED: Engine = Engine { name: "plain (no library)", ..PLAIN };
@@ -79,10 +88,11 @@ enum Work {
     Multiple,
     Repeat,
     Check,
+    Split,
 }
 
 impl Work {
-    const ALL: [Work; 4] = [Work::Total, Work::Multiple, Work::Repeat, Work::Check];
+    const ALL: [Work; 5] = [Work::Total, Work::Multiple, Work::Repeat, Work::Check, Work::Split];
 
     fn name(self) -> &'static str {
         match self {
@@ -90,6 +100,7 @@ impl Work {
             Work::Multiple => "multiple",
             Work::Repeat => "repeat",
             Work::Check => "check",
+            Work::Split => "split",
         }
     }
 }
@@ -134,6 +145,8 @@ struct Input {
     curve: Vec<u8>,
     batch: Vec<u8>,
     scalar: [u8; 32],
+    /// The sum of as many points as the genus, over different x.
+    of_points: Vec<u8>,
 }
 
 impl Input {
@@ -145,14 +158,13 @@ impl Input {
         let mut curve = vec![b'H', b'J', b'C', 0, if witness.is_some() { 2 } else { 1 }, genus];
         curve.extend_from_slice(&p.to_be_bytes());
         // f_0 = 4, so that (x, 2) is on the curve; the others are far from 0.
-        for i in 0..=2 * u64::from(genus) {
-            let f = match i {
-                0 => 4,
-                i if i == 2 * u64::from(genus) && !on.f_2g => 0,
-                i => i * step % p,
-            };
-            curve.extend_from_slice(&f.to_be_bytes());
-        }
+        let coefficient = |i: u64| match i {
+            0 => 4,
+            i if i == 2 * u64::from(genus) && !on.f_2g => 0,
+            i => i * step % p,
+        };
+        let f: Vec<u64> = (0..=2 * u64::from(genus)).map(coefficient).collect();
+        curve.extend(f.iter().flat_map(|c| c.to_be_bytes()));
         if let Some((base, primes)) = witness {
             curve.extend_from_slice(&base.to_be_bytes());
             curve.push(primes.len() as u8);
@@ -175,7 +187,8 @@ impl Input {
         for (i, byte) in scalar.iter_mut().enumerate() {
             *byte = 0x80 | (i as u8).wrapping_mul(37);
         }
-        Input { genus, curve, batch, scalar }
+        let of_points = sum_of_points(&curve, &f, on.modulo);
+        Input { genus, curve, batch, scalar, of_points }
     }
 
     /// The last record of the batch.
@@ -185,7 +198,7 @@ impl Input {
 
     /// Does a work once and gives the record that it wrote, or the two places of a repeat.
     fn run(&self, engine: &Engine, work: Work) -> Vec<u8> {
-        let mut out = [0; 49];
+        let mut out = [0; 50];
         let (number, length) = match work {
             Work::Total => (engine.total)(&self.curve, &self.batch, &mut out),
             Work::Multiple => (engine.multiple)(&self.curve, self.divisor(), &self.scalar, &mut out),
@@ -196,6 +209,7 @@ impl Input {
                 (number, 16)
             }
             Work::Check => ((engine.check)(&self.curve), 0),
+            Work::Split => (engine.split)(&self.curve, &self.of_points, &mut out),
         };
         if number != 0 {
             eprintln!("{} {} was refused: {}", engine.name, work.name(), number);
@@ -205,8 +219,28 @@ impl Input {
     }
 }
 
+/// The sum of points over different x, as many as the genus: p is 3 modulo 4, so that a power is y where there is one.
+fn sum_of_points(curve: &[u8], f: &[u64], modulo: &Modulus) -> Vec<u8> {
+    let Modulus { p, step, .. } = *modulo;
+    let mul = |a: u64, b: u64| (u128::from(a) * u128::from(b) % u128::from(p)) as u64;
+    let pow = |a: u64, n: u64| (0..64).rev().fold(1, |r, i| mul(mul(r, r), if n >> i & 1 == 1 { a } else { 1 }));
+    let point = |i: u64| {
+        let x = mul(i, step);
+        let square = f.iter().rev().fold(1, |sum, c| (mul(sum, x) + c) % p);
+        let record = [&[1][..], &(p - x).to_be_bytes(), &pow(square, (p + 1) / 4).to_be_bytes()].concat();
+        Some(record).filter(|record| plain::check_divisor(curve, record).number == 0)
+    };
+    (1..).filter_map(point).take(f.len() / 2).fold(vec![0], |sum, point| {
+        let mut out = [0; 49];
+        let length = plain::add(curve, &sum, &point, &mut out).length as usize;
+        out[..length].to_vec()
+    })
+}
+
 fn usage() -> ! {
-    eprintln!("usage: bench [RUNS]\n       bench count proved|plain total|multiple|repeat|check 2|3|3-f6|2-61|3-61 N");
+    eprintln!(
+        "usage: bench [RUNS]\n       bench count proved|plain total|multiple|repeat|check|split 2|3|3-f6|2-61|3-61 N"
+    );
     exit(2)
 }
 
