@@ -1,7 +1,14 @@
 // Files by name, for the programs: the one library here that calls the system. No contract can say what a file holds or what is written; what
 // is promised is that the bytes counted lie inside the buffer.
 ghost use lib.ListN.{length};
+ghost use Rattle.divisor.specs.Divisors.{Held};
+ghost use Rattle.curve.specs.Curves.{Sound};
 ghost use Rattle.files.specs.Files.{Within};
+use census_lines::Opened;
+use counter::Next;
+use curve::Curve;
+use divisor::Divisor;
+use field::Modulus;
 use libc::STDOUT_FILENO;
 use texts::FileRead;
 
@@ -47,4 +54,46 @@ pub fn print(curve: &[u8], batch: &[u8]) {
     let mut out = [0u8; 256];
     let n = texts::tally_files(c, &s, b, &t, &mut out);
     io::write_all(STDOUT_FILENO, &out[..n]);
+}
+
+// Writes a divisor's line to standard output.
+fn print_record(d: Divisor, m: Modulus)
+    requires { ⌜ Held m d ⌝ }
+{
+    let mut out = [0u8; 256];
+    let n = lines::record(d, m, &mut out);
+    io::write_all(STDOUT_FILENO, &out[..n]);
+}
+
+// The lines of a training curve, from the neutral divisor on, next after next.
+fn print_lines(c: Curve)
+    requires { ⌜ Sound c ⌝ }
+{
+    let mut d = Divisor::neutral();
+    loop {
+        print_record(d, c.m);
+        match counter::next_valid(c, d) {
+            Next::Found(y) => {
+                d = y;
+            }
+            Next::Last => {
+                return;
+            }
+        }
+    }
+}
+
+// Writes to standard output the census of the training curve in a file, or the line of what refuses it, and nothing else.
+pub fn print_census(curve: &[u8]) {
+    let mut s = [0u8; 65537];
+    let f = read(curve, &mut s);
+    let mut out = [0u8; 256];
+    match census_lines::open(f, &s, &mut out) {
+        Opened::Training(c) => {
+            print_lines(c);
+        }
+        Opened::Refused(n) => {
+            io::write_all(STDOUT_FILENO, &out[..n]);
+        }
+    }
 }

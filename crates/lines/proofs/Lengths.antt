@@ -12,7 +12,7 @@ use Rattle.rules.specs.Lists.{Repeat}
 use Rattle.rules.specs.Records.{choose, numbers}
 use Rattle.rules.proofs.calls.Elements.{length-numbers}
 use Rattle.digits.specs.Digits.{letters, decimal, hex}
-use Rattle.lines.specs.Lines.{two, places, spaced, count-line, repeat-line, total-line, refused-line}
+use Rattle.lines.specs.Lines.{two, places, spaced, count-line, repeat-line, record-line, total-line, refused-line}
 use Rattle.digits.proofs.Decimals.{length-hex, Word, decimal-short}
 
 -- ---- digits
@@ -46,8 +46,12 @@ pub repeat-short : (r : Repeat) → Word (r .first) → Word (r .second) → len
 unfolding repeat-line
 repeat-short r h k = omega (arith, length-append (places (r .first) (r .second)) (10 ∷ []), places-short (r .first) (r .second) h k)
 
-pub total-short : (p : ℕ) (d : Pair (modulo p)) → length (d .u) ≤ 3 → length (d .v) ≤ 3 → length (total-line p d) ≤ 111
-unfolding total-line
-total-short p d h k =
+pub record-short : (p : ℕ) (d : Pair (modulo p)) → length (d .u) ≤ 3 → length (d .v) ≤ 3 → length (record-line p d) ≤ 105
+unfolding record-line
+record-short p d h k =
     let l : List ℕ = numbers p (d .u) ++ numbers p (d .v) in
     omega (arith, length-append (hex 2 (length (d .u))) (spaced l ++ (10 ∷ [])), length-hex 2 (length (d .u)), length-append (spaced l) (10 ∷ []), length-spaced l, length-append (numbers p (d .u)) (numbers p (d .v)), length-numbers p (d .u), length-numbers p (d .v))
+
+pub total-short : (p : ℕ) (d : Pair (modulo p)) → length (d .u) ≤ 3 → length (d .v) ≤ 3 → length (total-line p d) ≤ 111
+unfolding total-line
+total-short p d h k = omega (arith, record-short p d h k)

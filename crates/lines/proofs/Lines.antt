@@ -1,5 +1,5 @@
--- The lines by their parts, as the code puts them: the places of a repeat by their case, numbers one after the other, the total's line by its
--- weight and its numbers.
+-- The lines by their parts, as the code puts them: the places of a repeat by their case, numbers one after the other, a record's line by its
+-- weight and its numbers, the total's line by its word.
 use Prim.Native.Nat.{ℕ, suc, _+_, _*_, _≤_, _<_}
 use mathlib.Core.Path.{_≡_, refl, sym, ap, ap₂, _∙_}
 use mathlib.Core.List.{List, [], _∷_, _++_, append-assoc, append-nil}
@@ -12,12 +12,12 @@ use Rattle.field.specs.declared.Modulus.{Modulus}
 use Rattle.divisor.specs.declared.Divisor.{Divisor}
 use Rattle.divisor.specs.Divisors.{weightOf, pair}
 use Rattle.record_write.specs.Write.{NumbersOf}
-use Rattle.divisor.proofs.Laws.{weight-is}
+use Rattle.divisor.proofs.Laws.{weight-le, weight-is, weight-is-v}
 use Rattle.digits.specs.Digits.{letters, hex}
-use Rattle.lines.specs.Lines.{two, places, spaced, total-line}
+use Rattle.lines.specs.Lines.{two, places, spaced, record-line, total-line}
 use Rattle.digits.specs.Put.{PutAt, Room}
 use Rattle.digits.proofs.Decimals.{length-hex}
-use Rattle.lines.proofs.Lengths.{length-spaced}
+use Rattle.lines.proofs.Lengths.{length-spaced, record-short}
 use Rattle.digits.proofs.Putting.{put-as, put-then, room-as, room-first, room-next}
 
 pub places-none : (i j : ℕ) → i ≡ 0 → places i j ≡ (letters "none")
@@ -51,22 +51,36 @@ module _ (x : List ℕ) (k : ℕ) (h : k < length x) where
       pub turn : {o'' : List ℕ} {r : ℕ} → PutAt o' c (hex 16 (getD x k 0)) o'' r → PutAt out a (spaced (take (k + 1) x)) o'' r
       turn m = put-as (sym spaced-more) (put-then i (put-then j m))
 
--- ---- the total's line
+-- ---- a record's line, and the total's
 module _ (m : Modulus) (d : Divisor) (x : List ℕ) (w : ℕ) (e : w ≡ weightOf d) (h : NumbersOf m d x) where
-  abbrev behind : List ℕ
-  behind = hex 2 w ++ (spaced (take (2 * w) x) ++ (10 ∷ []))
+  abbrev parts : List ℕ
+  parts = hex 2 w ++ (spaced (take (2 * w) x) ++ (10 ∷ []))
 
-  total-is : (letters "total ") ++ behind ≡ total-line (m .p) (pair m d)
+  record-is : parts ≡ record-line (m .p) (pair m d)
+  unfolding record-line
+  record-is = ap₂ (λ (n : ℕ) (l : List ℕ). hex 2 n ++ (spaced l ++ (10 ∷ []))) (e ∙ sym (weight-is m d)) (ap (λ (n : ℕ). take (2 * n) x) e ∙ h .is)
+
+  pub parts-room : (a : ℕ) → Room a (record-line (m .p) (pair m d)) → Room a parts
+  parts-room a room = room-as a (sym record-is) room
+
+  pub record-put : {a : ℕ} {out o : List ℕ} {r : ℕ} → PutAt out a parts o r → PutAt out a (record-line (m .p) (pair m d)) o r
+  record-put l = put-as record-is l
+
+module _ (m : Modulus) (d : Divisor) (a : ℕ) (room : Room a (total-line (m .p) (pair m d))) where
+  total-is : (letters "total ") ++ record-line (m .p) (pair m d) ≡ total-line (m .p) (pair m d)
   unfolding total-line
-  total-is = ap₂ (λ (n : ℕ) (l : List ℕ). (letters "total ") ++ (hex 2 n ++ (spaced l ++ (10 ∷ [])))) (e ∙ sym (weight-is m d)) (ap (λ (n : ℕ). take (2 * n) x) e ∙ h .is)
+  total-is = refl
 
-  module _ (a : ℕ) (room : Room a (total-line (m .p) (pair m d))) where
-    pub word-room : Room a (letters "total ")
-    word-room = room-first a (letters "total ") behind (room-as a (sym total-is) room)
+  pub word-room : Room a (letters "total ")
+  word-room = room-first a (letters "total ") (record-line (m .p) (pair m d)) (room-as a (sym total-is) room)
 
-    module _ {out o : List ℕ} {b : ℕ} (k : PutAt out a (letters "total ") o b) where
-      pub behind-room : Room b behind
-      behind-room = room-next k behind (room-as a (sym total-is) room)
+  module _ {out o : List ℕ} {b : ℕ} (k : PutAt out a (letters "total ") o b) where
+    pub behind-room : Room b (record-line (m .p) (pair m d))
+    behind-room = room-next k (record-line (m .p) (pair m d)) (room-as a (sym total-is) room)
 
-      pub total-put : {o' : List ℕ} {r : ℕ} → PutAt o b behind o' r → PutAt out a (total-line (m .p) (pair m d)) o' r
-      total-put l = put-as total-is (put-then k l)
+    pub total-put : {o' : List ℕ} {r : ℕ} → PutAt o b (record-line (m .p) (pair m d)) o' r → PutAt out a (total-line (m .p) (pair m d)) o' r
+    total-put l = put-as total-is (put-then k l)
+
+-- a record's line fits by itself
+pub record-room : (m : Modulus) (d : Divisor) → Room 0 (record-line (m .p) (pair m d))
+record-room m d = omega (arith, record-short (m .p) (pair m d) (omega (arith, weight-is m d, weight-le d)) (omega (arith, weight-is-v m d, weight-le d)))

@@ -33,10 +33,14 @@ unfolding hex
 spaced [] = []
 spaced (x ∷ l) = letters " " ++ (hex 16 x ++ spaced l)
 
--- the weight in two digits, then u_0 to u_(w-1), then v_0 to v_(w-1)
-unfoldable pub total-line : (p : ℕ) → Pair (modulo p) → List ℕ
+-- a divisor's record: the weight in two digits, then u_0 to u_(w-1), then v_0 to v_(w-1)
+unfoldable pub record-line : (p : ℕ) → Pair (modulo p) → List ℕ
 unfolding hex spaced numbers
-total-line p d = letters "total " ++ (hex 2 (length (d .u)) ++ (spaced (numbers p (d .u) ++ numbers p (d .v)) ++ letters "\n"))
+record-line p d = hex 2 (length (d .u)) ++ (spaced (numbers p (d .u) ++ numbers p (d .v)) ++ letters "\n")
+
+unfoldable pub total-line : (p : ℕ) → Pair (modulo p) → List ℕ
+unfolding record-line
+total-line p d = letters "total " ++ record-line p d
 
 -- number and place
 unfoldable pub refused-line : ℕ → ℕ → List ℕ

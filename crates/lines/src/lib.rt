@@ -3,7 +3,7 @@ ghost use Prim.Native.Nat.{_≤_};
 ghost use lib.ListN.{take};
 ghost use Rattle.divisor.specs.Divisors.{pair, Held};
 ghost use Rattle.digits.specs.Put.{PutAt, Room};
-ghost use Rattle.lines.specs.Lines.{count-line, repeat-line, total-line, refused-line, spaced, two, places};
+ghost use Rattle.lines.specs.Lines.{count-line, repeat-line, record-line, total-line, refused-line, spaced, two, places};
 ghost use Rattle.lines.specs.Printed.{Printed, placesOf};
 use divisor::Divisor;
 use field::Modulus;
@@ -67,16 +67,32 @@ fn put_numbers(out: &mut [u8; 256], a: usize, x: [u64; 8], n: usize) -> usize
     b
 }
 
+// A divisor's record: its weight and its numbers.
+pub fn put_record(out: &mut [u8; 256], a: usize, t: Divisor, m: Modulus) -> usize
+    requires { ⌜ Held m t × Room a (record-line (m .p) (pair m t)) ⌝ }
+    ensures { λ r. ⌜ PutAt (now (out .entry)) a (record-line (m .p) (pair m t)) (now (out .exit)) r ⌝ }
+{
+    let w = t.weight();
+    let x = record_write::numbers_of(t, m);
+    let c = digits::put_hex(out, a, 2, w as u64);
+    let d = put_numbers(out, c, x, 2 * w);
+    digits::put_byte(out, d, b'\n')
+}
+
 pub fn put_total(out: &mut [u8; 256], a: usize, t: Divisor, m: Modulus) -> usize
     requires { ⌜ Held m t × Room a (total-line (m .p) (pair m t)) ⌝ }
     ensures { λ r. ⌜ PutAt (now (out .entry)) a (total-line (m .p) (pair m t)) (now (out .exit)) r ⌝ }
 {
-    let w = t.weight();
-    let x = record_write::numbers_of(t, m);
     let b = digits::put_bytes(out, a, b"total ");
-    let c = digits::put_hex(out, b, 2, w as u64);
-    let d = put_numbers(out, c, x, 2 * w);
-    digits::put_byte(out, d, b'\n')
+    put_record(out, b, t, m)
+}
+
+// The same as a line by itself.
+pub fn record(t: Divisor, m: Modulus, out: &mut [u8; 256]) -> usize
+    requires { ⌜ Held m t ⌝ }
+    ensures { λ r. ⌜ Printed (now (out .entry)) (record-line (m .p) (pair m t)) (now (out .exit)) r ⌝ }
+{
+    put_record(out, 0, t, m)
 }
 
 // The line of a refusal: its number and its place.

@@ -37,6 +37,10 @@ pub const WITNESS: u64 = 18;
 
 pub const EMPTY_KEY: u64 = 19;
 
+pub const LAST: u64 = 24;
+
+pub const NOT_FOR_TRAINING: u64 = 25;
+
 pub const NO_ROOT: u64 = 26;
 
 pub const ORDER: u64 = 27;
@@ -45,6 +49,9 @@ pub const ORDER: u64 = 27;
 pub const MOST: usize = 4096;
 
 pub const MOST_COUNT: u64 = 4096;
+
+// The largest p of a training curve.
+pub const LARGEST_TRAINING: u64 = 13;
 
 // The longest file.
 pub const MOST_BYTES: usize = 65536;

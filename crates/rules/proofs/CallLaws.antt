@@ -4,9 +4,9 @@
 -- answered 0, and `front w` is then what it left at the front of its output. The proofs are in calls/.
 use Prim.Native.Nat.{ℕ, suc, _+_, _*_, _%_, _≤_, _<_}
 use mathlib.Core.Path.{_≡_, sym, _∙_, subst}
-use mathlib.Core.List.{List, [], _∷_, _++_, map, foldl, flatten, Perm}
+use mathlib.Core.List.{List, [], _∷_, _++_, map, foldl, flatten, Perm, List·Memᴰ}
 use mathlib.Core.Bool.{true}
-use mathlib.Core.Logic.{_↔_}
+use mathlib.Core.Logic.{_↔_, _≢_}
 use lib.ListN.{length, take, drop}
 use Rattle.algebra.proofs.ring.Field.{Arith}
 use Rattle.algebra.proofs.zmod.Prime.{Prime}
@@ -15,9 +15,10 @@ use Rattle.rules.specs.Bytes.{number}
 use Rattle.rules.specs.Pair.{Pair, Valid, neutral, opposite}
 use Rattle.rules.specs.Sum.{double}
 use Rattle.rules.specs.Multiple.{multiple}
-use Rattle.rules.specs.Records.{Checked, taken, CurveRecord, curve, PairOf, Form, form-of, read-curve, read-divisor, curve-bytes, divisor-bytes}
+use Rattle.rules.specs.Records.{Checked, refused, taken, CurveRecord, curve, PairOf, Form, form-of, read-curve, read-divisor, curve-bytes, divisor-bytes}
 use Rattle.rules.specs.First.{Clear, FirstAt}
-use Rattle.rules.specs.Lists.{Batch, batch, Same, first-repeat}
+use Rattle.rules.specs.Lists.{Batch, batch, Same, equal?, first-repeat}
+use Rattle.rules.specs.Census.{passing, census, next, Below}
 use Rattle.rules.specs.Calls.{done, Result, stop, put, deliver, check-divisor, write, rewrite-curve, rewrite-divisor, double-call, opposite-call, add-call, multiply-call, total-call, repeat-call, Running, fresh, scan-call}
 use Rattle.rules.proofs.Demand3.{Demand3}
 use Rattle.rules.proofs.cantor.Totals.{AllValid}
@@ -36,9 +37,11 @@ use Rattle.rules.proofs.calls.Scans.{ScanDone, running-result, scans, A
 use Rattle.rules.proofs.calls.Delivered.{Kept}
 use Rattle.rules.proofs.calls.Taken.{total-result}
 use Rattle.rules.proofs.calls.Keys.{EmptyKey}
-use Rattle.rules.specs.Calls.{check-order}
+use Rattle.rules.specs.Calls.{check-order, split-call, next-call}
+use Rattle.rules.proofs.census.Rising.{Rising}
+use Rattle.rules.proofs.census.Census.{Least, Last}
+use Rattle.rules.proofs.calls.Next.{call-walk}
 use Rattle.rules.proofs.calls.Orders.{Ordered, OrderDone, NotOrder}
-use Rattle.rules.specs.Calls.{split-call}
 use Rattle.rules.proofs.calls.Splits.{Unsplit, SplitDone}
 use Rattle.rules.proofs.calls.Rewrites
 use Rattle.rules.proofs.calls.Written
@@ -49,6 +52,8 @@ use Rattle.rules.proofs.calls.Taken
 use Rattle.rules.proofs.calls.Keys
 use Rattle.rules.proofs.calls.Orders
 use Rattle.rules.proofs.calls.Splits
+use Rattle.rules.proofs.calls.Next
+use Rattle.rules.proofs.census.Census
 use Rattle.rules.proofs.calls.Done
 use Rattle.rules.proofs.calls.Sums
 use Rattle.rules.proofs.calls.Totals
@@ -154,6 +159,45 @@ module _ (s : List ℕ) where
   -- no empty keys (W-207): 19 exactly where the divisor given or the multiple is neutral, the earlier checks passing, whatever the output; so for scalar 0
   pub refuses-empty : (a n out : List ℕ) → (answered (multiply-call s a n out) ≡ 19) ↔ EmptyKey s a n
   refuses-empty = Keys.empty-key s
+
+-- ---- the census of a training curve (W-211): the list `census c` has the valid divisors, each exactly once, in the order of weight and then of record bytes, so that its length is their number
+module _ (s : List ℕ) {c : CurveRecord} (ec : read-curve s ≡ taken c) where
+  pub census-members : (x : PairOf c) → List·Memᴰ x (census c) ↔ Valid (curve c) x
+  census-members = Census.census-valid c (Next.some s ec) (Next.most s ec)
+
+  pub census-each-once : (x : PairOf c) → Valid (curve c) x → passing (equal? (c .p) x) (census c) ≡ x ∷ []
+  census-each-once = Census.census-once c (Next.some s ec) (Next.most s ec)
+
+  pub census-in-order : Rising (Below (c .p)) (census c)
+  census-in-order = Census.census-rising c (Next.some s ec) (Next.most s ec)
+
+  pub census-number : (l : List (PairOf c)) → Rising _≢_ l → ((x : PairOf c) → List·Memᴰ x l ↔ Valid (curve c) x) → length l ≡ length (census c)
+  census-number = Census.census-number c (Next.some s ec) (Next.most s ec)
+
+  -- the next one after a valid divisor is the least valid one above it; 24 says that none is above it
+  pub next-is-least : (x : PairOf c) → Valid (curve c) x → (y : PairOf c) → (next c x ≡ taken y) ↔ Least c x y
+  next-is-least = Census.next-least c (Next.some s ec) (Next.most s ec)
+
+  pub next-is-none : (x : PairOf c) → Valid (curve c) x → (next c x ≡ refused 24 0) ↔ Last c x
+  next-is-none = Census.next-none c (Next.some s ec) (Next.most s ec)
+
+  -- the call: 25 right after the curve's checks, then the divisor's, then 24; else the record of the next one, or 13
+  pub next-25 : 13 < c .p → (a out : List ℕ) → next-call s a out ≡ stop tt out 25 0
+  next-25 = Next.next-large s ec
+
+  module _ (small : c .p ≤ 13) where
+    pub next-refused : (a out : List ℕ) {n k : ℕ} → read-divisor c 1 a ≡ refused n k → next-call s a out ≡ stop tt out n k
+    next-refused = Next.next-no-divisor s ec small
+
+    pub next-24 : (a out : List ℕ) {x : PairOf c} → read-divisor c 1 a ≡ taken x → Last c x → next-call s a out ≡ stop tt out 24 0
+    next-24 = Next.next-last s ec small
+
+    pub next-written : (a out : List ℕ) {x : PairOf c} → read-divisor c 1 a ≡ taken x → (y : PairOf c) → Least c x y → next-call s a out ≡ write out (divisor-bytes (c .p) y)
+    next-written = Next.next-record s ec small
+
+    -- from the neutral record on, each call given what the last one wrote, with room for any record: the records of the census, and then a refusal
+    pub calls-are-census : (out : List ℕ) → 1 + 16 * c .g ≤ length out → (n : ℕ) → length (census c) ≤ n → call-walk s out n (0 ∷ []) ≡ map (divisor-bytes (c .p)) (census c)
+    calls-are-census = Next.calls-census s ec small
 
 -- ---- a key's order (W-214)
 module _ (s a order primes : List ℕ) where

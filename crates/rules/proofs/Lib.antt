@@ -1,5 +1,6 @@
 pub mod cantor
 pub mod calls
+pub mod census
 pub mod Demand3
 pub mod CallLaws
 pub mod IsSum

@@ -25,6 +25,7 @@ pub mod Repeats
 pub mod Taken
 pub mod Keys
 pub mod Orders
+pub mod Next
 pub mod Done
 pub mod Sums
 pub mod ListLaws

@@ -1,6 +1,6 @@
 -- Document 01, "Numbers the tablet shows": each call as a function from the bytes lent to its whole answer and to every byte of the output as it
 -- returns. A call's rule is what it comes to, its checks in their order and then a result; `deliver` makes the answer of it, the same for every call: 13
--- where the output is too short, and a refusal has length 0, none of the call's own numbers, and leaves the output as it was. Here are the numbers 12 to 15, 19, 26 and 27;
+-- where the output is too short, and a refusal has length 0, none of the call's own numbers, and leaves the output as it was. Here are the numbers 12 to 15, 19 and 24 to 27 (24 stands in Census, 26 in Split);
 -- 16 and 17 are the program's (texts). At the end, of "The pole's list", the running total and the scan.
 use Prim.Native.Nat.{ℕ, _+_, _/_, _%_}
 use mathlib.Core.List.{List, [], _∷_, _++_}
@@ -20,6 +20,7 @@ use Rattle.rules.specs.Checks.{Checked, refused, taken, choose, Check, f
 use Rattle.rules.specs.Records.{both, CurveRecord, curve, PairOf, made-of, below?, elements, numbers, read-curve, read-divisor, form-of, curve-bytes, divisor-bytes}
 use Rattle.rules.specs.Split.{part-at, rest-at, split-root}
 use Rattle.rules.specs.Lists.{batch, most-records, Repeat, first-repeat}
+use Rattle.rules.specs.Census.{next}
 
 pub record Answer : Type 0 where
   pub number : ℕ
@@ -147,6 +148,22 @@ split-call s a out = deliver tt out (
     go-on (read-curve s) (λ c.
     go-on (read-divisor c 1 a) (λ x.
     go-on (split-root (c .p) x) (λ y. taken (split-result c x y)))))
+
+-- ---- W-211, training curves: 25 where p is over 13, right after the curve's checks
+abbrev pub training-checks : CurveRecord → List Check
+training-checks c = (leb (c .p) 13, 25, 0) ∷ []
+
+abbrev pub read-training : List ℕ → Checked CurveRecord
+read-training s = go-on (read-curve s) (λ c. first-failed (training-checks c) c)
+
+-- the next valid divisor; 24 where none follows (Census)
+unfoldable pub next-call : List ℕ → List ℕ → List ℕ → Reply (Unit {0})
+unfolding read-curve divisor-bytes next
+next-call s a out = deliver tt out (
+    go-on (read-training s) (λ c.
+    go-on (read-divisor c 1 a) (λ x.
+    go-on (next c x) (λ y.
+    taken (record { bytes = divisor-bytes (c .p) y; own = tt })))))
 
 -- ---- a batch: its total with the count of records, its first repeat
 unfoldable pub total-call : List ℕ → List ℕ → List ℕ → Reply ℕ

@@ -9,4 +9,5 @@ pub mod Records
 pub mod First
 pub mod Lists
 pub mod Split
+pub mod Census
 pub mod Calls

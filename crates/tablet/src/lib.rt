@@ -2,8 +2,7 @@
 // handed to it.
 ghost use mathlib.Core.Path.{_≡_};
 ghost use Rattle.rules.specs.Calls.{check-curve, check-divisor, rewrite-curve, rewrite-divisor, add-call, double-call, opposite-call, multiply-call, total-call, repeat-call};
-ghost use Rattle.rules.specs.Calls.{check-order};
-ghost use Rattle.rules.specs.Calls.{split-call};
+ghost use Rattle.rules.specs.Calls.{check-order, split-call, next-call};
 ghost use Rattle.rules.specs.Calls.{fresh};
 ghost use Rattle.scan_flat.specs.Flats.{flat-running, scanned-as, FlatScanIs};
 ghost use Rattle.c_answers.specs.Flat.{flat, flat-multiple, flat-total, flat-repeat};
@@ -115,6 +114,14 @@ pub extern "C" fn yubi_check_order(
     ensures { λ r. ⌜ r ≡ flat (check-order (now (curve .entry)) (now (divisor .entry)) (now (order .entry)) (now (primes .entry))) ⌝ }
 {
     c_answers::flatten(call_order::check_order(curve, divisor, order, primes))
+}
+
+#[no_mangle]
+pub extern "C" fn yubi_next_divisor(curve: &[u8], divisor: &[u8], out: &mut [u8]) -> YubiAnswer
+    ensures answer { λ r. ⌜ r ≡ flat (next-call (now (curve .entry)) (now (divisor .entry)) (now (out .entry)) .answer) ⌝ }
+    ensures output { λ r. ⌜ now (out .exit) ≡ next-call (now (curve .entry)) (now (divisor .entry)) (now (out .entry)) .out ⌝ }
+{
+    c_answers::flatten(call_next::next_divisor(curve, divisor, out))
 }
 
 #[no_mangle]

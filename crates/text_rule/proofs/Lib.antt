@@ -1,3 +1,4 @@
 pub mod Shown
 pub mod Meters
 pub mod Files
+pub mod Census

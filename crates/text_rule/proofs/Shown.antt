@@ -13,7 +13,8 @@ use Rattle.rules.specs.Records.{read-curve, numbers}
 use Rattle.rules.specs.Lists.{batch-from, same?, repeat-from}
 use Rattle.rules.specs.Calls.{repeat-call}
 use Rattle.digits.specs.Digits.{letters}
-use Rattle.text_rule.specs.Text.{File, unreadable, holds, text}
+use Rattle.lines.specs.Lines.{record-line}
+use Rattle.text_rule.specs.Text.{File, unreadable, holds, text, census-text}
 
 pub record Row : Type 0 where
   pub curve : File
@@ -43,3 +44,20 @@ rows =
 pub shown : map (λ r. text (r .curve) (r .batch)) rows ≡ map (λ r. letters (r .prints)) rows
 unfolding text zmod emb num zmod-dec inv sum read-curve numbers batch-from same? repeat-from repeat-call bytes64 all-bytes
 shown = refl
+
+-- ---- W-211: a training curve with four divisors, g = 2, p = 3, f = x^5 + 2x^2 + x + 2; a curve with p = 17; and what isn't a curve or a file
+pub record CensusRow : Type 0 where
+  pub curve : File
+  pub prints : String
+
+abbrev pub census-rows : List CensusRow
+census-rows =
+    record { curve = holds (72 ∷ 74 ∷ 67 ∷ 0 ∷ 1 ∷ 2 ∷ all-bytes (3 ∷ 2 ∷ 1 ∷ 2 ∷ 0 ∷ 0 ∷ [])); prints = "00\n01 0000000000000002 0000000000000000\n02 0000000000000001 0000000000000000 0000000000000001 0000000000000001\n02 0000000000000001 0000000000000000 0000000000000002 0000000000000002\n" }
+    ∷ record { curve = holds (72 ∷ 74 ∷ 67 ∷ 0 ∷ 1 ∷ 2 ∷ all-bytes (17 ∷ 1 ∷ 0 ∷ 0 ∷ 0 ∷ 0 ∷ [])); prints = "refused 25 0\n" }
+    ∷ record { curve = holds []; prints = "refused 1 0\n" }
+    ∷ record { curve = unreadable; prints = "refused 17 0\n" }
+    ∷ []
+
+pub census-shown : map (λ r. census-text (r .curve)) census-rows ≡ map (λ r. letters (r .prints)) census-rows
+unfolding census-text zmod emb num zmod-dec inv read-curve numbers record-line bytes64 all-bytes
+census-shown = refl

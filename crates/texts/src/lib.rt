@@ -33,7 +33,7 @@ fn places_of(r: Answer) -> Places
 }
 
 // The first n bytes of s, or all where it has fewer.
-fn front(s: &[u8], n: usize) -> &[u8]
+pub fn front(s: &[u8], n: usize) -> &[u8]
     ensures { λ r. ⌜ now r ≡ take n (now (s .entry)) ⌝ }
 {
     if n < s.len() {

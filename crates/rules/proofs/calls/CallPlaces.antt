@@ -14,18 +14,19 @@ use Rattle.rules.specs.Multiple.{multiple}
 use Rattle.rules.specs.Checks.{Checked, refused, taken, first-failed, go-on}
 use Rattle.rules.specs.Records.{CurveRecord, curve, PairOf, read-curve, read-divisor}
 use Rattle.rules.specs.Lists.{batch}
-use Rattle.rules.specs.Calls.{order-checks, check-order}
-use Rattle.rules.specs.Calls.{split-call}
 use Rattle.rules.specs.Split.{split-root}
-use Rattle.rules.proofs.calls.CurveRecords.{accepts}
-use Rattle.rules.proofs.calls.SplitRoots.{split-refused}
-use Rattle.rules.proofs.calls.Splits.{pos-of}
+use Rattle.rules.specs.Census.{next}
+use Rattle.rules.specs.Calls.{order-checks, check-order, split-call, training-checks, read-training, next-call}
 use Rattle.rules.specs.Calls.{Result, Reply, deliver, check-curve, check-divisor, rewrite-curve, from-one, rewrite-divisor, double-call, opposite-call, add-call, multiply-checks, multiply-call, total-call, repeat-call, Running, resume, scan-call}
 use Rattle.rules.proofs.calls.Checks.{refused-as}
 use Rattle.rules.proofs.calls.Places.{At, None, Placed, elsewhere, placed-on, placed-taken, curve-place, divisor-place, resume-place, Faulty, batch-place}
 use Rattle.rules.proofs.calls.Delivered.{delivered-place}
 use Rattle.rules.proofs.calls.Written.{only}
 use Rattle.rules.proofs.calls.Taken.{no-counts, multiple-result}
+use Rattle.rules.proofs.calls.CurveRecords.{accepts}
+use Rattle.rules.proofs.calls.SplitRoots.{split-refused}
+use Rattle.rules.proofs.calls.Splits.{pos-of}
+use Rattle.rules.proofs.census.Census.{next-number}
 
 -- the one divisor of a call; the first or the second of two
 abbrev pub Alone : ℕ → ℕ → Type 0
@@ -100,6 +101,15 @@ module _ (s out : List ℕ) where
   multiply-place a scalar = delivered-place no-counts out Alone _ (on-curve Alone s _ (λ c e. alone c a _ (λ x n j q.
       refused-as (multiple-result c (number scalar) x) (At Alone) (multiply-checks c scalar x (multiple (curve c) (number scalar) x))
       (elsewhere Alone (λ l u. omega arith) refl, (elsewhere Alone (λ l u. omega arith) refl, (elsewhere Alone (λ l u. omega arith) refl, tt))) q)))
+
+  -- 24 and 25 have place 0
+  pub training-place : Placed None (read-training s)
+  training-place = on-curve None s _ (λ c e n j q. refused-as c (At None) (training-checks c) (elsewhere None (λ l u. omega arith) refl, tt) q)
+
+  pub next-place : (a : List ℕ) → Stands Alone (next-call s a out)
+  unfolding next-call
+  next-place a = delivered-place tt out Alone _ (placed-on Alone None (read-training s) _ training-place (λ n j e h. absurd h) (λ c e.
+      alone c a _ (λ x. placed-on Alone None (next c x) _ (λ n j q. let t = next-number c x q in elsewhere None (λ l u. omega (arith, t .0)) (t .1)) (λ n j e h. absurd h) (λ y e. placed-taken Alone _))))
 
   pub total-place : (records : List ℕ) → Stands (On s (λ c. Faulty c records)) (total-call s records out)
   unfolding total-call

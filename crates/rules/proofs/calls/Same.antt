@@ -103,7 +103,7 @@ module _ (p : ℕ) where
       go (yes e) h = h
       go (no n) h = absurd (n refl)
 
-  equal-decides : (a b : Pair (modulo p)) → (equal? p a b ≡ true) ↔ (a ≡ b)
+  pub equal-decides : (a b : Pair (modulo p)) → (equal? p a b ≡ true) ↔ (a ≡ b)
   equal-decides a b = (λ e. to (both-true _ _ e), λ e. ap (equal? p a) (sym e) ∙ true-both (same-list-refl (a .u)) (same-list-refl (a .v)))
     where
       to : (same-list? p (a .u) (b .u) ≡ true) × (same-list? p (a .v) (b .v) ≡ true) → a ≡ b
