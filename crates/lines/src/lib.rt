@@ -67,7 +67,7 @@ fn put_numbers(out: &mut [u8; 256], a: usize, x: [u64; 8], n: usize) -> usize
     b
 }
 
-// A divisor's record: its weight and its numbers.
+// A record's line: a divisor's weight and its numbers.
 pub fn put_record(out: &mut [u8; 256], a: usize, t: Divisor, m: Modulus) -> usize
     requires { ⌜ Held m t × Room a (record-line (m .p) (pair m t)) ⌝ }
     ensures { λ r. ⌜ PutAt (now (out .entry)) a (record-line (m .p) (pair m t)) (now (out .exit)) r ⌝ }
@@ -87,7 +87,7 @@ pub fn put_total(out: &mut [u8; 256], a: usize, t: Divisor, m: Modulus) -> usize
     put_record(out, b, t, m)
 }
 
-// The same as a line by itself.
+// A record's line by itself, at the front.
 pub fn record(t: Divisor, m: Modulus, out: &mut [u8; 256]) -> usize
     requires { ⌜ Held m t ⌝ }
     ensures { λ r. ⌜ Printed (now (out .entry)) (record-line (m .p) (pair m t)) (now (out .exit)) r ⌝ }

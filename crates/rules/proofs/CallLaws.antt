@@ -195,9 +195,12 @@ module _ (s : List ℕ) {c : CurveRecord} (ec : read-curve s ≡ taken c) where
     pub next-written : (a out : List ℕ) {x : PairOf c} → read-divisor c 1 a ≡ taken x → (y : PairOf c) → Least c x y → next-call s a out ≡ write out (divisor-bytes (c .p) y)
     next-written = Next.next-record s ec small
 
-    -- from the neutral record on, each call given what the last one wrote, with room for any record: the records of the census, and then a refusal
+    -- from the neutral record on, each call given what the last one wrote, with room for any record: the records of the census, and then 24
     pub calls-are-census : (out : List ℕ) → 1 + 16 * c .g ≤ length out → (n : ℕ) → length (census c) ≤ n → call-walk s out n (0 ∷ []) ≡ map (divisor-bytes (c .p)) (census c)
     calls-are-census = Next.calls-census s ec small
+
+    pub calls-end-in-24 : (out : List ℕ) (l : List (PairOf c)) (x : PairOf c) → census c ≡ l ++ (x ∷ []) → next-call s (divisor-bytes (c .p) x) out ≡ stop tt out 24 0
+    calls-end-in-24 = Next.call-ends s ec small
 
 -- ---- a key's order (W-214)
 module _ (s a order primes : List ℕ) where

@@ -28,11 +28,12 @@ unfoldable pub passing : {A : Type 0} → (A → Bool) → List A → List A
 passing test? [] = []
 passing test? (x ∷ l) = choose (test? x) (x ∷ passing test? l) (passing test? l)
 
--- the one that stands right behind the one that the test finds; 24 where none does
+-- the first of a list; 24 where there is none
 abbrev pub first : {A : Type 0} → List A → Checked A
 first [] = refused 24 0
 first (x ∷ l) = taken x
 
+-- the one right behind the one that the test finds
 unfoldable pub behind : {A : Type 0} → (A → Bool) → List A → Checked A
 behind here? [] = refused 24 0
 behind here? (x ∷ l) = choose (here? x) (first l) (behind here? l)

@@ -1,29 +1,20 @@
 -- W-211: the census' text from line to line. Gives: it is the lines from the neutral divisor on (`lines-begin`); those from a valid divisor on are its own and, where one follows, those from that one on (`lines-next`), and else its own alone (`lines-last`); each step leaves
 -- fewer (`fewer`). So whoever prints a divisor's line, goes to the next one, and stops at 24, prints the text.
 -- Open: `onward`, `lines-from`.
-use Prim.Native.Nat.{ℕ, zero, suc, _+_, _≤_, _<_}
-use mathlib.Core.Path.{_≡_, refl, sym, ap, _∙_, subst}
-use mathlib.Core.List.{List, [], _∷_, _++_, append-nil, flatMap, List·Memᴰ, List·Memᴰ·cases-cons, List·Memᴰ·not-nil}
-use mathlib.Core.Logic.{_⊎_, inl, inr}
+use Prim.Native.Nat.{ℕ, _≤_, _<_}
+use mathlib.Core.Path.{_≡_, sym, ap, _∙_}
+use mathlib.Core.List.{List, [], _∷_, _++_, append-nil, flatMap}
 use native.Mathlib.Omega.{arith}
 use lib.ListN.{length, length-append}
 use lib.Seq.{append-snoc}
 use Rattle.rules.specs.Pair.{Valid, neutral}
-use Rattle.rules.specs.Checks.{Checked, refused, taken}
+use Rattle.rules.specs.Checks.{refused, taken}
 use Rattle.rules.specs.Records.{CurveRecord, curve, PairOf}
 use Rattle.rules.specs.Census.{first, census, next}
 use Rattle.rules.proofs.calls.Tests.{refused-taken, taken-inj}
-use Rattle.rules.proofs.census.Census.{census-valid, next-at, walk, walk-at, walk-census}
+use Rattle.rules.proofs.census.Census.{mem-split, census-valid, next-at, walk, walk-at, walk-census}
 use Rattle.lines.specs.Lines.{record-line}
 use Rattle.text_rule.specs.Text.{lines-of}
-
-split : {A : Type 0} (l : List A) (x : A) → List·Memᴰ x l → (a b : List A) × (l ≡ a ++ (x ∷ b))
-split [] x m = absurd (List·Memᴰ·not-nil m)
-split (y ∷ l) x m = go (List·Memᴰ·cases-cons m) (split l x)
-  where
-    go : (x ≡ y) ⊎ List·Memᴰ x l → (List·Memᴰ x l → (a b : List _) × (l ≡ a ++ (x ∷ b))) → (a b : List _) × (y ∷ l ≡ a ++ (x ∷ b))
-    go (inl e) rec = ([], l, ap (λ t. t ∷ l) (sym e))
-    go (inr k) rec = let t = rec k in (y ∷ t .0, t .1, ap (λ s. y ∷ s) (t .2))
 
 module _ (c : CurveRecord) where
   -- x and all that follow it
@@ -45,14 +36,14 @@ module _ (c : CurveRecord) where
 
     module _ (x : PairOf c) (v : Valid (curve c) x) where
       pub onward-next : (y : PairOf c) → next c x ≡ taken y → onward x ≡ x ∷ onward y
-      onward-next y n = let t = split (census c) x (census-valid c some most x .1 v) in go (t .0) (t .1) (t .2) (sym (next-at c some most (t .0) x (t .1) (t .2)) ∙ n)
+      onward-next y n = let t = mem-split (census c) x (census-valid c some most x .1 v) in go (t .0) (t .1) (t .2) (sym (next-at c some most (t .0) x (t .1) (t .2)) ∙ n)
         where
           go : (a b : List (PairOf c)) → census c ≡ a ++ (x ∷ b) → first b ≡ taken y → onward x ≡ x ∷ onward y
           go a [] e q = absurd (refused-taken q)
           go a (z ∷ b) e q = onward-at a x (z ∷ b) e ∙ ap (λ t. x ∷ t) (sym (onward-at (a ++ (x ∷ [])) z b (e ∙ sym (append-snoc a x (z ∷ b))))) ∙ ap (λ t. x ∷ onward t) (taken-inj q)
 
       pub onward-last : {n k : ℕ} → next c x ≡ refused n k → onward x ≡ x ∷ []
-      onward-last {n} {k} h = let t = split (census c) x (census-valid c some most x .1 v) in go (t .0) (t .1) (t .2) (sym (next-at c some most (t .0) x (t .1) (t .2)) ∙ h)
+      onward-last {n} {k} h = let t = mem-split (census c) x (census-valid c some most x .1 v) in go (t .0) (t .1) (t .2) (sym (next-at c some most (t .0) x (t .1) (t .2)) ∙ h)
         where
           go : (a b : List (PairOf c)) → census c ≡ a ++ (x ∷ b) → first b ≡ refused n k → onward x ≡ x ∷ []
           go a [] e q = onward-at a x [] e

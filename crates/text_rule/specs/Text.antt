@@ -1,4 +1,4 @@
--- Document 01, "The pole's list": what the program prints, every byte of it, from what was read of the two files.
+-- Document 01, "The pole's list": what the program prints, every byte of it, from what was read of the two files. Document 02, W-211: what the census prints of the file of a curve.
 use Prim.Native.Nat.{ℕ}
 use mathlib.Core.List.{List, _++_, flatMap}
 use lib.Dec.{ltb}

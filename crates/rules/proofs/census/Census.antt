@@ -38,7 +38,8 @@ abbrev pub Answers : (c : CurveRecord) → PairOf c → Checked (PairOf c) → T
 Answers c x (refused n k) = (n ≡ 24) × (k ≡ 0) × Last c x
 Answers c x (taken y) = Least c x y
 
-mem-split : {A : Type 0} (l : List A) (x : A) → List·Memᴰ x l → (a b : List A) × (l ≡ a ++ (x ∷ b))
+-- a member splits its list
+pub mem-split : {A : Type 0} (l : List A) (x : A) → List·Memᴰ x l → (a b : List A) × (l ≡ a ++ (x ∷ b))
 mem-split [] x m = absurd (List·Memᴰ·not-nil m)
 mem-split (y ∷ l) x m = go (List·Memᴰ·cases-cons m) (mem-split l x)
   where

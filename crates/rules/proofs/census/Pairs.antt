@@ -3,7 +3,7 @@
 -- Open: `Small`.
 use Prim.Native.Nat.{ℕ, zero, suc, _+_, _-_, _*_, _≤_, _<_}
 use mathlib.Core.Path.{_≡_, refl, sym, ap, ap₂, _∙_, subst, subst₂}
-use mathlib.Core.List.{List, [], _∷_, _++_, map, flatMap, append-assoc, append-nil, List·Memᴰ, List·Memᴰ·head, List·Memᴰ·tail}
+use mathlib.Core.List.{List, [], _∷_, _++_, map, flatMap, map-append, append-assoc, append-nil, List·Memᴰ, List·Memᴰ·head, List·Memᴰ·tail}
 use mathlib.Core.Bool.{true}
 use mathlib.Core.Logic.{_⊎_, inl, inr}
 use native.Mathlib.Nat.{zero-add}
@@ -149,10 +149,6 @@ module _ (c : CurveRecord) where
   unfoldable pub later : ℕ → List ℕ → List (PairOf c)
   unfolding pair-from rest weighing run flatMap
   later w r = map (pair-from c w) (rest (c .p) r) ++ heavier w
-
-  map-append : (f : List ℕ → PairOf c) (l m : List (List ℕ)) → map f (l ++ m) ≡ map f l ++ map f m
-  map-append f [] m = refl
-  map-append f (r ∷ l) m = ap (λ t. f r ∷ t) (map-append f l m)
 
   pub pairs-split : (w : ℕ) (r : List ℕ) → w ≤ c .g → length r ≡ w + w → Small (c .p) r → (l : List (PairOf c)) × (pairs c ≡ l ++ (pair-from c w r ∷ later w r))
   unfolding pairs weighing later

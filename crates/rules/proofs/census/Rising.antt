@@ -1,5 +1,5 @@
 -- Lists in strict order, over any relation. Gives: members of maps, of lists put together and of those that pass a test; that such lists are in order where their parts are (`rising-append`, `rising-map`, `rising-each`, `rising-passing`);
--- where no element stands before itself, each stands once (`once`).
+-- what stands before and behind an element of such a list (`before`, `beyond`); runs of numbers.
 -- Open: `All`, `Rising`.
 use Prim.Native.Nat.{ℕ, zero, suc, _+_, _≤_, _<_}
 use mathlib.Core.Path.{_≡_, refl, sym, ap, ap₂, _∙_, subst}

@@ -3,7 +3,7 @@
 -- Open: `Tops`.
 use Prim.Native.Nat.{ℕ, zero, suc, _+_, _-_, _≤_, _<_}
 use mathlib.Core.Path.{_≡_, refl, sym, ap, ap₂, _∙_, subst, subst₂}
-use mathlib.Core.List.{List, [], _∷_, _++_, map, flatMap, append-assoc, append-nil, List·Memᴰ, List·Memᴰ·head, List·Memᴰ·tail, List·Memᴰ·eq-of-singleton}
+use mathlib.Core.List.{List, [], _∷_, _++_, map, flatMap, map-append, append-assoc, append-nil, List·Memᴰ, List·Memᴰ·head, List·Memᴰ·tail, List·Memᴰ·eq-of-singleton}
 use mathlib.Core.Logic.{_⊎_, inl, inr}
 use native.Mathlib.Omega.{arith}
 use native.Mathlib.Nat.{zero-add}
@@ -55,10 +55,6 @@ module _ (p : ℕ) where
   rest [] = []
   rest (x ∷ t) = map (λ r. x ∷ r) (rest t) ++ larger (length t) x
 
-  map-append : (x : ℕ) (l m : List (List ℕ)) → map (λ r. x ∷ r) (l ++ m) ≡ map (λ r. x ∷ r) l ++ map (λ r. x ∷ r) m
-  map-append x [] m = refl
-  map-append x (r ∷ l) m = ap (λ t. (x ∷ r) ∷ t) (map-append x l m)
-
   run-at : (x : ℕ) → x < p → run 0 p ≡ run 0 x ++ (x ∷ run (suc x) (p - suc x))
   unfolding run
   run-at x u = let e : p ≡ x + suc (p - suc x) = omega arith in ap (run 0) e ∙ run-split 0 x (suc (p - suc x)) ∙ ap (λ t. run 0 x ++ run t (suc (p - suc x))) (zero-add x)
@@ -74,7 +70,7 @@ module _ (p : ℕ) where
       )
     where
       here : (n : ℕ) (l : List (List ℕ)) → rows p n ≡ l ++ (t ∷ rest t) → flatMap (block n) (x ∷ run (suc x) (p - suc x)) ≡ map (λ r. x ∷ r) l ++ ((x ∷ t) ∷ (map (λ r. x ∷ r) (rest t) ++ larger n x))
-      here n l e = ap (λ s. map (λ r. x ∷ r) s ++ larger n x) e ∙ ap (λ s. s ++ larger n x) (map-append x l (t ∷ rest t)) ∙ append-assoc (map (λ r. x ∷ r) l) ((x ∷ t) ∷ map (λ r. x ∷ r) (rest t)) (larger n x)
+      here n l e = ap (λ s. map (λ r. x ∷ r) s ++ larger n x) e ∙ ap (λ s. s ++ larger n x) (map-append (λ r. x ∷ r) l (t ∷ rest t)) ∙ append-assoc (map (λ r. x ∷ r) l) ((x ∷ t) ∷ map (λ r. x ∷ r) (rest t)) (larger n x)
 
   -- ---- a counter's turn
   abbrev pub Tops : List ℕ → Type 0
