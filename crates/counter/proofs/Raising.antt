@@ -40,8 +40,11 @@ module _ (p : ℕ) (some : 0 < p) (a : zmod p .El) where
       go (yes e) = absurd (z (more-is ∙ ap (emb p) e ∙ emb-p p some))
       go (no n) = omega (arith, num-lt p some a)
 
+  pub raised-below : suc (num p a) < p → num p more ≡ suc (num p a)
+  raised-below u = ap (num p) more-is ∙ num-of p some (suc (num p a)) u
+
   pub raised : (more ≡ zmod p .zer → ⊥) → num p more ≡ suc (num p a)
-  raised z = ap (num p) more-is ∙ num-of p some (suc (num p a)) (not-top z)
+  raised z = raised-below (not-top z)
 
 module _ (m : Modulus) where
   abbrev p : ℕ

@@ -23,13 +23,14 @@ use Rattle.field.proofs.Decide.{otherwise}
 use Rattle.divisor.specs.declared.Divisor.{Divisor}
 use Rattle.divisor.specs.Divisors.{weightOf, us, vs, elements as values, pair, AllSettled, RowOf, Held}
 use Rattle.divisor.proofs.Laws.{weight-is, weight-is-v}
-use Rattle.divisor.proofs.Rows.{row-u, row-v}
+use Rattle.divisor.proofs.Rows.{settled-both, row-u, row-v}
 use Rattle.curve.specs.declared.Curve.{Curve}
 use Rattle.curve.specs.Curves.{curveOf, Sound, Holds, Divided}
 use Rattle.curve.specs.Record.{recordOf}
 use Rattle.counter.specs.declared.Candidate.{Candidate}
 use Rattle.counter.specs.declared.Next.the-variants.{Found, Last}
-use Rattle.counter.specs.Rows.{digits, Rowed, ahead, row-of, on, Advanced, NextIs}
+use Rattle.counter.specs.Rows.{digits, Rowed, row-of, on, Advanced, NextIs}
+use Rattle.counter.specs.Screens.{tried, stands, Skipped}
 use Rattle.counter.proofs.Raising.{length-digits}
 use Rattle.counter.proofs.Advancing.{ahead-in, ahead-out}
 
@@ -58,10 +59,6 @@ module _ (m : Modulus) where
   settled-front [] b h = (tt, h)
   settled-front (x ∷ a) b h = let t = settled-front a b (h .1) in ((h .0, t .0), t .1)
 
-  settled-join : (a b : List Residue) → AllSettled m a → AllSettled m b → AllSettled m (a ++ b)
-  settled-join [] b h k = k
-  settled-join (x ∷ a) b h k = (h .0, settled-join a b (h .1) k)
-
   -- ---- a divisor and its row
   module _ (d : Divisor) (w : ℕ) (e : weightOf d ≡ w) (l : List Residue) (h : RowOf d l) where
     twice : take (2 * w) l ≡ take w l ++ take w (drop w l)
@@ -87,7 +84,7 @@ module _ (m : Modulus) where
     row-held r = let t = settled-front (us d) (vs d) (subst (AllSettled m) whole (r .settled)) in record { good = r .good; u = t .0; v = t .1 }
 
     pub held-row : Held m d → length l ≡ 6 → w ≤ 3 → Rowed m (2 * w) l
-    held-row k long u = record { good = k .good; within = omega arith; long = long; settled = subst (AllSettled m) (sym whole) (settled-join (us d) (vs d) (k .u) (k .v)) }
+    held-row k long u = record { good = k .good; within = omega arith; long = long; settled = subst (AllSettled m) (sym whole) (settled-both m (us d) (vs d) (k .u) (k .v)) }
 
 -- ---- the walk
 module _ (c : Curve) where
@@ -97,13 +94,10 @@ module _ (c : Curve) where
   abbrev T : PairOf R → Bool
   T = on-curve? (curveOf c)
 
-  abbrev pub tried : ℕ → List Residue → List (PairOf (recordOf c))
-  tried w l = ahead R w (row-of (c .m) w l)
-
   -- what is ahead of (w, l) answers as what was ahead of (w₀, l₀)
   pub record Seeking (w₀ : ℕ) (l₀ : List Residue) (w : ℕ) (l : List Residue) : Type 0 where
     pub rowed : w ≤ 3 → Rowed (c .m) (2 * w) l
-    pub is : first (passing T (tried w l)) ≡ first (passing T (tried w₀ l₀))
+    pub is : first (stands c w l) ≡ first (stands c w₀ l₀)
 
 module _ (c : Curve) (sound : Sound c) where
   some : 0 < c .m .p
@@ -131,10 +125,14 @@ module _ (c : Curve) (sound : Sound c) where
 
   -- the walk's begin, behind d
   pub seek-from : (d : Divisor) → Holds c d → (w : ℕ) → w ≡ weightOf d → (l : List Residue) → RowOf d l → length l ≡ 6 → w ≤ 3 → (t : Candidate) → Advanced (c .m) w l t
-      → next (R c) (pair (c .m) d) ≡ first (passing (T c) (tried c (t .weight) (t .row)))
+      → next (R c) (pair (c .m) d) ≡ first (stands c (t .weight) (t .row))
   seek-from d h w e l r long u t a = next-behind d h w e l r long u ∙ ap (λ s. first (passing (T c) s)) (a .is (c .g) (curveOf c .low) (sound .most) (omega (arith, h .valid .small, weight-is (c .m) d, e)))
 
   module _ (w₀ : ℕ) (l₀ : List Residue) (w : ℕ) (l : List Residue) (h : Seeking c w₀ l₀ w l) where
+    -- past what the screen turns away
+    pub seek-skip : (r : List Residue) → Skipped c w l r → Seeking c w₀ l₀ w r
+    seek-skip r k = record { rowed = λ u. k .rowed; is = ap first (k .same) ∙ h .is }
+
     module _ (light : w ≤ c .g) (x : Divisor) (e : weightOf x ≡ w) (r : RowOf x l) where
       three : w ≤ 3
       three = omega (arith, sound .most)
@@ -148,14 +146,14 @@ module _ (c : Curve) (sound : Sound c) where
       pub seek-held : Held (c .m) x
       seek-held = row-held (c .m) x w e l r (h .rowed three)
 
-      pub seek-found : (d : Divisor) → next (R c) (pair (c .m) d) ≡ first (passing (T c) (tried c w₀ l₀)) → Divided c x → NextIs c d (Found x)
+      pub seek-found : (d : Divisor) → next (R c) (pair (c .m) d) ≡ first (stands c w₀ l₀) → Divided c x → NextIs c d (Found x)
       seek-found d n q = (
         record { held = seek-held; valid = record { fits = weight-is-v (c .m) x ∙ sym (weight-is (c .m) x); small = omega (arith, weight-is (c .m) x, e); divides = q } },
         n ∙ sym (h .is) ∙ ap (λ t. first (passing (T c) t)) here ∙ ap first (passing-yes (T c) (pair (c .m) x) _ (on-curve-test (curveOf c) (pair (c .m) x) .1 q)),
       )
 
       module _ (q : Divided c x → ⊥) (t : Candidate) (a : Advanced (c .m) w l t) where
-        skipped : passing (T c) (tried c w l) ≡ passing (T c) (tried c (t .weight) (t .row))
+        skipped : stands c w l ≡ stands c (t .weight) (t .row)
         skipped = ap (passing (T c)) here ∙ passing-no (T c) (pair (c .m) x) _ (otherwise ((T c) (pair (c .m) x)) (λ y. q (on-curve-test (curveOf c) (pair (c .m) x) .0 y))) ∙ ap (passing (T c)) (a .is (c .g) (curveOf c .low) (sound .most) light)
 
         pub seek-turn : Seeking c w₀ l₀ (t .weight) (t .row)
@@ -164,6 +162,6 @@ module _ (c : Curve) (sound : Sound c) where
         pub seek-less : length (tried c (t .weight) (t .row)) < length (tried c w l)
         seek-less = omega (arith, ap length here, ap length (a .is (c .g) (curveOf c .low) (sound .most) light))
 
-    pub seek-end : c .g < w → (d : Divisor) → next (R c) (pair (c .m) d) ≡ first (passing (T c) (tried c w₀ l₀)) → NextIs c d Last
+    pub seek-end : c .g < w → (d : Divisor) → next (R c) (pair (c .m) d) ≡ first (stands c w₀ l₀) → NextIs c d Last
     unfolding passing
     seek-end u d n = n ∙ sym (h .is) ∙ ap (λ t. first (passing (T c) t)) (ahead-out (R c) w (row-of (c .m) w l) u)

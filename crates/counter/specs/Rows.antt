@@ -1,4 +1,4 @@
--- W-211: a divisor's numbers as a counter. What the steps of the walk over all divisors promise, in the words of the rule's list (crate census_rule).
+-- W-211: a divisor's numbers as a counter. What the steps of the walk over all divisors promise, in the words of the rule's list.
 use Prim.Native.Nat.{ℕ, suc, _+_, _*_, _≤_, _<_}
 use mathlib.Core.Path.{_≡_}
 use mathlib.Core.List.{List, [], _∷_, _++_}

@@ -49,7 +49,7 @@ module _ (m : Modulus) where
   settled-at (x ∷ l) zero z h i = h .0
   settled-at (x ∷ l) (suc k) z h i = settled-at l k z (h .1) (omega arith)
 
-  settled-both : (a b : List Residue) → AllSettled m a → AllSettled m b → AllSettled m (a ++ b)
+  pub settled-both : (a b : List Residue) → AllSettled m a → AllSettled m b → AllSettled m (a ++ b)
   settled-both [] b h k = k
   settled-both (x ∷ a) b h k = (h .0, settled-both a b (h .1) k)
 

@@ -5,7 +5,7 @@ use mathlib.Core.Path.{_≡_, sym}
 use Rattle.field.proofs.Decide.{decided-yes, decided-no}
 use Rattle.divisor.proofs.Laws.{weight-le}
 use Rattle.curve.specs.Curves.{Divided}
-use Rattle.counter.proofs.Seeking.{held-row, seek-begin, seek-from, seek-held, seek-found, seek-turn, seek-less, seek-end}
+use Rattle.counter.proofs.Seeking.{held-row, seek-begin, seek-from, seek-skip, seek-held, seek-found, seek-turn, seek-less, seek-end}
 use lib.ListN.{length}
 use Rattle.curve.specs.Record.{recordOf}
 use Rattle.counter.specs.Rows.{ahead, row-of}
@@ -42,31 +42,55 @@ advance-requires c κs = let s = c .before .before .before in let o = c .row .ok
 loop-holds : tie.Need-loop-holds Inv-loop μ-loop
 loop-holds c = let s = c .before .before .before .before .before in seek-begin (s .args .c) (s .pre .0) (c .before .before .before .weight .result) (c .before .before .row .result) (c .before .advance .result) (c .before .advance .ensures)
 
--- src/lib.rt:75:13
+-- src/lib.rt:171:17
+skip-requires : tie.Need-skip-requires Inv-loop μ-loop
+skip-requires c κs = let s = c .before .before .before .before .before .before .before in (s .pre .0, (omega (arith, c .loop-test .taken), c .before .loop .inv .rowed (omega (arith, c .loop-test .taken, s .pre .0 .most))))
+
+-- src/lib.rt:172:17
 of-row-requires : tie.Need-of-row-requires Inv-loop μ-loop
-of-row-requires c κs = omega (arith, c .loop-test .taken, c .before .before .before .before .before .before .before .pre .0 .most)
+of-row-requires c κs = omega (arith, c .before .loop-test .taken, c .before .before .before .before .before .before .before .before .pre .0 .most)
 
--- src/lib.rt:76:12
+-- src/lib.rt:173:12
 contains-requires : tie.Need-contains-requires Inv-loop μ-loop
-contains-requires c κs = let s = c .before .before .before .before .before .before .before .before in let v = c .before .before .loop in (s .pre .0, (seek-held (s .args .c) (s .pre .0) _ _ (v .w) (v .row) (v .inv) (c .before .loop-test .taken) (c .of-row .result) (c .of-row .ensures .0) (c .of-row .ensures .1), omega (arith, c .of-row .ensures .0, c .before .loop-test .taken)))
+contains-requires c κs =
+    let s = c .before .before .before .before .before .before .before .before .before in
+    let v = c .before .before .before .loop in
+    let h = seek-skip (s .args .c) (s .pre .0) _ _ (v .w) (v .row) (v .inv) (c .before .skip .result) (c .before .skip .ensures) in
+    (s .pre .0, (seek-held (s .args .c) (s .pre .0) _ _ (v .w) (c .before .skip .result) h (omega (arith, c .before .before .loop-test .taken)) (c .of-row .result) (c .of-row .ensures .0) (c .of-row .ensures .1), omega (arith, c .of-row .ensures .0, c .before .before .loop-test .taken)))
 
--- src/lib.rt:77:13
+-- src/lib.rt:174:13
 returns : tie.Need-returns Inv-loop μ-loop
-returns c = let s = c .before .before .before .before .before .before .before .before .before .before in let v = c .before .before .before .before .loop in let o = c .before .before .before .before .before .before .before .row .ok in let long : length (c .before .before .before .before .before .before .before .row .result) ≡ 6 = search (length-of, o) in seek-found (s .args .c) (s .pre .0) _ _ (v .w) (v .row) (v .inv) (c .before .before .before .loop-test .taken) (c .before .before .of-row .result) (c .before .before .of-row .ensures .0) (c .before .before .of-row .ensures .1) (s .args .d)
-    (seek-from (s .args .c) (s .pre .0) (s .args .d) (s .pre .1) (c .before .before .before .before .before .before .before .before .weight .result) (c .before .before .before .before .before .before .before .before .weight .ensures) (c .before .before .before .before .before .before .before .row .result) (c .before .before .before .before .before .before .before .row .ensures) long (omega (arith, weight-le (s .args .d), c .before .before .before .before .before .before .before .before .weight .ensures)) (c .before .before .before .before .before .before .advance .result) (c .before .before .before .before .before .before .advance .ensures))
+returns c =
+    let s = c .before .before .before .before .before .before .before .before .before .before .before in
+    let v = c .before .before .before .before .before .loop in
+    let o = c .before .before .before .before .before .before .before .before .row .ok in
+    let long : length (c .before .before .before .before .before .before .before .before .row .result) ≡ 6 = search (length-of, o) in
+    let h = seek-skip (s .args .c) (s .pre .0) _ _ (v .w) (v .row) (v .inv) (c .before .before .before .skip .result) (c .before .before .before .skip .ensures) in
+    seek-found (s .args .c) (s .pre .0) _ _ (v .w) (c .before .before .before .skip .result) h (omega (arith, c .before .before .before .before .loop-test .taken)) (c .before .before .of-row .result) (c .before .before .of-row .ensures .0) (c .before .before .of-row .ensures .1) (s .args .d)
+    (seek-from (s .args .c) (s .pre .0) (s .args .d) (s .pre .1) (c .before .before .before .before .before .before .before .before .before .weight .result) (c .before .before .before .before .before .before .before .before .before .weight .ensures) (c .before .before .before .before .before .before .before .before .row .result) (c .before .before .before .before .before .before .before .before .row .ensures) long (omega (arith, weight-le (s .args .d), c .before .before .before .before .before .before .before .before .before .weight .ensures)) (c .before .before .before .before .before .before .before .advance .result) (c .before .before .before .before .before .before .before .advance .ensures))
     (decided-yes {A = Divided (s .args .c) (c .before .before .of-row .result)} {b = c .before .contains .result} (c .if1 .taken) (c .before .contains .ensures))
 
--- src/lib.rt:79:13
+-- src/lib.rt:176:17
 advance-requires-2 : tie.Need-advance-requires-2 Inv-loop μ-loop
-advance-requires-2 c κs = c .before .before .before .before .loop .inv .rowed (omega (arith, c .before .before .before .loop-test .taken, c .before .before .before .before .before .before .before .before .before .before .pre .0 .most))
+advance-requires-2 c κs = c .before .before .before .skip .ensures .rowed
 
--- src/lib.rt:74:5
+-- src/lib.rt:170:5
 loop-less : tie.Need-loop-less Inv-loop μ-loop
-loop-less c = let s = c .before .before .before .before .before .before .before .before .before .before .before .before in let v = c .before .before .before .before .before .before .loop in seek-less (s .args .c) (s .pre .0) _ _ (v .w) (v .row) (v .inv) (c .before .before .before .before .before .loop-test .taken) (c .before .before .before .before .of-row .result) (c .before .before .before .before .of-row .ensures .0) (c .before .before .before .before .of-row .ensures .1) (decided-no {A = Divided (s .args .c) (c .before .before .before .before .of-row .result)} {b = c .before .before .before .contains .result} (c .before .before .if1 .left) (c .before .before .before .contains .ensures)) (c .before .advance2 .result) (c .before .advance2 .ensures)
+loop-less c =
+    let s = c .before .before .before .before .before .before .before .before .before .before .before .before .before in
+    let v = c .before .before .before .before .before .before .before .loop in
+    let h = seek-skip (s .args .c) (s .pre .0) _ _ (v .w) (v .row) (v .inv) (c .before .before .before .before .before .skip .result) (c .before .before .before .before .before .skip .ensures) in
+    let no = decided-no {A = Divided (s .args .c) (c .before .before .before .before .of-row .result)} {b = c .before .before .before .contains .result} (c .before .before .if1 .left) (c .before .before .before .contains .ensures) in
+    omega (arith, c .before .before .before .before .before .skip .ensures .fewer, seek-less (s .args .c) (s .pre .0) _ _ (v .w) (c .before .before .before .before .before .skip .result) h (omega (arith, c .before .before .before .before .before .before .loop-test .taken)) (c .before .before .before .before .of-row .result) (c .before .before .before .before .of-row .ensures .0) (c .before .before .before .before .of-row .ensures .1) no (c .before .advance2 .result) (c .before .advance2 .ensures))
 
--- src/lib.rt:74:5
+-- src/lib.rt:170:5
 loop-again : tie.Need-loop-again Inv-loop μ-loop
-loop-again c = let s = c .before .before .before .before .before .before .before .before .before .before .before .before in let v = c .before .before .before .before .before .before .loop in seek-turn (s .args .c) (s .pre .0) _ _ (v .w) (v .row) (v .inv) (c .before .before .before .before .before .loop-test .taken) (c .before .before .before .before .of-row .result) (c .before .before .before .before .of-row .ensures .0) (c .before .before .before .before .of-row .ensures .1) (decided-no {A = Divided (s .args .c) (c .before .before .before .before .of-row .result)} {b = c .before .before .before .contains .result} (c .before .before .if1 .left) (c .before .before .before .contains .ensures)) (c .before .advance2 .result) (c .before .advance2 .ensures)
+loop-again c =
+    let s = c .before .before .before .before .before .before .before .before .before .before .before .before .before in
+    let v = c .before .before .before .before .before .before .before .loop in
+    let h = seek-skip (s .args .c) (s .pre .0) _ _ (v .w) (v .row) (v .inv) (c .before .before .before .before .before .skip .result) (c .before .before .before .before .before .skip .ensures) in
+    let no = decided-no {A = Divided (s .args .c) (c .before .before .before .before .of-row .result)} {b = c .before .before .before .contains .result} (c .before .before .if1 .left) (c .before .before .before .contains .ensures) in
+    seek-turn (s .args .c) (s .pre .0) _ _ (v .w) (c .before .before .before .before .before .skip .result) h (omega (arith, c .before .before .before .before .before .before .loop-test .taken)) (c .before .before .before .before .of-row .result) (c .before .before .before .before .of-row .ensures .0) (c .before .before .before .before .of-row .ensures .1) no (c .before .advance2 .result) (c .before .advance2 .ensures)
 
 -- src/lib.rt:65:1
 returns-2 : tie.Need-returns-2 Inv-loop μ-loop
@@ -83,6 +107,7 @@ next-valid-spec =
     row-requires
     advance-requires
     loop-holds
+    skip-requires
     of-row-requires
     contains-requires
     returns
