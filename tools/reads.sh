@@ -1,14 +1,14 @@
 #!/usr/bin/env bash
-# bash tools/reads.sh: bin/tally on files that no folder of data can hold: one that comes in pieces, one that never ends, a dangling link, one without
-# permission. What must be printed is case P, 16 or 17. Exit 1 where something else is.
+# bash tools/reads.sh: bin/tally and bin/census on files that no folder of data can hold: one that comes in pieces, one that never ends, a dangling
+# link, one without permission. What must be printed is case P or curve A's census, 16 or 17. Exit 1 where something else is.
 set -eu
 home=$(cd "$(dirname "$0")/.." && pwd -P)
 room=$(mktemp -d)
 trap 'rm -rf "$room"' EXIT
 wrong=0
 
-held() { # NAME EXPECTED
-    if [ "$("$home/bin/tally" "$room/$1" 2>/dev/null)" = "$2" ]; then
+held() { # NAME EXPECTED [PROGRAM]
+    if [ "$("$home/bin/${3:-tally}" "$room/$1" 2>/dev/null)" = "$2" ]; then
         echo "$1: as it must be"
     else
         echo "$1: WRONG"
@@ -51,4 +51,18 @@ if [ "$(id -u)" = 0 ]; then
 else
     held no-permission "refused 17 0"
 fi
+
+mkdir "$room/curve-in-pieces" "$room/endless-curve" "$room/dangling-curve"
+mkfifo "$room/curve-in-pieces/curve"
+(
+    head -c 20 "$home/crates/census/data/curve"
+    sleep 0.3
+    tail -c +21 "$home/crates/census/data/curve"
+) >"$room/curve-in-pieces/curve" &
+held curve-in-pieces "$(cat "$home/crates/census/stdout")" census
+wait
+ln -s /dev/zero "$room/endless-curve/curve"
+held endless-curve "refused 16 0" census
+ln -s nowhere "$room/dangling-curve/curve"
+held dangling-curve "refused 17 0" census
 exit "$wrong"
