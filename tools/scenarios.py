@@ -1,18 +1,20 @@
 #!/usr/bin/env python3
-"""scenarios.py: makes the folders, the arguments and the expected text of the program `scenarios`: a folder for each case of the
-program `tally`, with its `curve` and its `batch` or without, and what the program prints for each after a line with the two paths.
+"""scenarios.py: makes the files, the arguments and the expected text of the programs `scenarios` and `census_scenarios`, and those of `census`.
+`scenarios` has a folder for each case of the program `tally`, with its `curve` and its `batch` or without, and what the program prints for
+each after a line with the two paths; `census_scenarios` has a curve for each case of the program `census`, and what that prints after the path.
 
-    python3 tools/scenarios.py             writes crates/scenarios/data, args and stdout
+    python3 tools/scenarios.py             writes data, args and stdout of crates/scenarios and crates/census_scenarios, data and stdout of crates/census
     python3 tools/scenarios.py --check     writes nothing: all of it must be what it would write
 
-What a folder prints is reference.py's answer for that folder, read from the disk. Where document 01 gives the number or the lines, they
-are written out here too and must agree.
+What a folder prints is reference.py's answer for that folder, read from the disk; what a training curve prints, census.py's, that tries every
+pair. Where the documents give the number or the lines, they are written out here too and must agree.
 """
 import os
 import shutil
 import sys
 import tempfile
 
+import census
 import reference
 from records import curve_record, divisor_record
 from streets import (
@@ -22,9 +24,10 @@ from streets import (
 
 MISSING, DIRECTORY = None, "directory"
 P_LINES = "count 3\nrepeat 1 3\ntotal 02 %016x %016x %016x %016x\n" % (4, 4, 0, 1)
-HOME = os.path.normpath(os.path.join(os.path.dirname(os.path.abspath(__file__)), "..", "crates", "scenarios"))
+HOME = os.path.normpath(os.path.join(os.path.dirname(os.path.abspath(__file__)), "..", "crates"))
 
 scenarios = []  # name, curve, batch, what the document says of it: a beginning of the text
+censuses = []  # name, curve, what the documents say of it: all of a refusal, or how many divisors there are, or None
 
 
 def scenario(name, curve, batch, says):
@@ -127,6 +130,57 @@ def put_streets():
         scenario("street-of-%s-with-a-flipped-meter" % name, curve, b"".join(turned), "count 102\nrepeat 42 101\n")
 
 
+def counted(name, curve, divisors=None):
+    assert name not in [other[0] for other in censuses] and len(name) <= 40
+    censuses.append((name, curve, divisors))
+
+
+def uncounted(name, curve, number):
+    counted(name, curve, "refused %d 0\n" % number)
+
+
+def put_uncounted():
+    """No census: the file, the curve, then p over 13."""
+    f, by_17 = [1, 0, 0, 0, 0], (3, (2,))
+    uncounted("no-file", MISSING, 17)
+    uncounted("directory", DIRECTORY, 17)
+    uncounted("too-long", CURVE_A + bytes(65537 - len(CURVE_A)), 16)
+    uncounted("of-65536", CURVE_A + bytes(65536 - len(CURVE_A)), 1)
+    uncounted("empty", b"", 1)
+    uncounted("of-5", CURVE_A[:5], 1)
+    uncounted("cut", CURVE_A[:-1], 1)
+    uncounted("wrong-mark", curve_record(2, 7, f, mark=b"HJD"), 2)
+    uncounted("wrong-version", curve_record(2, 7, f, version=3), 3)
+    uncounted("genus-4", curve_record(4, 7, f), 4)
+    uncounted("p-9", curve_record(2, 9, f), 5)
+    uncounted("f-of-p", curve_record(2, 7, [7, 0, 0, 0, 0]), 6)
+    uncounted("repeated-factor", curve_record(2, 5, f), 7)
+    uncounted("wrong-witness", curve_record(2, 7, f, witness=(2, (2, 3))), 18)
+    uncounted("p-17", curve_record(2, 17, f), 25)
+    uncounted("p-17-of-genus-3", curve_record(3, 17, f + [0, 0]), 25)
+    uncounted("p-17-with-a-witness", curve_record(2, 17, f, witness=by_17), 25)
+    uncounted("p-17-f-of-p", curve_record(2, 17, [17, 0, 0, 0, 0]), 6)
+    uncounted("p-17-repeated-factor", curve_record(2, 17, [0, 0, 1, 0, 0]), 7)
+    uncounted("largest-p", CURVE_L, 25)
+
+
+def put_counted():
+    """Training curves. Of x^5 + 1, where p is 2 or 3 modulo 5, there are p² + 1 divisors, and of x^7 + 1, where p is 3 or 5 modulo 7, p³ + 1."""
+    five, seven = [1, 0, 0, 0, 0], [1, 0, 0, 0, 0, 0, 0]
+    counted("curve-a", CURVE_A, 50)
+    counted("curve-a-with-a-witness", curve_record(2, 7, five, witness=(3, (2, 3))), 50)
+    counted("curve-b", CURVE_B)
+    counted("p-3", curve_record(2, 3, five), 10)
+    counted("p-3-of-genus-3", curve_record(3, 3, seven), 28)
+    counted("p-5", curve_record(2, 5, [1, 1, 0, 0, 0]))
+    counted("p-5-of-genus-3", curve_record(3, 5, seven), 126)
+    counted("p-5-with-f6", curve_record(3, 5, [1, 2, 0, 0, 0, 0, 3]))
+    counted("p-7-of-genus-3", curve_record(3, 7, [1, 6, 0, 0, 0, 0, 0]))
+    counted("p-11", curve_record(2, 11, [3, 1, 0, 0, 4]))
+    counted("p-13", curve_record(2, 13, five), 170)
+    counted("p-13-with-a-witness", curve_record(2, 13, five, witness=(2, (2, 3))), 170)
+
+
 def put(folder, name, content):
     path = os.path.join(folder, name)
     if content is DIRECTORY:
@@ -137,7 +191,14 @@ def put(folder, name, content):
             file.write(content)
 
 
-def write(home):
+def write_all(home, texts):
+    os.makedirs(home, exist_ok=True)
+    for name, content in texts.items():
+        with open(os.path.join(home, name), "w") as file:
+            file.write(content)
+
+
+def write_scenarios(home):
     """All of it below an empty folder."""
     text = ""
     for name, curve, batch, says in scenarios:
@@ -152,38 +213,71 @@ def write(home):
             raise AssertionError("%s: %r, and document 01 has %r" % (name, printed, says))
         text += "%s/curve %s/batch\n" % (name, name) + printed
     args = "".join("%s/curve\n%s/batch\n" % (name, name) for name, _, _, _ in scenarios)
-    for name, content in (("args", args), ("stdout", text)):
-        with open(os.path.join(home, name), "w") as file:
-            file.write(content)
+    write_all(home, {"args": args, "stdout": text})
+
+
+def census_text(path):
+    try:
+        curve = reference.read_training_file(reference.file_content(path))
+    except reference.Refused as refusal:
+        return reference.refused_line(refusal)
+    return census.text_of(curve.g, curve.p, curve.f)
+
+
+def write_censuses(home):
+    data, text = os.path.join(home, "data"), ""
+    os.makedirs(data)
+    for name, curve, says in censuses:
+        put(data, name, curve)
+        printed = census_text(os.path.join(data, name))
+        agree = printed.startswith("00\n") if says is None else says in (printed, printed.count("\n"))
+        if not agree:
+            raise AssertionError("%s: %d lines, and the documents have %r" % (name, printed.count("\n"), says))
+        text += name + "\n" + printed
+    write_all(home, {"args": "".join(name + "\n" for name, _, _ in censuses), "stdout": text})
+
+
+def write_census(home):
+    """The program itself, on curve A."""
+    os.makedirs(os.path.join(home, "data"))
+    put(os.path.join(home, "data"), "curve", CURVE_A)
+    write_all(home, {"stdout": census_text(os.path.join(home, "data", "curve"))})
+
+
+MADE = {"scenarios": write_scenarios, "census_scenarios": write_censuses, "census": write_census}
 
 
 def content_of(home):
+    """What is made of a crate, by path."""
     found = {}
-    for name in ("args", "stdout"):
-        with open(os.path.join(home, name), "rb") as file:
-            found[name] = file.read()
+    made = [os.path.join(home, name) for name in ("args", "stdout")]
     for folder, _, files in os.walk(os.path.join(home, "data")):
-        for name in files:
-            path = os.path.join(folder, name)
-            with open(path, "rb") as file:
-                found[os.path.relpath(path, home)] = file.read()
+        made += [os.path.join(folder, name) for name in files]
+    for path in filter(os.path.exists, made):
+        with open(path, "rb") as file:
+            found[os.path.relpath(path, home)] = file.read()
     return found
 
 
 def main():
     scenario("case-p", CURVE_A, CASE_P, P_LINES)
-    for each in (put_files, put_curves, put_witnesses, put_batches, put_streets):
+    for each in (put_files, put_curves, put_witnesses, put_batches, put_streets, put_uncounted, put_counted):
         each()
-    with tempfile.TemporaryDirectory() as fresh:
-        write(fresh)
-        if sys.argv[1:] == ["--check"]:
-            wrong = content_of(fresh) != content_of(HOME)
-            print("crates/scenarios isn't what it should be" if wrong else "%d scenarios, as they should be" % len(scenarios))
-            return int(wrong)
-        shutil.rmtree(os.path.join(HOME, "data"), ignore_errors=True)
-        shutil.copytree(fresh, HOME, dirs_exist_ok=True)
-    print("%d scenarios" % len(scenarios))
-    return 0
+    wrong = []
+    for crate, write in MADE.items():
+        home = os.path.join(HOME, crate)
+        with tempfile.TemporaryDirectory() as fresh:
+            write(fresh)
+            if sys.argv[1:] != ["--check"]:
+                shutil.rmtree(os.path.join(home, "data"), ignore_errors=True)
+                shutil.copytree(fresh, home, dirs_exist_ok=True)
+            elif content_of(fresh) != content_of(home):
+                wrong.append(crate)
+    for crate in wrong:
+        print("crates/%s isn't what it should be" % crate)
+    if not wrong:
+        print("%d scenarios of tally, %d of census%s" % (len(scenarios), len(censuses), ", as they should be" if sys.argv[1:] == ["--check"] else ""))
+    return int(bool(wrong))
 
 
 if __name__ == "__main__":
