@@ -1,5 +1,12 @@
-"""census.py: every valid divisor of a small curve, by trying all pairs (u, v). Nothing of reference.py is used here, not even its polynomials."""
+#!/usr/bin/env python3
+"""census.py: every valid divisor of a small curve, by trying all pairs (u, v). The search uses nothing of reference.py, not even its polynomials.
+
+    python3 tools/census.py CURVE    prints what the program `census` prints for the file CURVE: a record a line, or a refusal's line
+"""
 import itertools
+import sys
+
+import reference
 
 
 def shifted(c, u, p):
@@ -39,3 +46,23 @@ def divisors(g, p, f):
                     continue
                 if (s0 * c0 + s1 * c1 + s2 * c2 + s3 * c3 + s4 * c4 - c) % p == 0:
                     yield u, v
+
+
+def text_of(g, p, f):
+    """Each record as a line: the weight in two hexadecimal digits, then each number in sixteen."""
+    return "".join("%02x%s\n" % (len(u), "".join(" %016x" % n for n in u + v)) for u, v in divisors(g, p, f))
+
+
+def main():
+    if len(sys.argv) != 2:
+        sys.exit(__doc__)
+    try:
+        curve = reference.read_training_file(reference.file_content(sys.argv[1]))
+    except reference.Refused as refusal:
+        sys.stdout.write(reference.refused_line(refusal))
+    else:
+        sys.stdout.write(text_of(curve.g, curve.p, curve.f))
+
+
+if __name__ == "__main__":
+    main()

@@ -1,15 +1,17 @@
 #!/usr/bin/env python3
 """reference.py: document 01 in plain Python, a separate implementation to compare the product with.
 
-    python3 tools/reference.py tally DIR    prints what the program prints for DIR's files `curve` and `batch`
+    python3 tools/reference.py tally DIR     prints what the program `tally` prints for DIR's files `curve` and `batch`
+    python3 tools/reference.py census DIR    prints what the program `census` prints for DIR's file `curve`
 
-It was written from document 01 and, of document 02, W-201, W-205, W-207, W-208, W-213 and W-214, and shares no code with the product. Where the document leaves a choice (the flat
-running total, the place in a double, an opposite or a multiple, the order of 16 and 17) it follows the project's settled
-readings, as the product does: on those the two agreeing says nothing about the reading. Headings in quotes are the document's own. Each public call is one
-function from the bytes lent to it to a pair: the answer's fields in the order of the call's answer, and the
+It was written from document 01 and, of document 02, W-201, W-205, W-207, W-208, W-211, W-213 and W-214, and shares no code with the product. Where
+the document leaves a choice (the flat running total, the place in a double, an opposite or a multiple, the order of 16 and 17) it follows the
+project's settled readings, as the product does: on those the two agreeing says nothing about the reading. Headings in quotes are the document's
+own. Each public call is one function from the bytes lent to it to a pair: the answer's fields in the order of the call's answer, and the
 output as it returns (None where the call has no output). The output is lent as bytes, handed back as bytes.
 selfcheck.py holds it to the document.
 """
+import itertools
 import sys
 from collections import namedtuple
 from functools import lru_cache
@@ -22,6 +24,7 @@ LISTED_BELOW = 2**31
 MOST_RECORDS = 4096
 MOST_SCALAR_BYTES = 32
 MOST_FILE_BYTES = 65536
+GREATEST_FOR_TRAINING = 13  # p
 
 # ---------------------------------------------------------------------------------------------------------
 # Polynomials over the whole numbers modulo p: tuples from the constant term up, without zeros at the end.
@@ -333,6 +336,37 @@ def parts_of(curve, divisor):
     return [Divisor(u, modulo(divisor.v, u, p)) for u in (at_root, quotient_of(divisor.u, at_root, p))]
 
 
+def rows_above(row, p):
+    """Rows of as many numbers below p, the first weighing most, that come after this one."""
+    number = 0
+    for c in row:
+        number = p * number + c
+    for above in range(number + 1, p ** len(row)):
+        yield tuple(above // p**k % p for k in reversed(range(len(row))))
+
+
+def next_of(curve, divisor):
+    """W-211: "the next valid divisor after a given one, in order of weight and then of record bytes", None after the last. Every pair of this
+    weight that comes later is tried, then every one of a higher weight."""
+    g, p, w = curve.g, curve.p, weight(divisor)
+    later = rows_above(divisor.u[:w] + divisor.v + (0,) * (w - len(divisor.v)), p)
+    higher = (row for k in range(w + 1, g + 1) for row in itertools.product(range(p), repeat=2 * k))
+    for row in itertools.chain(later, higher):
+        k = len(row) // 2
+        found = Divisor(row[:k] + (1,), polynomial(row[k:], p))
+        if divides_f_less_v_squared(curve, found.u, found.v):
+            return found
+    return None
+
+
+def census_of(curve):
+    """W-211: "Starting from neutral, each valid divisor appears exactly once"."""
+    divisor = NEUTRAL
+    while divisor is not None:
+        yield divisor
+        divisor = next_of(curve, divisor)
+
+
 def total_of(curve, divisors):
     """ "Batch total: neutral, then each record added from first to last"."""
     total = NEUTRAL
@@ -602,6 +636,27 @@ def split(curve, a, out):
     return answered(work, out)
 
 
+def read_training_curve(record):
+    """W-211: "with larger p refuse with 25, right after the curve's checks"."""
+    curve = read_curve(record)
+    if curve.p > GREATEST_FOR_TRAINING:
+        raise Refused(25)
+    return curve
+
+
+def next_divisor(curve, a, out):
+    """number, place, length. W-211: "Divisor checks come next, then 24, then 13"; 24 "after the last", place 0."""
+
+    def work():
+        on = read_training_curve(curve)
+        found = next_of(on, read_divisor(on, a, 1))
+        if found is None:
+            raise Refused(24)
+        return write_divisor(found), ()
+
+    return answered(work, out)
+
+
 def check_order(curve, divisor, order, primes):
     """number, place, length. W-214: 27 comes "after the divisor checks", "a scalar of 33 bytes stays 12, before 27"; 19 doesn't touch it."""
 
@@ -693,23 +748,46 @@ def spaced_record(record):
     return " ".join([record[:1].hex()] + [record[i : i + 8].hex() for i in range(1, len(record), 8)])
 
 
+def read_file(content):
+    """The content, which is None where the file can't be opened or read: 17 before 16."""
+    if content is None:
+        raise Refused(17)
+    if len(content) > MOST_FILE_BYTES:
+        raise Refused(16)
+    return content
+
+
+def refused_line(refusal):
+    return "refused %d %d\n" % (refusal.number, refusal.place)
+
+
 def program_text(curve_file, batch_file):
-    """What the program prints; a file that can't be opened or read is None. "16 and 17 are tested for `curve`
-    first, then `batch`, 17 before 16, all before the records"."""
+    """What the program `tally` prints. "16 and 17 are tested for `curve` first, then `batch`, 17 before 16, all before the records"."""
     try:
-        for content in (curve_file, batch_file):
-            if content is None:
-                raise Refused(17)
-            if len(content) > MOST_FILE_BYTES:
-                raise Refused(16)
+        read_file(curve_file)
+        read_file(batch_file)
         curve = read_curve(curve_file)
         divisors = read_batch(curve, batch_file)
     except Refused as refusal:
-        return "refused %d %d\n" % (refusal.number, refusal.place)
+        return refused_line(refusal)
     i, j = first_repeat_on(curve, divisors)
     repeat = "repeat %d %d" % (i, j) if j else "repeat none"
     total = spaced_record(write_divisor(total_of(curve, divisors)))
     return "count %d\n%s\ntotal %s\n" % (len(divisors), repeat, total)
+
+
+def read_training_file(curve_file):
+    """What the program `census` refuses before the first record."""
+    return read_training_curve(read_file(curve_file))
+
+
+def census_text(curve_file):
+    """What the program `census` prints: "each record from neutral on, one a line, as document 01 prints a total but without that word"."""
+    try:
+        curve = read_training_file(curve_file)
+    except Refused as refusal:
+        return refused_line(refusal)
+    return "".join(spaced_record(write_divisor(divisor)) + "\n" for divisor in census_of(curve))
 
 
 def file_content(path):
@@ -721,8 +799,9 @@ def file_content(path):
 
 
 if __name__ == "__main__":
-    if len(sys.argv) == 3 and sys.argv[1] == "tally":
+    if len(sys.argv) == 3 and sys.argv[1] in ("tally", "census"):
         folder = sys.argv[2].rstrip("/")
-        sys.stdout.write(program_text(file_content(folder + "/curve"), file_content(folder + "/batch")))
+        curve_in = file_content(folder + "/curve")
+        sys.stdout.write(program_text(curve_in, file_content(folder + "/batch")) if sys.argv[1] == "tally" else census_text(curve_in))
     else:
         sys.exit(__doc__)
