@@ -1,6 +1,7 @@
 """corner_table.py: document 01's "Street corners" as tables, line by line, and the records they speak of; corners.py runs them
 through the calls of the product, selfcheck.py holds reference.py to them. All is written out by hand from the document, the
-witnesses and what breaks them from W-201, the splits from W-213, the orders and what breaks them from W-214.
+witnesses and what breaks them from W-201, the steps of a census from W-211, the splits from W-213, the orders and what
+breaks them from W-214.
 """
 from records import curve_record, divisor_record, in_4_bytes
 
@@ -267,6 +268,37 @@ SPLITS = (
     ("split-B-neutral", CURVE_B, NEUTRAL, None),
     *splits_at_largest(2),
     *splits_at_largest(3),
+)
+
+# W-211: name, curve, divisor, the next one or the number refused. A has 7 divisors of weight 1, from (x, 1) to (x + 6, 4), and 42 of weight 2, from
+# (x², 1) to (x² + 6x + 6, 3x + 4). At x = 0 x^(2g+1) + 1 is 1, and where u_0 = 0 is least, so is v = 1.
+NEXT = (
+    ("next-A-neutral", CURVE_A, NEUTRAL, X_1),
+    ("next-A-opposite", CURVE_A, X_1, X_6),
+    ("next-A-y=0", CURVE_A, X_6, X1_0),
+    ("next-A-after-y=0", CURVE_A, X1_0, divisor_record([2], [2])),
+    ("next-A-past-no-points", CURVE_A, divisor_record([2], [5]), X6_3),
+    ("next-A-weight-2", CURVE_A, divisor_record([6], [4]), XX_1),
+    ("next-A-weight-2-opposite", CURVE_A, XX_1, XX_6),
+    ("next-A-weight-2-u1", CURVE_A, XX_6, XXX_X1),
+    ("next-A-last-but-one", CURVE_A, divisor_record([6, 6], [3, 4]), divisor_record([6, 6], [4, 3])),
+    ("next-A-last", CURVE_A, divisor_record([6, 6], [4, 3]), 24),
+    ("next-B-neutral", CURVE_B, NEUTRAL, X_1),
+    ("next-B-opposite", CURVE_B, X_1, B_X_10),
+    ("next-B-y=0", CURVE_B, B_X_10, X1_0),
+    ("next-B-weight-3", CURVE_B, B_XXX_1, B_XXX_10),
+    ("next-p=3", power_and_1(2, 3), NEUTRAL, X_1),
+    ("next-p=3-v2", power_and_1(2, 3, BY_3), NEUTRAL, X_1),
+    ("next-p=13", power_and_1(2, 13), NEUTRAL, X_1),
+    ("next-p=13-v2-genus-3", power_and_1(3, 13, (2, (2, 3))), X_1, divisor_record([0], [12])),
+    ("next-p=17", power_and_1(2, 17), NEUTRAL, 25),
+    ("next-p=17-genus-3", power_and_1(3, 17), X_1, 25),
+    ("next-p=17-v2", power_and_1(2, 17, (3, (2,))), NEUTRAL, 25),
+    ("next-p=17-no-divisor", power_and_1(2, 17), b"", 25),
+    ("next-p=17-weight-4", power_and_1(2, 17), b"\4", 25),
+    ("next-p=17-not-valid", power_and_1(2, 17), X_2, 25),
+    ("next-p=2^31-1", power_and_1(3, 2147483647), NEUTRAL, 25),
+    ("next-p=2^61-1", power_and_1(2, LARGEST, BY_LARGEST), X_1, 25),
 )
 
 # Version 2: name, curve, number. Those that have 18 are a fault each, where it can stand alone.

@@ -10,6 +10,7 @@ import itertools
 import math
 import sys
 
+import census
 import classes
 import ideals
 import orders
@@ -18,7 +19,8 @@ import splits
 import witnesses
 from corner_table import (
     B_X_10, B_XXX_1, B_XXX_10, BROKEN_ORDERS, BY_7, CASE_P, CASE_P_COUNT, CASE_P_REPEAT, CASE_P_TOTAL, CURVE_A, CURVE_B, CURVES, DIVISORS,
-    BY_LARGEST, KEYS, LARGEST, NEUTRAL, ORDERS, SCALARS, SPLITS, TWOS, WITNESSED, X1_0, X6_3, X_1, X_6, XX6X, XX_1, XX_6, XXX_X1, each_example,
+    BY_LARGEST, KEYS, LARGEST, NEUTRAL, NEXT, ORDERS, SCALARS, SPLITS, TWOS, WITNESSED, X1_0, X6_3, X_1, X_6, XX6X, XX_1, XX_6, XXX_X1, each_example,
+    power_and_1,
 )  # fmt: skip
 from records import curve_record, divisor_record, in_4_bytes
 
@@ -109,6 +111,7 @@ def check_corners():
             expect("double", r.double(CURVE_A, record, out), ((number, 1, 0), out))
             expect("opposite", r.opposite(CURVE_A, record, out), ((number, 1, 0), out))
             expect("split", r.split(CURVE_A, record, out), ((number, 1, 0), out))
+            expect("next divisor", r.next_divisor(CURVE_A, record, out), ((number, 1, 0), out))
             expect("multiply", r.multiply(CURVE_A, record, b"\1", out), ((number, 1, 0, 0, 0), out))
             expect("add, first", r.add(CURVE_A, record, X_1, out), ((number, 1, 0), out))
             expect("add, second", r.add(CURVE_A, X_1, record, out), ((number, 2, 0), out))
@@ -195,6 +198,7 @@ def check_order():
             expect("curve first", r.double(curve, wrong, b""), ((number, 0, 0), b""))
             expect("curve first", r.opposite(curve, wrong, b""), ((number, 0, 0), b""))
             expect("curve first", r.split(curve, wrong, b""), ((number, 0, 0), b""))
+            expect("curve first", r.next_divisor(curve, wrong, b""), ((number, 0, 0), b""))
             expect("curve first", r.multiply(curve, wrong, bytes(33), b""), ((number, 0, 0, 0, 0), b""))
             expect("curve first", r.check_order(curve, wrong, bytes(33), b"\0"), ((number, 0, 0), None))
             expect("curve first", r.total_batch(curve, wrong, b""), ((number, 0, 0, 0), b""))
@@ -210,6 +214,10 @@ def check_order():
         expect("before 13", r.double(CURVE_A, wrong, b""), ((number, 1, 0), b""))
         expect("before 13", r.opposite(CURVE_A, wrong, b""), ((number, 1, 0), b""))
         expect("before 26 and 13", r.split(CURVE_A, wrong, b""), ((number, 1, 0), b""))
+        expect("before 24 and 13", r.next_divisor(CURVE_A, wrong, b""), ((number, 1, 0), b""))
+        for p, witness in ((17, None), (17, (3, (2,))), (2147483647, None), (LARGEST, BY_LARGEST)):
+            for out in (b"", GUARD * 49):
+                expect("25 first", r.next_divisor(power_and_1(2, p, witness), wrong, out), ((25, 0, 0), out))
         expect("before 13", r.rewrite_divisor(CURVE_A, wrong, b""), ((number, 1, 0), b""))
         expect("15 first", r.scan(bad_total, CURVE_A, wrong), ((15, 0, 0) + bad_total, None))
         expect("14 first", r.scan(full_total, CURVE_A, wrong), ((14, 0, 0) + full_total, None))
@@ -282,7 +290,7 @@ def check_splits():
                 expect(name, r.split(curve, a, GUARD * length), ((26, 0, 0), GUARD * length))
         else:
             expect_written(name, lambda out: r.split(curve, a, out), b"".join(parts))
-    for g, p, stored, witness in SPLIT_CURVES:
+    for g, p, stored, witness in SMALL_CURVES:
         record = curve_record(g, p, stored, witness=witness)
         curve = r.read_curve(record)
         for divisor, parts in splits.searched(curve):
@@ -315,13 +323,42 @@ def check_splits():
 
 
 # Of each genus at p = 3, 5, 7, 11, 13, in either version
-SPLIT_CURVES = (
+SMALL_CURVES = (
     (2, 3, (1, 0, 0, 0, 0), None), (2, 3, (1, 1, 0, 0, 1), (2, (2,))), (2, 5, (0, 4, 0, 0, 0), None), (2, 5, (1, 2, 0, 3, 3), (2, (2,))),
     (2, 7, (1, 0, 0, 0, 0), None), (2, 7, (3, 1, 4, 1, 5), BY_7), (2, 11, (1, 0, 0, 0, 0), None), (2, 13, (2, 7, 1, 8, 2), (2, (2, 3))),
     (3, 3, (1, 2, 0, 0, 0, 0, 0), None), (3, 3, (0, 1, 1, 0, 0, 1, 1), (2, (2,))), (3, 5, (0, 4, 0, 0, 0, 0, 1), None),
     (3, 5, (1, 0, 0, 0, 0, 0, 0), (2, (2,))), (3, 7, (1, 6, 0, 0, 0, 0, 0), BY_7), (3, 11, (1, 0, 0, 0, 0, 0, 0), None),
     (3, 13, (2, 7, 1, 8, 2, 8, 1), (2, (2, 3))),
 )  # fmt: skip
+
+
+def check_census():
+    """The table by hand; whole censuses of small curves in both versions, from call to call, with 24 at the end, and as the program's text, held to
+    census.py's search and to the number of valid divisors that the points over extensions give. In genus 3 at p = 11 and 13 some of the steps."""
+    for name, curve, a, after in NEXT:
+        if isinstance(after, int):
+            for length in (0, 49):
+                expect(name, r.next_divisor(curve, a, GUARD * length), ((after, 0, 0), GUARD * length))
+        else:
+            expect_written(name, lambda out: r.next_divisor(curve, a, out), after)
+    for g, p, stored, witness in SMALL_CURVES:
+        record = curve_record(g, p, stored, witness=witness)
+        curve = r.read_curve(record)
+        text = census.text_of(g, p, curve.f)
+        records = [bytes.fromhex(line) for line in text.splitlines()]
+        expect("number of valid divisors", len(records), group_order(curve))
+        expect("each once and in order", records, sorted(set(records)))
+        if p**g <= 400:
+            expect("the program's text", r.census_text(record), text)
+        steps = list(zip(records, records[1:]))
+        for a, after in steps if p**g <= 400 else steps[:: len(steps) // 40]:
+            expect_written("next after " + a.hex(), lambda out: r.next_divisor(record, a, out), after)
+        for out in (b"", GUARD * 50):
+            expect("after the last", r.next_divisor(record, records[-1], out), ((24, 0, 0), out))
+    expect("no file", r.census_text(None), "refused 17 0\n")
+    expect("a long file", r.census_text(bytes(65537)), "refused 16 0\n")
+    expect("p = 17", r.census_text(power_and_1(2, 17)), "refused 25 0\n")
+    expect("no curve", r.census_text(CURVE_A[:-1]), "refused 1 0\n")
 
 
 def check_batches():
@@ -626,6 +663,7 @@ def main():
         check_witnesses,
         check_key_orders,
         check_splits,
+        check_census,
         check_batches,
         check_running_totals,
         check_program,

@@ -1,6 +1,8 @@
 """splits.py: divisors to be split (W-213), shape by shape of u, with curves round them; what shape a u has; and the split of every divisor of a
 small curve by a search over pairs. selfcheck.py and vectors.py use it.
 """
+from functools import lru_cache
+
 import census
 import classes
 import ideals
@@ -92,8 +94,10 @@ def drawn(dice, g, p, shape):
             return curve, r.Divisor(u, v)
 
 
+@lru_cache(maxsize=None)
 def all_divisors(curve):
-    return [r.Divisor(u + (1,), r.polynomial(v, curve.p)) for u, v in census.divisors(curve.g, curve.p, curve.f)]
+    """Of a small curve, in the order of its census."""
+    return tuple(r.Divisor(u + (1,), r.polynomial(v, curve.p)) for u, v in census.divisors(curve.g, curve.p, curve.f))
 
 
 def searched(curve):
