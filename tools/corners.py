@@ -16,11 +16,11 @@ import sys
 import ideals
 import reference as r
 from corner_table import (
-    BY_LARGEST, CASE_P, CASE_P_COUNT, CASE_P_REPEAT, CASE_P_TOTAL, CURVE_A, CURVES, DIVISORS, FLIPPED, KEYS, LARGEST, NEUTRAL, ORDERS, SCALARS,
+    BY_LARGEST, CASE_P, CASE_P_COUNT, CASE_P_REPEAT, CASE_P_TOTAL, CURVE_A, CURVES, DIVISORS, FLIPPED, KEYS, LARGEST, NEUTRAL, NEXT, ORDERS, SCALARS,
     SPLITS, WITNESSED, X6_3, X_1, X_6, XX6X, XX_1, XX_6, each_example, power_and_1,
 )  # fmt: skip
 from frames import (
-    ADD, CHECK_CURVE, CHECK_DIVISOR, CHECK_ORDER, DOUBLE, FIRST_REPEAT, GUARD, MULTIPLY, OPPOSITE, REWRITE_CURVE, REWRITE_DIVISOR, SCAN,
+    ADD, CHECK_CURVE, CHECK_DIVISOR, CHECK_ORDER, DOUBLE, FIRST_REPEAT, GUARD, MULTIPLY, NEXT_DIVISOR, OPPOSITE, REWRITE_CURVE, REWRITE_DIVISOR, SCAN,
     SPLIT, TOTAL_BATCH, WITH_OUTPUT, Frame, answer, in_parts, label, part_paths, read_parts, text_of,
 )  # fmt: skip
 from records import curve_record, divisor_record
@@ -84,6 +84,7 @@ def every_call(name, curve, a, number, place=0, second=X_1):
     corner(name + "-double", Frame(DOUBLE, curve, a, b"", 49), number, place)
     corner(name + "-opposite", Frame(OPPOSITE, curve, a, b"", 49), number, place)
     corner(name + "-split", Frame(SPLIT, curve, a, b"", 50), number, place)
+    corner(name + "-next", Frame(NEXT_DIVISOR, curve, a, b"", 49), number, place)
     corner(name + "-multiply", Frame(MULTIPLY, curve, a, b"\3", 49), number, place, more=(0, 0))
     corner(name + "-total", Frame(TOTAL_BATCH, curve, second + a, b"", 49), number, 2 * place, more=(0,))
     corner(name + "-repeat", Frame(FIRST_REPEAT, curve, second + second + a), number, 3 * place, more=(0, 0))
@@ -196,6 +197,16 @@ def put_splits():
             summed(name + "-back", curve, *parts, a)
 
 
+def put_next():
+    for name, curve, a, after in NEXT:
+        if isinstance(after, int):
+            corner(name, Frame(NEXT_DIVISOR, curve, a, b"", 49), after)
+            corner(name + "-no-output", Frame(NEXT_DIVISOR, curve, a), after)
+        else:
+            corner(name, Frame(NEXT_DIVISOR, curve, a, b"", len(after) + 2), 0, 0, after)
+            corner(name + "-no-room", Frame(NEXT_DIVISOR, curve, a, b"", len(after) - 1), 13)
+
+
 def put_slips():
     """ "Slips a fitter would make", those that the corners above don't show: two reductions in genus 3, f_6 ≠ 0 with
     p = 7. The sums' results come from ideals.py."""
@@ -228,7 +239,7 @@ MOST_PARTS = 2  # that the program reads
 def made():
     """The data in parts, and the text that the corners are answered by."""
     if not frames:
-        for put in (put_sums, put_curves, put_witnessed, put_bounds, put_case_p, put_flipped, put_orders, put_slips, put_splits):
+        for put in (put_sums, put_curves, put_witnessed, put_bounds, put_case_p, put_flipped, put_orders, put_slips, put_splits, put_next):
             put()
     lines = list(map(text_of, frames))
     parts = in_parts(frames, lines)

@@ -23,16 +23,16 @@ import reference
 
 LABEL, CHECK_CURVE, CHECK_DIVISOR, REWRITE_CURVE, REWRITE_DIVISOR, ADD = 0, 1, 2, 3, 4, 5
 DOUBLE, OPPOSITE, MULTIPLY, TOTAL_BATCH, FIRST_REPEAT, SCAN = 6, 7, 8, 9, 10, 11
-CHECK_ORDER, SPLIT = 15, 16  # 12 to 14 are the program's own
+CHECK_ORDER, SPLIT, NEXT_DIVISOR = 15, 16, 17  # 12 to 14 are the program's own
 
 NAMES = {
     LABEL: "label", CHECK_CURVE: "check_curve", CHECK_DIVISOR: "check_divisor", REWRITE_CURVE: "rewrite_curve",
     REWRITE_DIVISOR: "rewrite_divisor", ADD: "add", DOUBLE: "double", OPPOSITE: "opposite", MULTIPLY: "multiply",
     TOTAL_BATCH: "total_batch", FIRST_REPEAT: "first_repeat", SCAN: "scan", CHECK_ORDER: "check_order",
-    SPLIT: "split",
+    SPLIT: "split", NEXT_DIVISOR: "next_divisor",
 }  # fmt: skip
 CALLS = tuple(operation for operation in NAMES if operation != LABEL)
-WITH_OUTPUT = {REWRITE_CURVE, REWRITE_DIVISOR, ADD, DOUBLE, OPPOSITE, MULTIPLY, TOTAL_BATCH, SPLIT}
+WITH_OUTPUT = {REWRITE_CURVE, REWRITE_DIVISOR, ADD, DOUBLE, OPPOSITE, MULTIPLY, TOTAL_BATCH, SPLIT, NEXT_DIVISOR}
 WITH_FIRST = set(CALLS) - {CHECK_CURVE, REWRITE_CURVE}
 WITH_SECOND = {ADD, MULTIPLY, CHECK_ORDER}
 

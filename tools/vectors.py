@@ -30,19 +30,19 @@ from corner_table import (
     BY_VERSION_1S_LARGEST, FIFTEEN, LARGEST, LARGEST_LISTED, LISTS_MORE, LONG_2, LONG_3, MANY, ORDERS, OVER, SAFE, TWOS, power_and_1,
 )  # fmt: skip
 from frames import (
-    ADD, CALLS, CHECK_CURVE, CHECK_DIVISOR, CHECK_ORDER, DOUBLE, FIRST_REPEAT, GUARD, MOST_OUTPUT, MULTIPLY, NAMES, OPPOSITE, REWRITE_CURVE,
+    ADD, CALLS, CHECK_CURVE, CHECK_DIVISOR, CHECK_ORDER, DOUBLE, FIRST_REPEAT, GUARD, MOST_OUTPUT, MULTIPLY, NAMES, NEXT_DIVISOR, OPPOSITE, REWRITE_CURVE,
     REWRITE_DIVISOR, SCAN, SPLIT, TOTAL_BATCH, WITH_OUTPUT, Frame, answer, decoded, encoded, in_parts, part_paths, read_parts, text_of,
 )  # fmt: skip
 from records import curve_record, divisor_record, in_4_bytes
 
 PRIMES = classes.PRIMES
 GENERA = (2, 3)
-# Of input, which stands in the repository, with the expected text and some 92,000 of the corners: a bound to keep the program quick. W-201's
-# composite numbers are 112,000 of it, W-213's splits 245,000.
-MOST_BYTES = 1280000
+# Of input, which stands in the repository, with the expected text and some 100,000 of the corners: a bound to keep the program quick. W-201's
+# composite numbers are 112,000 of it, W-213's splits 245,000, W-211's steps 102,000.
+MOST_BYTES = 1385000
 ENOUGH = 20  # of each main kind of sum, per genus and prime
 NEUTRAL_RECORD = r.write_divisor(r.NEUTRAL)
-NUMBERS = tuple(range(16)) + (18, 19, 26, 27)  # that the calls answer
+NUMBERS = tuple(range(16)) + (18, 19, 24, 25, 26, 27)  # that the calls answer
 # Primes of version 2, with witnesses
 LARGE = {2147483647: BY_VERSION_1S_LARGEST, LARGEST: BY_LARGEST, TWOS: BY_TWOS, FIFTEEN: BY_FIFTEEN}
 
@@ -182,6 +182,13 @@ class Pool:
             a = self.heavy()
             if (r.parts_of(self.curve, a) is not None) == can_be:
                 return a
+
+    def to_follow(self, last):
+        """The last divisor of all, or one that isn't; where there is no census, any. None is neutral."""
+        if self.curve.p > r.GREATEST_FOR_TRAINING:
+            return self.heavy()
+        *before, end = splits.all_divisors(self.curve)
+        return end if last else self.dice.pick(before[1:])
 
     def signed_points(self, n):
         """At most n points over different x, each with a drawn sign."""
@@ -715,6 +722,8 @@ class Base:
         second = [("second", fault) for fault in DIVISOR_FAULTS]
         if operation in (CHECK_DIVISOR, REWRITE_DIVISOR, DOUBLE, OPPOSITE, MULTIPLY, CHECK_ORDER, SPLIT):
             stages += first
+        elif operation == NEXT_DIVISOR:
+            stages += [("training", "25")] + first + [("last", "24")]
         elif operation in (ADD, TOTAL_BATCH, FIRST_REPEAT):
             stages += first + second
         elif operation == SCAN:
@@ -752,7 +761,15 @@ class Base:
         if curve is None:
             return None
         first = second = primes = b""
-        known = pool.heavy() if operation == CHECK_ORDER else pool.to_split(not by_part["split"]) if operation == SPLIT else None
+        known = None
+        if operation == CHECK_ORDER:
+            known = pool.heavy()
+        if operation == SPLIT:
+            known = pool.to_split(not by_part["split"])
+        if operation == NEXT_DIVISOR:
+            if (pool.curve.p > r.GREATEST_FOR_TRAINING) != bool(by_part["training"]):
+                return None
+            known = pool.to_follow(by_part["last"])
         total, places = None, {"first": 1, "second": 2}
         if operation in (TOTAL_BATCH, FIRST_REPEAT):
             # good records, the first fault, good records, the second fault; 8 can stand only at the end
@@ -1064,6 +1081,42 @@ def put_splits(dice, collection):
                 collection.put(Frame(SPLIT, r.write_curve(whole), r.write_divisor(light), b"", output))
 
 
+def put_next(dice, collection, curve, a):
+    """A step with room for it, sometimes also one byte short; from the last one, with an output and without."""
+    frame = Frame(NEXT_DIVISOR, r.write_curve(curve), r.write_divisor(a))
+    need = need_of(frame)
+    outputs = [enough_output(dice, need)] if need else [0, 49]
+    if need and dice.below(6) == 0:
+        outputs.append(dice.pick([need - 1, need - 1, dice.below(need), 0]))
+    for output in outputs:
+        collection.put(frame._replace(output=output))
+
+
+STEPS_OF_A_WEIGHT = 3  # where not all are taken: the first and the last, and so many others
+
+
+def put_walks(dice, collection):
+    """Whole walks at p = 3 and 5, in both versions; at p = 7, 11 and 13 of each weight the first step, the last and some others. Then curves that are
+    too large."""
+    for g, p in itertools.product(GENERA, SPLIT_PRIMES):
+        for version in (1, 2):
+            curve = drawn_curve(dice, g, p, dice.below(3), bool(dice.below(2)))[0]
+            curve = witnessed_curve(curve) if version == 2 else curve
+            divisors = splits.all_divisors(curve)
+            for w in range(g + 1):
+                taken = [a for a in divisors if r.weight(a) == w]
+                if p > 5 and len(taken) > STEPS_OF_A_WEIGHT + 2:
+                    taken = taken[:1] + dice.turned(taken[1:-1])[:STEPS_OF_A_WEIGHT] + taken[-1:]
+                for a in taken:
+                    put_next(dice, collection, curve, a)
+    for g, p in itertools.product(GENERA, (17, 19, 1009, 65537, *LARGE)):
+        curve, a = splits.drawn(dice, g, p, (2, splits.TWO, False))
+        curve = witnessed_curve(curve) if p > 65537 or dice.below(2) else curve
+        wrong = dice.pick([b"", b"\4", b"\1" + bytes(15), divisor_record([p], [0])])
+        for record, output in ((NEUTRAL_RECORD, 17), (r.write_divisor(a), dice.pick([0, 49])), (wrong, dice.pick([0, 49]))):
+            collection.put(Frame(NEXT_DIVISOR, r.write_curve(curve), record, b"", output))
+
+
 def put_every_divisor_fault(dice, collection, pools):
     """Every coefficient by itself, every length, every weight byte; scalars over 32 bytes."""
     for pool in pools:
@@ -1216,6 +1269,10 @@ def made(seed):
     put_orders(dice, collection, with_orders[1][::2] + with_orders[2] + [pools_of[3, 3][1], witnessed[3, 3]])
     put_refusals(dice, collection, [SPLIT], {1: faulty, 2: [witnessed[g, p] for g in GENERA for p in (7, 11)]})
     put_splits(dice, collection)
+    small = {1: [pools_of[key][k] for key in ((2, 7), (2, 11), (3, 5), (3, 7)) for k in (0, 1)] + faulty[4:8], 2: [witnessed[g, p] for g in GENERA for p in (5, 7)]}
+    small[2] += [witnessed[g, LARGEST] for g in GENERA]
+    put_refusals(dice, collection, [NEXT_DIVISOR], small)
+    put_walks(dice, collection)
     return collection
 
 
@@ -1255,6 +1312,8 @@ class Census:
         self.key_orders = Counter()
         self.splits = Counter()
         self.split_on = defaultdict(set)  # by curve, the divisors of weight 2 or 3
+        self.steps = Counter()
+        self.walked = defaultdict(dict)  # by curve, what follows a divisor, None after the last
         self.text = []
         for frame in frames:
             self.take(frame)
@@ -1295,6 +1354,7 @@ class Census:
         self.take_witness(frame, number)
         self.take_order(frame, number)
         self.take_split(frame, number)
+        self.take_step(frame, fields, out)
         if operation == MULTIPLY and number in (0, 19):
             self.multiples[r.read_curve(frame.curve).g, frame.second] += 1  # 0 as a scalar is 19
         if number != 0:
@@ -1388,6 +1448,39 @@ class Census:
         small = {curve: taken for curve, taken in self.split_on.items() if curve.p <= 13 and len(taken) > 2}
         return {(curve.g, curve.p) for curve, taken in small.items() if {a for a in splits.all_divisors(curve) if r.weight(a) >= 2} == taken}
 
+    def take_step(self, frame, fields, out):
+        """The weights before and after a step, or 24, by version; and by which p 25 is given."""
+        number, _, length = fields[:3]
+        if frame.operation != NEXT_DIVISOR or number not in (0, 13, 24, 25):
+            return
+        curve = r.read_curve(frame.curve)
+        kind = curve.g, 1 if curve.witness is None else 2
+        if number == 25:
+            self.steps["25, p = %d" % curve.p] += 1
+            self.steps["25 without an output"] += frame.output == 0
+            return
+        a = r.read_divisor(curve, frame.first, 1)
+        if number == 13:
+            self.steps["a byte short"] += need_of(frame) - 1 == frame.output
+            return
+        self.walked[curve][a] = after = None if number == 24 else r.read_divisor(curve, out[:length], 1)
+        self.steps[(*kind, r.weight(a), after and r.weight(after))] += 1
+        self.steps["24 without an output"] += number == 24 and frame.output == 0
+
+    def by_weights(self):
+        return [(kind, n) for kind, n in self.steps.items() if not isinstance(kind, str)]
+
+    def walks(self):
+        """Genus, p and version of the curves that are walked from neutral to the last; a walk that isn't the census is an error."""
+        for curve, follows in self.walked.items():
+            walk = [r.NEUTRAL]
+            while follows.get(walk[-1]) is not None:
+                walk.append(follows[walk[-1]])
+            if walk[-1] in follows:
+                if tuple(walk) != splits.all_divisors(curve):
+                    raise AssertionError("a walk that isn't the census of %r" % (curve,))
+                yield curve.g, curve.p, 1 if curve.witness is None else 2
+
     def shortfalls(self):
         short = []
 
@@ -1434,7 +1527,8 @@ class Census:
             need("version 2: " + what, self.witnessed[what], 5)
         for g, operation in itertools.product(GENERA, CALLS):
             need("version 2, g = %d: %s" % (g, NAMES[operation]), self.witnessed[g, "done, " + NAMES[operation]], 5)
-            need("g = %d, p = 2^61 - 1: %s" % (g, NAMES[operation]), self.done_per_curve[(g, LARGEST), operation], 1)
+            if operation != NEXT_DIVISOR:
+                need("g = %d, p = 2^61 - 1: %s" % (g, NAMES[operation]), self.done_per_curve[(g, LARGEST), operation], 1)
         composites = set(filter(witnesses.is_composite, range(3, 3000, 2)))
         need("version 2: composite numbers below 3,000", len(self.composites & composites), len(composites))
         for g, version, what in itertools.product(GENERA, (1, 2), ("right", "wrong")):
@@ -1456,6 +1550,17 @@ class Census:
                 need("splits, g = %d, p = %d: every divisor of a curve" % (g, p), (g, p) in whole, 1)
         for what in ("weight 2, a byte short", "weight 3, a byte short", "weight 2, just enough room", "weight 3, just enough room", "26 without an output"):
             need("splits: " + what, self.splits[what], 20)
+        walks = set(self.walks())
+        for g, version in itertools.product(GENERA, (1, 2)):
+            for p in (3, 5):
+                need("walks, g = %d, p = %d, version %d" % (g, p, version), (g, p, version) in walks, 1)
+            for w in range(g + 1):
+                for after in (w, w + 1) if 0 < w < g else (1,) if w == 0 else (w, None):
+                    need("steps, g = %d, version %d: from weight %d to %s" % (g, version, w, after), self.steps[g, version, w, after], 3)
+        for p in (17, 19, 1009, 65537, *LARGE):
+            need("steps: 25, p = %d" % p, self.steps["25, p = %d" % p], 4)
+        for what in ("a byte short", "24 without an output", "25 without an output"):
+            need("steps: " + what, self.steps[what], 10)
         # Neighbours in the order: each two stages that follow each other and can go together, in every call and version.
         for operation, version in itertools.product(CALLS, CURVE_FAULTS):
             stages = Base(None, operation, None, version).stages
@@ -1520,6 +1625,11 @@ class Census:
             yield "splits, %s: " % splits.words(shape) + ", ".join("g = %d, version %d %d" % (*kind, self.splits[(*kind, shape)]) for kind in kinds)
         yield "splits: " + ", ".join("%s %d" % (what, n) for what, n in sorted((k, n) for k, n in self.splits.items() if isinstance(k, str)))
         yield "splits, every divisor of a curve: " + ", ".join("g = %d, p = %d" % key for key in sorted(self.curves_split_whole()))
+        for g, version in itertools.product(GENERA, (1, 2)):
+            done = sorted((w, after or 24, n) for (h, v, w, after), n in self.by_weights() if (h, v) == (g, version))
+            yield "steps, g = %d, version %d, weights: " % (g, version) + ", ".join("from %d to %d %d" % step if step[1] != 24 else "24 %d" % step[2] for step in done)
+        yield "steps: " + ", ".join("%s %d" % (what, n) for what, n in sorted((k, n) for k, n in self.steps.items() if isinstance(k, str)))
+        yield "walks from neutral to the last: " + ", ".join("g = %d, p = %d, version %d" % walk for walk in sorted(self.walks()))
         singles = sum(1 for order in self.orders if len(order) == 3)
         yield "refusals: %d stages by themselves, %d pairs of faults where the earlier must win" % (
             singles,

@@ -55,7 +55,7 @@ fn scan_inside(text: &mut [u8], curve: &[u8], record: &[u8], total: &[u8]) -> us
     )
 }
 
-// The calls with an output that answer number, place and length alone: 3 to 7 and 16.
+// The calls with an output that answer number, place and length alone: 3 to 7, 16 and 17.
 fn write(operation: u8, curve: &[u8], first: &[u8], second: &[u8], out: &mut [u8]) -> YubiAnswer {
     match operation {
         3 => tablet::yubi_rewrite_curve(curve, out),
@@ -63,7 +63,8 @@ fn write(operation: u8, curve: &[u8], first: &[u8], second: &[u8], out: &mut [u8
         5 => tablet::yubi_add(curve, first, second, out),
         6 => tablet::yubi_double(curve, first, out),
         7 => tablet::yubi_opposite(curve, first, out),
-        _ => tablet::yubi_split(curve, first, out),
+        16 => tablet::yubi_split(curve, first, out),
+        _ => tablet::yubi_next_divisor(curve, first, out),
     }
 }
 
@@ -81,7 +82,7 @@ pub fn line(
         0 => prints::label(text, curve),
         1 => answer_lines::checked(text, tablet::yubi_check_curve(curve)),
         2 => answer_lines::checked(text, tablet::yubi_check_divisor(curve, first)),
-        3..=7 | 16 => {
+        3..=7 | 16 | 17 => {
             let a = write(operation, curve, first, second, out);
             answer_lines::written(text, a, out)
         }
