@@ -78,6 +78,8 @@
  *                                                               with a right witness
  *   19   the divisor given or its multiple is neutral, in       don't commission the meter: its key would be empty. Ask
  *        yubi_multiply or yubi_multiply_inversion_free          the office for a new key
+ *   24   in yubi_next_divisor: the divisor given is the last    go on: the census is complete
+ *   25   in yubi_next_divisor: p is above 13                    take a training curve, with p of 13 or less
  *   26   in yubi_split: the divisor's weight is below 2, or u   keep that divisor whole: it can't be split, and nothing is
  *        has no root modulo p                                   wrong with the meter
  *   27   in yubi_check_order: the order isn't shown to be the   don't rely on that order. Load order and list again; if
@@ -88,8 +90,8 @@
  *        no prime below 2^31 or doesn't divide the order
  *
  *   Where several would fit, the first in this order is given: the curve's 1 (under 6 bytes), 2, 3, 4, then in version 1 1, 5,
- *   and in version 2 1 (ends before k), 18 (k), 1, 5, 18, then in both 6, 7; for a scan 15, 14; then the divisors from first to
- *   last, each 8 (empty), 9, 8 (length), 10, 11; then 12; then 19, 26 or 27; then 13.
+ *   and in version 2 1 (ends before k), 18 (k), 1, 5, 18, then in both 6, 7; for a scan 15, 14; for a census 25; then the
+ *   divisors from first to last, each 8 (empty), 9, 8 (length), 10, 11; then 12; then 19, 24, 26 or 27; then 13.
  */
 #ifndef YUBISORADE_H
 #define YUBISORADE_H
@@ -106,6 +108,9 @@ extern "C" {
 #define YUBI_CURVE_ROOM 199
 #define YUBI_SPLIT_ROOM 50
 #define YUBI_SCALAR_ROOM 32
+
+/* The largest p of a training curve. */
+#define YUBI_LARGEST_TRAINING 13
 
 /* The most primes of an order. */
 #define YUBI_MOST_PRIMES 32
@@ -217,6 +222,13 @@ YubiMultiple yubi_multiply_inversion_free(const uint8_t *curve, size_t curve_len
  * list goes with n = 1, the order of the neutral divisor alone. Neutral sums are no reason for 19 here. Writes nothing. */
 YubiAnswer yubi_check_order(const uint8_t *curve, size_t curve_length, const uint8_t *divisor, size_t divisor_length,
                             const uint8_t *order, size_t order_length, const uint8_t *primes, size_t primes_length);
+
+/* Writes the next divisor after the one given to out, on a training curve: 0 to 11, 13, 24, 25. Divisors are in the order of their
+ * weight, then of the bytes of their records. Begin with the neutral divisor, the single byte 00, and hand what was written to the
+ * next call: each valid divisor of the curve comes once, then 24. A curve with p above 13 gives 25, whatever the divisor's bytes
+ * are. A call tries one record after the other behind the one given: a whole census tries 4,855,540 at p = 13 in genus 3. */
+YubiAnswer yubi_next_divisor(const uint8_t *curve, size_t curve_length, const uint8_t *divisor, size_t divisor_length,
+                             uint8_t *out, size_t out_length);
 
 /* Writes the sum of a batch's divisors to out, neutral for an empty batch, and answers how many: 0 to 11, 13, 14. */
 YubiTotal yubi_total_batch(const uint8_t *curve, size_t curve_length, const uint8_t *batch, size_t batch_length,

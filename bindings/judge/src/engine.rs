@@ -16,6 +16,7 @@ pub enum Call<'a> {
     Multiply { curve: &'a [u8], a: &'a [u8], scalar: &'a [u8] },
     MultiplyInversionFree { curve: &'a [u8], a: &'a [u8], scalar: &'a [u8] },
     CheckOrder { curve: &'a [u8], divisor: &'a [u8], order: &'a [u8], primes: &'a [u8] },
+    NextDivisor { curve: &'a [u8], divisor: &'a [u8] },
     TotalBatch { curve: &'a [u8], batch: &'a [u8] },
     FirstRepeat { curve: &'a [u8], batch: &'a [u8] },
     FreshTotal,
@@ -113,6 +114,7 @@ macro_rules! answer_through {
             Call::CheckOrder { curve, divisor, order, primes } => {
                 reply!(calls::check_order(curve, divisor, order, primes))
             }
+            Call::NextDivisor { curve, divisor } => reply!(calls::next_divisor(curve, divisor, $out)),
             Call::TotalBatch { curve, batch } => reply!(calls::total_batch(curve, batch, $out), [count]),
             Call::FirstRepeat { curve, batch } => reply!(calls::first_repeat(curve, batch), [first, second]),
             Call::FreshTotal => Reply { total: $flat(calls::fresh_total()), ..Reply::default() },
@@ -164,5 +166,22 @@ impl Engine for Proved {
             YubiRunning { weight, u0, u1, u2, v0, v1, v2, count }
         };
         answer_through!(yubisorade::raw, call, out, flat, back)
+    }
+}
+
+/// The plain engine with something wrong, for trying the judge.
+#[cfg(test)]
+pub struct Wrong<F: Fn(&Call, &mut [u8], &mut Reply)>(pub F);
+
+#[cfg(test)]
+impl<F: Fn(&Call, &mut [u8], &mut Reply)> Engine for Wrong<F> {
+    fn name(&self) -> &'static str {
+        "wrong"
+    }
+
+    fn answer(&self, call: &Call, out: &mut [u8]) -> Reply {
+        let mut reply = Plain.answer(call, out);
+        (self.0)(call, out, &mut reply);
+        reply
     }
 }

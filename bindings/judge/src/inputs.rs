@@ -406,6 +406,11 @@ impl Sample {
         f
     }
 
+    /// Whether all records up to the genus's weight can be tried.
+    pub fn is_small(&self) -> bool {
+        self.p.checked_pow(2 * self.genus as u32).map_or(false, |records| records < 20_000)
+    }
+
     pub fn f_2g_is_set(&self) -> bool {
         self.f[2 * self.genus] != 0
     }

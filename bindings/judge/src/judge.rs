@@ -22,6 +22,14 @@ pub struct Census {
     pub f_2g: u64,
 }
 
+/// Censuses from the neutral divisor to the last.
+#[derive(Clone, Copy, Debug, Default, PartialEq, Eq)]
+pub struct Walks {
+    pub curves: u64,
+    pub of_version_2: u64,
+    pub divisors: u64,
+}
+
 /// What was counted.
 #[derive(Debug, Default)]
 pub struct Tally {
@@ -37,6 +45,10 @@ pub struct Tally {
     pub splits: BTreeMap<Shape, (u64, u64)>,
     /// Splits that were done, and whose parts each engine was asked to add.
     pub added_back: u64,
+    /// Censuses of whole curves, by genus and prime.
+    pub walks: BTreeMap<(usize, u64), Walks>,
+    /// Steps of a census that were done, those of whole curves among them.
+    pub steps: u64,
     /// Calls by the number answered.
     pub numbers: BTreeMap<u64, u64>,
     pub census: BTreeMap<(usize, u64), Census>,
@@ -132,6 +144,7 @@ impl<'e> Judge<'e> {
         let reply = second.reply;
         *self.tally.numbers.entry(reply.number).or_default() += 1;
         self.tally.orders += u64::from(matches!(call, Call::CheckOrder { .. }) && reply.number == 0);
+        self.tally.steps += u64::from(matches!(call, Call::NextDivisor { .. }) && reply.number == 0);
         self.tally.added_back += u64::from(matches!(call, Call::Split { .. }) && reply.number == 0);
         let moved = matches!(call, Call::Scan { .. } | Call::ScanLent { .. }) && reply.total.weight > 0;
         let wrote = !matches!(call, Call::RewriteCurve { .. }) && reply.length > 1;
@@ -171,17 +184,21 @@ fn broken_rule(call: &Call, outcome: &Outcome, before: &[u8], guard: usize, room
         return Some("bytes behind the result changed");
     }
     let multiply = matches!(call, Call::Multiply { .. } | Call::MultiplyInversionFree { .. });
-    let own = match call {
-        Call::Multiply { .. } | Call::MultiplyInversionFree { .. } => 19,
-        Call::Split { .. } => 26,
-        Call::CheckOrder { .. } => 27,
-        _ => 0,
+    let own: &[u64] = match call {
+        Call::Multiply { .. } | Call::MultiplyInversionFree { .. } => &[19],
+        Call::NextDivisor { .. } => &[24, 25],
+        Call::Split { .. } => &[26],
+        Call::CheckOrder { .. } => &[27],
+        _ => &[],
     };
-    if !matches!(reply.number, 0..=15 | 18) && reply.number != own {
+    if !matches!(reply.number, 0..=15 | 18) && !own.contains(&reply.number) {
         return Some("a number that isn't in the call's table");
     }
     if multiply && written == 1 {
         return Some("an empty key");
+    }
+    if matches!(call, Call::NextDivisor { .. }) && written == 1 {
+        return Some("the neutral divisor after another");
     }
     if reply.number == 0 {
         if reply.place != 0 {
@@ -242,6 +259,7 @@ fn shown(call: &Call) -> String {
         Call::CheckOrder { curve, divisor, order, primes } => {
             format!("check_order {} {} {} {}", hex(curve), hex(divisor), hex(order), hex(primes))
         }
+        Call::NextDivisor { curve, divisor } => format!("next_divisor {} {}", hex(curve), hex(divisor)),
         Call::TotalBatch { curve, batch } => format!("total_batch {} {}", hex(curve), hex(batch)),
         Call::FirstRepeat { curve, batch } => format!("first_repeat {} {}", hex(curve), hex(batch)),
         Call::FreshTotal => "fresh_total".to_string(),

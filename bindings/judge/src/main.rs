@@ -8,6 +8,7 @@
 //! both multiply calls: by every scalar to 300 of every divisor on small curves, and COUNT by scalars of 32 bytes at the
 //! largest prime of each version of the curve record. Exit 1 on any difference, 2 on wrong arguments.
 
+mod census;
 mod engine;
 mod inputs;
 mod judge;
@@ -138,4 +139,12 @@ fn report_pairs(tally: &Tally) {
         println!("  {}: {} (root 0 {})", shape, all, with_zero);
     }
     println!("{} splits done, and their parts added by both engines", tally.added_back);
+    println!("whole censuses, by genus and prime:");
+    for ((genus, p), c) in &tally.walks {
+        println!(
+            "  g {} p {}: {} curves ({} of version 2), {} divisors",
+            genus, p, c.curves, c.of_version_2, c.divisors
+        );
+    }
+    println!("{} steps of a census", tally.steps);
 }

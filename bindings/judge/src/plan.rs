@@ -1,5 +1,6 @@
 //! What is put to the engines.
 
+use crate::census;
 use crate::engine::Call;
 use crate::inputs::{curve_record, divisor_record, numbers_of, simple, Class, Rng, Sample, Witness};
 use crate::judge::Judge;
@@ -44,6 +45,8 @@ pub fn run(judge: &mut Judge, count: u64) {
         splits::of_sample(judge, &sample);
         splits::of_shapes(judge, genus, p);
         splits::output_lengths(judge, &sample);
+        census::of_round(judge, genus, round / 2);
+        census::of_sample(judge, &sample);
         small_batches(judge, &sample);
         large_batches(judge, &sample);
         output_lengths(judge, &sample);
@@ -526,6 +529,8 @@ struct Faults {
     key: bool,
     order: bool,
     root: bool,
+    too_large: bool,
+    last: bool,
     room: bool,
 }
 
@@ -542,6 +547,8 @@ impl Faults {
             key: self.key | other.key,
             order: self.order | other.order,
             root: self.root | other.root,
+            too_large: self.too_large | other.too_large,
+            last: self.last | other.last,
             room: self.room | other.room,
         }
     }
@@ -550,7 +557,7 @@ impl Faults {
 /// Puts a call with these faults.
 type Put = fn(&mut Judge, &Sample, Faults);
 
-/// The refusals of add, multiply, an order's check, split, total and scan, in their order: each alone, with its neighbour, and with all that follow.
+/// The refusals of add, multiply, an order's check, split, census, total and scan, in their order: each alone, with its neighbour, and with all that follow.
 fn neighbouring_faults(judge: &mut Judge, sample: &Sample) {
     let none = Faults::default();
     let curve: Vec<Faults> = curve_fault_kinds(sample).into_iter().map(|k| Faults { curve: 1 << k, ..none }).collect();
@@ -560,15 +567,18 @@ fn neighbouring_faults(judge: &mut Judge, sample: &Sample) {
     let key = vec![Faults { key: true, ..none }];
     let order = vec![Faults { order: true, ..none }];
     let root = vec![Faults { root: true, ..none }];
+    let too_large = vec![Faults { too_large: true, ..none }];
+    let last = vec![Faults { last: true, ..none }];
     let room = vec![Faults { room: true, ..none }];
     let totals: Vec<Faults> = (0..TOTAL_FAULTS).map(|k| Faults { total: 1 << k, ..none }).collect();
     let full = vec![Faults { full: true, ..none }];
 
-    let orders: [(Put, Vec<Faults>); 6] = [
+    let orders: [(Put, Vec<Faults>); 7] = [
         (put_add, [&curve[..], &a, &b, &room].concat()),
         (put_multiply, [&curve[..], &a, &scalar, &key, &room].concat()),
         (put_order, [&curve[..], &a, &scalar, &order].concat()),
         (put_split, [&curve[..], &a, &root, &room].concat()),
+        (put_next, [&curve[..], &too_large, &a, &last, &room].concat()),
         (put_total, [&curve[..], &a, &b, &room].concat()),
         (put_scan, [&curve[..], &totals, &full, &a].concat()),
     ];
@@ -633,6 +643,20 @@ fn put_split(judge: &mut Judge, sample: &Sample, faults: Faults) {
     splits::put(judge, &curve, &divisor, if faults.room { 33 } else { SPLIT_ROOM });
 }
 
+fn put_next(judge: &mut Judge, sample: &Sample, faults: Faults) {
+    // A larger curve of the same genus; one that is too large anyhow stays.
+    let larger = Sample::new(&mut judge.rng, sample.genus, 17);
+    let on = if faults.too_large && sample.p <= census::LARGEST { &larger } else { sample };
+    let curve = faulty_curve(&mut judge.rng, on, faults.curve);
+    let mut divisor = sample.any(&mut judge.rng).to_vec();
+    if faults.a != 0 {
+        divisor = faulty_divisor(&mut judge.rng, sample, faults.a);
+    } else if faults.last && sample.p <= census::LARGEST {
+        divisor = census::last(sample);
+    }
+    judge.put(Call::NextDivisor { curve: &curve, divisor: &divisor }, if faults.room { 0 } else { ROOM });
+}
+
 fn put_total(judge: &mut Judge, sample: &Sample, faults: Faults) {
     let curve = faulty_curve(&mut judge.rng, sample, faults.curve);
     let good = sample.any(&mut judge.rng).to_vec();
@@ -666,9 +690,12 @@ fn mixed_faults(judge: &mut Judge, sample: &Sample) {
             key: rng.one_in(4),
             order: rng.one_in(2),
             root: rng.one_in(2),
+            too_large: rng.one_in(3),
+            last: rng.one_in(3),
             room: rng.one_in(4),
         };
-        let put: Put = *rng.pick(&[put_add as Put, put_multiply, put_order, put_split, put_total, put_scan]);
+        let puts = [put_add as Put, put_multiply, put_order, put_split, put_next, put_total, put_scan];
+        let put: Put = *rng.pick(&puts);
         put(judge, sample, faults);
     }
 }
@@ -767,28 +794,13 @@ fn running_totals(judge: &mut Judge, sample: &Sample) {
 #[cfg(test)]
 mod tests {
     use super::*;
-    use crate::engine::{Engine, Plain, Reply};
+    use crate::engine::{Plain, Reply, Wrong};
     use crate::judge::Tally;
-
-    /// The plain engine with one thing wrong.
-    struct Wrong<F: Fn(&Call, &mut [u8], &mut Reply)>(F);
-
-    impl<F: Fn(&Call, &mut [u8], &mut Reply)> Engine for Wrong<F> {
-        fn name(&self) -> &'static str {
-            "wrong"
-        }
-
-        fn answer(&self, call: &Call, out: &mut [u8]) -> Reply {
-            let mut reply = Plain.answer(call, out);
-            (self.0)(call, out, &mut reply);
-            reply
-        }
-    }
 
     fn differences(wrong: impl Fn(&Call, &mut [u8], &mut Reply)) -> u64 {
         let wrong = Wrong(wrong);
         let mut judge = Judge::new(&wrong, &Plain, 1, true);
-        run(&mut judge, 18_000);
+        run(&mut judge, 24_000);
         assert!(judge.tally.census.contains_key(&(2, PRIMES[1])), "no sums of version 2 yet");
         judge.tally.differences
     }
@@ -796,9 +808,9 @@ mod tests {
     #[test]
     fn plain_agrees_with_itself() {
         let mut judge = Judge::new(&Plain, &Plain, 2, true);
-        run(&mut judge, 170_000);
+        run(&mut judge, 185_000);
         assert_eq!(judge.tally.differences, 0);
-        for number in (0..=15).chain([18, 19, 26, 27]) {
+        for number in (0..=15).chain([18, 19, 24, 25, 26, 27]) {
             assert!(judge.tally.numbers[&number] >= 20, "{} {:?}", number, judge.tally.numbers);
         }
         assert_eq!(judge.tally.census.len(), 2 * PRIMES.len());

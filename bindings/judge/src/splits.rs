@@ -101,12 +101,16 @@ fn made_for(rng: &mut Rng, genus: usize, p: u64, u: &[u64]) -> Option<(Vec<u8>, 
 pub fn put(judge: &mut Judge, curve: &[u8], divisor: &[u8], room: usize) {
     let number = judge.put(Call::Split { curve, divisor }, room);
     if [0, 13, 26].contains(&number) {
-        let p = curve[6..14].iter().fold(0, |p, &byte| p << 8 | u64::from(byte));
         let zero = divisor.len() > 17 && divisor[1..9] == [0; 8];
-        let (all, with_zero) = judge.tally.splits.entry(Shape::of(divisor, p)).or_default();
+        let (all, with_zero) = judge.tally.splits.entry(Shape::of(divisor, p_of(curve))).or_default();
         *all += 1;
         *with_zero += u64::from(zero);
     }
+}
+
+/// The prime of a good curve record.
+fn p_of(curve: &[u8]) -> u64 {
+    curve[6..14].iter().fold(0, |p, &byte| p << 8 | u64::from(byte))
 }
 
 /// Every shape that the genus has, on curves made for it: the divisor with outputs round its length, its opposite, and what is left, split again.
@@ -135,8 +139,7 @@ pub fn of_shapes(judge: &mut Judge, genus: usize, p: u64) {
 
 /// The divisors of the pool, all of them where the curve is small, and records with a bit flipped.
 pub fn of_sample(judge: &mut Judge, sample: &Sample) {
-    let is_small = sample.p.checked_pow(2 * sample.genus as u32).map_or(false, |candidates| candidates < 20_000);
-    let every = if is_small { every_divisor(sample) } else { Vec::new() };
+    let every = if sample.is_small() { every_divisor(sample) } else { Vec::new() };
     for divisor in sample.pool.iter().chain(&every) {
         put(judge, &sample.curve, divisor, ROOM);
     }
@@ -169,24 +172,7 @@ pub fn can_be_split(sample: &Sample, divisor: &[u8]) -> bool {
 #[cfg(test)]
 mod tests {
     use super::*;
-    use crate::engine::{Engine, Plain, Reply};
-
-    /// The plain engine with its splits changed.
-    struct Wrong<F: Fn(&[u8], &[u8], &mut [u8], &mut Reply)>(F);
-
-    impl<F: Fn(&[u8], &[u8], &mut [u8], &mut Reply)> Engine for Wrong<F> {
-        fn name(&self) -> &'static str {
-            "wrong"
-        }
-
-        fn answer(&self, call: &Call, out: &mut [u8]) -> Reply {
-            let mut reply = Plain.answer(call, out);
-            if let Call::Split { curve, divisor } = *call {
-                self.0(curve, divisor, out, &mut reply);
-            }
-            reply
-        }
-    }
+    use crate::engine::{Engine, Plain, Reply, Wrong};
 
     const FIELDS: [(usize, u64); 6] =
         [(2, 3), (3, 3), (3, 5), (2, 27 * (1 << 56) + 1), (3, 27 * (1 << 56) + 1), (3, (1 << 61) - 1)];
@@ -230,14 +216,19 @@ mod tests {
         }
     }
 
-    fn p_of(curve: &[u8]) -> u64 {
-        curve[6..14].iter().fold(0, |p, &byte| p << 8 | u64::from(byte))
+    /// Curve, divisor, output and reply to a wrong reply.
+    type Slip = fn(&[u8], &[u8], &mut [u8], &mut Reply);
+
+    fn wrong(slip: Slip) -> impl Engine {
+        Wrong(move |call: &Call, out: &mut [u8], reply: &mut Reply| {
+            if let Call::Split { curve, divisor } = *call {
+                slip(curve, divisor, out, reply);
+            }
+        })
     }
 
-    /// Engines with one slip.
     #[test]
     fn slips_show() {
-        type Slip = fn(&[u8], &[u8], &mut [u8], &mut Reply);
         let slips: [(&str, Slip); 8] = [
             ("the larger u_0 first", |_, _, out, reply| {
                 if reply.length == 34 {
@@ -283,7 +274,7 @@ mod tests {
             ("a place", |_, _, _, reply| reply.place = u64::from(reply.number == 26)),
         ];
         for (name, slip) in slips {
-            assert!(judged(&Wrong(slip), &Plain).tally.differences > 0, "{}", name);
+            assert!(judged(&wrong(slip), &Plain).tally.differences > 0, "{}", name);
         }
         // What both do wrong shows where the parts don't add up.
         let turned: Slip = |_, _, out, reply| {
@@ -291,6 +282,6 @@ mod tests {
                 out[49] ^= 1;
             }
         };
-        assert!(judged(&Wrong(turned), &Wrong(turned)).tally.differences > 0);
+        assert!(judged(&wrong(turned), &wrong(turned)).tally.differences > 0);
     }
 }

@@ -25,6 +25,7 @@
 
 #![forbid(unsafe_code)]
 
+mod census;
 mod curve;
 mod field;
 mod full;
@@ -217,6 +218,20 @@ pub fn check_order(curve: &[u8], divisor: &[u8], order: &[u8], primes: &[u8]) ->
                 return Err(Refused::new(12));
             }
             Some(0).filter(|_| order::is_order(&curve, &a, order, primes)).ok_or(Refused::new(27))
+        })
+        .into()
+}
+
+/// The next divisor after the one given, by weight and then by the bytes of its record, on a training curve: p is at most 13. Refused after the last.
+pub fn next_divisor(curve: &[u8], divisor: &[u8], out: &mut [u8]) -> Answer {
+    read_curve(curve)
+        .and_then(|curve| {
+            if curve.p() > census::LARGEST {
+                return Err(Refused::new(25));
+            }
+            let a = read_divisor(&curve, divisor, 1)?;
+            let next = curve.next(&a).ok_or(Refused::new(24))?;
+            write_divisor(&curve, &next, out)
         })
         .into()
 }

@@ -735,6 +735,110 @@ fn splits_of_large_divisors() {
     }
 }
 
+/// From the neutral divisor on, as long as there is a next one.
+fn walked(c: &[u8]) -> Vec<Vec<u8>> {
+    let mut found = vec![neutral()];
+    loop {
+        let mut out = [0x55; 49];
+        let answer = next_divisor(c, &found[found.len() - 1], &mut out);
+        assert!(out[answer.length as usize..].iter().all(|&byte| byte == 0x55));
+        if answer.number == 24 {
+            assert_eq!(answer, Answer { number: 24, ..Answer::default() });
+            return found;
+        }
+        assert_eq!((answer.number, answer.place), (0, 0));
+        found.push(out[..answer.length as usize].to_vec());
+    }
+}
+
+/// The walk meets just the divisors that a search through all records finds, in the order of their bytes.
+#[test]
+fn censuses_of_small_curves() {
+    let mut curves = vec![
+        (2, 7, curve_a()),
+        (2, 7, witnessed(2, 7, &[1, 0, 0, 0, 0], 3, 2, &[2, 3])),
+        (3, 3, curve(3, 3, &[0, 2, 1, 0, 0, 1, 2])),
+        (3, 5, curve(3, 5, &[1, 3, 0, 2, 0, 0, 4])),
+        (3, 7, curve(3, 7, &[1, 6, 0, 0, 0, 0, 1])),
+    ];
+    for (p, seed) in [3, 5, 7, 11, 13].into_iter().flat_map(|p| (0..6).map(move |seed| (p, seed))) {
+        let f: Vec<u64> = (0..5).map(|i| (seed * seed + 3 * seed * i + i * i * i + 2) % p).collect();
+        curves.extend(Some((2, p, curve(2, p, &f))).filter(|(_, _, c)| check_curve(c).number == 0));
+    }
+    assert!(curves.len() > 20, "{}", curves.len());
+    for (genus, p, c) in curves {
+        let mut all = every_divisor(&c, genus, p);
+        all.sort();
+        assert_eq!(walked(&c), all);
+    }
+}
+
+/// How many divisors a curve of genus 2 has goes by its points over the field of p elements and that of p²: (n² + m) / 2 - p, with the one at infinity.
+#[test]
+fn the_tally_goes_by_points() {
+    for p in [3, 7, 11] {
+        // i² = -1, since p is 3 modulo 4.
+        let mul = |(a, b): (u64, u64), (c, d): (u64, u64)| ((a * c + (p - 1) * b % p * d) % p, (a * d + b * c) % p);
+        let field: Vec<(u64, u64)> = (0..p * p).map(|k| (k / p, k % p)).collect();
+        for f_1 in 0..p {
+            let c = curve(2, p, &[1, f_1, 0, 0, 0]);
+            if check_curve(&c).number != 0 {
+                continue;
+            }
+            let f = |x: (u64, u64)| {
+                let fifth = mul(mul(mul(x, x), mul(x, x)), x);
+                ((fifth.0 + f_1 * x.0 + 1) % p, (fifth.1 + f_1 * x.1) % p)
+            };
+            let points = |of: &dyn Fn(&(u64, u64)) -> bool| {
+                let field: Vec<(u64, u64)> = field.iter().copied().filter(|x| of(x)).collect();
+                let over = |&x: &(u64, u64)| field.iter().filter(|&&y| mul(y, y) == f(x)).count() as u64;
+                1 + field.iter().map(over).sum::<u64>()
+            };
+            let (n, m) = (points(&|x| x.1 == 0), points(&|_| true));
+            assert_eq!(walked(&c).len() as u64, (n * n + m) / 2 - p, "{} {}", p, f_1);
+        }
+    }
+}
+
+/// Known tallies, the largest p in genus 3 among them.
+#[test]
+fn tallies() {
+    assert_eq!(walked(&curve_a()).len(), 50);
+    assert_eq!(walked(&curve_b()).len(), 1288);
+    assert_eq!(walked(&curve(3, 13, &[2, 1, 0, 0, 0, 0, 0])).len(), 1358);
+}
+
+#[test]
+fn censuses_refused_in_order() {
+    let (c, larger) = (curve_a(), curve(2, 17, &[1, 0, 0, 0, 0]));
+    let last = walked(&c).pop().unwrap();
+    let number = |c: &[u8], a: &[u8], room: usize| {
+        let mut out = vec![0x55; room];
+        let Answer { number, place, length } = next_divisor(c, a, &mut out);
+        assert!(out[length as usize..].iter().all(|&byte| byte == 0x55));
+        (number, place)
+    };
+    assert_eq!((number(&c, &neutral(), 17), number(&c, &neutral(), 16)), ((0, 0), (13, 0)));
+    assert_eq!((number(&c, &last, 49), number(&c, &last, 0)), ((24, 0), (24, 0)));
+    let wrong = [(8, vec![]), (9, vec![3]), (8, vec![2]), (10, divisor(&[7], &[2])), (11, divisor(&[0], &[2]))];
+    for (wanted, wrong) in wrong {
+        assert_eq!((number(&c, &wrong, 0), number(&c, &wrong, 49)), ((wanted, 1), (wanted, 1)));
+        assert_eq!((number(&larger, &wrong, 0), number(&larger, &wrong, 49)), ((25, 0), (25, 0)));
+        assert_eq!(number(&c[..53], &wrong, 0), (1, 0));
+    }
+    for larger in [larger, curve_with_p(0x7fff_ffff), largest(2, &[1, 0, 0, 0, 0]), largest(3, &[1, 0, 0, 0, 0, 0, 0])]
+    {
+        assert_eq!((number(&larger, &neutral(), 49), number(&larger, &neutral(), 0)), ((25, 0), (25, 0)));
+    }
+    // A curve's own faults come first, p's among them.
+    assert_eq!((number(&curve_with_p(15), &[], 0), number(&curve(2, 17, &[17, 0, 0, 0, 0]), &[], 0)), ((5, 0), (6, 0)));
+    assert_eq!(number(&curve(2, 17, &[0; 5]), &[], 0), (7, 0));
+}
+
+fn curve_with_p(p: u64) -> Vec<u8> {
+    curve(2, p, &[1, 0, 0, 0, 0])
+}
+
 /// In genus 3, composed degree 6 that takes two reductions, on the largest field of each version: (m + n)-fold is m-fold plus n-fold.
 #[test]
 fn multiples_add_up_on_the_largest_field() {

@@ -45,6 +45,9 @@ pub const SPLIT_ROOM: usize = 50;
 /// Bytes of the longest scalar or order.
 pub const SCALAR_ROOM: usize = 32;
 
+/// The largest p of a training curve.
+pub const LARGEST_TRAINING: u64 = 13;
+
 /// The most primes of an order.
 pub const MOST_PRIMES: usize = 32;
 
@@ -203,6 +206,62 @@ fn multiple_of(answer: raw::YubiMultiple) -> Result<Multiple, Refusal> {
 /// ```
 pub fn check_order(curve: &[u8], divisor: &[u8], order: &[u8], primes: &[u8]) -> Result<(), Refusal> {
     length_of(raw::check_order(curve, divisor, order, primes)).map(|_| ())
+}
+
+/// Writes the next divisor after the one given, by weight and then by the bytes of its record, to the front of `out` and gives its length. After
+/// the last [`Refusal::LastDivisor`]; with p above 13, whatever the divisor's bytes are, [`Refusal::NotForTraining`].
+pub fn next_divisor(curve: &[u8], divisor: &[u8], out: &mut [u8]) -> Result<usize, Refusal> {
+    length_of(raw::next_divisor(curve, divisor, out))
+}
+
+/// The records of all divisors of a training curve, the neutral one first, each once, in the order of [`next_divisor`].
+///
+/// ```
+/// # fn main() -> Result<(), yubisorade::Refusal> {
+/// # let mut curve = b"HJC\x00\x01\x02".to_vec();
+/// # for number in [7u64, 1, 0, 0, 0, 0] {
+/// #     curve.extend_from_slice(&number.to_be_bytes());
+/// # }
+/// use yubisorade::Census;
+/// // y² = x^5 + 1 modulo 7 has 50 divisors.
+/// assert_eq!(Census::of(&curve)?.count(), 50);
+/// assert_eq!(Census::of(&curve)?.next(), Some(vec![0]));
+/// # Ok(())
+/// # }
+/// ```
+#[derive(Clone, Debug)]
+pub struct Census<'c> {
+    curve: &'c [u8],
+    /// What came last; nothing did before the neutral divisor.
+    last: Option<Vec<u8>>,
+}
+
+impl Census<'_> {
+    /// The census of a curve, or why there is none: the curve's refusals, and [`Refusal::NotForTraining`].
+    pub fn of(curve: &[u8]) -> Result<Census<'_>, Refusal> {
+        match next_divisor(curve, &[0], &mut [0; DIVISOR_ROOM]) {
+            Ok(_) | Err(Refusal::LastDivisor) => Ok(Census { curve, last: None }),
+            Err(refusal) => Err(refusal),
+        }
+    }
+}
+
+impl Iterator for Census<'_> {
+    type Item = Vec<u8>;
+
+    fn next(&mut self) -> Option<Vec<u8>> {
+        let next = match &self.last {
+            None => vec![0],
+            Some(last) => {
+                // The curve is taken and the record came from it: only the last divisor is refused.
+                let mut out = [0; DIVISOR_ROOM];
+                let length = next_divisor(self.curve, last, &mut out).ok()?;
+                out[..length].to_vec()
+            }
+        };
+        self.last = Some(next.clone());
+        Some(next)
+    }
 }
 
 /// Writes the sum of a batch, 0 to 4,096 divisor records one behind the other, to the front of `out`.

@@ -160,6 +160,14 @@ extern "C" {
         primes: *const u8,
         primes_length: usize,
     ) -> YubiAnswer;
+    fn yubi_next_divisor(
+        curve: *const u8,
+        curve_length: usize,
+        divisor: *const u8,
+        divisor_length: usize,
+        out: *mut u8,
+        out_length: usize,
+    ) -> YubiAnswer;
     fn yubi_total_batch(
         curve: *const u8,
         curve_length: usize,
@@ -279,6 +287,13 @@ pub fn check_order(curve: &[u8], divisor: &[u8], order: &[u8], primes: &[u8]) ->
             primes.as_ptr(),
             primes.len(),
         )
+    }
+}
+
+/// Writes the next divisor of a training curve to `out`.
+pub fn next_divisor(curve: &[u8], divisor: &[u8], out: &mut [u8]) -> YubiAnswer {
+    unsafe {
+        yubi_next_divisor(curve.as_ptr(), curve.len(), divisor.as_ptr(), divisor.len(), out.as_mut_ptr(), out.len())
     }
 }
 

@@ -41,6 +41,10 @@ pub enum Refusal {
     Witness,
     /// 19: the divisor given or its multiple is neutral.
     EmptyKey,
+    /// 24: the divisor given is the last of the curve.
+    LastDivisor,
+    /// 25: p is above 13, too large for a census.
+    NotForTraining,
     /// 26: the weight is below 2, or u has no root modulo p.
     NoRoot,
     /// 27: the order isn't shown to be the divisor's by the list of its primes.
@@ -72,13 +76,15 @@ impl Refusal {
             15 => Refusal::RunningTotal,
             18 => Refusal::Witness,
             19 => Refusal::EmptyKey,
+            24 => Refusal::LastDivisor,
+            25 => Refusal::NotForTraining,
             26 => Refusal::NoRoot,
             27 => Refusal::Order,
             other => panic!("libtablet.a answered {}, which isn't a number of the contract", other),
         })
     }
 
-    /// The contract's number, 1 to 15, 18, 19, 26 or 27.
+    /// The contract's number, 1 to 15, 18, 19 or 24 to 27.
     pub fn number(self) -> u64 {
         match self {
             Refusal::CurveLength => 1,
@@ -98,6 +104,8 @@ impl Refusal {
             Refusal::RunningTotal => 15,
             Refusal::Witness => 18,
             Refusal::EmptyKey => 19,
+            Refusal::LastDivisor => 24,
+            Refusal::NotForTraining => 25,
             Refusal::NoRoot => 26,
             Refusal::Order => 27,
         }
@@ -144,6 +152,8 @@ impl Refusal {
             }
             Refusal::Witness => "in version 2, k isn't 1 to 15 or the witness doesn't show p prime",
             Refusal::EmptyKey => "the divisor given or its multiple is neutral",
+            Refusal::LastDivisor => "no valid divisor comes after the one given",
+            Refusal::NotForTraining => "p > 13, in a census",
             Refusal::NoRoot => "the weight is below 2, or u has no root modulo p",
             Refusal::Order => {
                 "the order is 0, or isn't made up of powers of just the listed primes, or its multiple isn't neutral, or that of a q-th \
@@ -168,7 +178,7 @@ mod tests {
     #[test]
     fn numbers_and_places_come_back() {
         assert_eq!(Refusal::check(0, 0), Ok(()));
-        for number in (1..=15).chain([18, 19, 26, 27]) {
+        for number in (1..=15).chain([18, 19, 24, 25, 26, 27]) {
             let place = if (8..=11).contains(&number) { 7 } else { 0 };
             let refusal = Refusal::check(number, place).unwrap_err();
             assert_eq!((refusal.number(), refusal.place()), (number, place));

@@ -178,6 +178,38 @@ fn splits() {
     assert_eq!(split(&a[..53], &[], &mut []), Err(Refusal::CurveLength));
 }
 
+/// W-211: all divisors of curves A and B, each once and in order; every record among them that is valid; refusals in their order.
+#[test]
+fn censuses() {
+    let (a, b) = (curve_a(), curve(3, 11, &[1, 0, 0, 0, 0, 0, 0]));
+    for (c, tally) in [(&a, 50), (&witnessed(2, 7, &[1, 0, 0, 0, 0], 3, &[2, 3]), 50), (&b, 1288)] {
+        let all: Vec<Vec<u8>> = Census::of(c).unwrap().collect();
+        assert_eq!((all.len(), &all[0]), (tally, &vec![0]));
+        assert!(all.windows(2).all(|pair| pair[0] < pair[1]));
+        assert!(all.iter().all(|record| check_divisor(c, record) == Ok(())));
+        let last = &all[all.len() - 1];
+        for room in [0, DIVISOR_ROOM] {
+            assert_eq!(next_divisor(c, last, &mut vec![0; room]), Err(Refusal::LastDivisor));
+        }
+        assert_eq!(written(|out| next_divisor(c, &all[7], out)), all[8]);
+        assert_eq!(next_divisor(c, &all[7], &mut vec![0; all[8].len() - 1]), Err(Refusal::OutputLength));
+        let mut census = Census::of(c).unwrap().skip(tally - 1);
+        assert_eq!((census.next().as_ref(), census.next(), census.next()), (Some(last), None, None));
+    }
+    // All points of A, by trying every pair of numbers.
+    let points = (0..7)
+        .flat_map(|u| (0..7).map(move |v| divisor(&[u], &[v])))
+        .filter(|record| check_divisor(&a, record) == Ok(()));
+    assert!(Census::of(&a).unwrap().filter(|record| record.len() == 17).eq(points));
+
+    let larger = curve(2, 17, &[1, 0, 0, 0, 0]);
+    assert_eq!(Census::of(&larger).map(|_| ()), Err(Refusal::NotForTraining));
+    assert_eq!(Census::of(&a[..53]).map(|_| ()), Err(Refusal::CurveLength));
+    assert_eq!(next_divisor(&larger, &[], &mut []), Err(Refusal::NotForTraining));
+    assert_eq!(next_divisor(&a, &[], &mut []), Err(Refusal::DivisorLength { place: 1 }));
+    assert_eq!(next_divisor(&a, &divisor(&[0], &[2]), &mut []), Err(Refusal::NotOnCurve { place: 1 }));
+}
+
 #[test]
 fn the_pole_of_the_contract() {
     let (c, a, b) = (curve_a(), divisor(&[0], &[1]), divisor(&[6], &[3]));

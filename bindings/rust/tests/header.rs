@@ -141,6 +141,7 @@ fn declarations_are_the_headers() {
         "yubi_fresh_total",
         "yubi_multiply",
         "yubi_multiply_inversion_free",
+        "yubi_next_divisor",
         "yubi_opposite",
         "yubi_rewrite_curve",
         "yubi_rewrite_divisor",
@@ -191,6 +192,7 @@ fn constants_are_the_headers() {
     assert_eq!(defined("YUBI_CURVE_ROOM"), yubisorade::CURVE_ROOM as u64);
     assert_eq!(defined("YUBI_SPLIT_ROOM"), yubisorade::SPLIT_ROOM as u64);
     assert_eq!(defined("YUBI_SCALAR_ROOM"), yubisorade::SCALAR_ROOM as u64);
+    assert_eq!(defined("YUBI_LARGEST_TRAINING"), yubisorade::LARGEST_TRAINING);
     assert_eq!(defined("YUBI_MOST_PRIMES"), yubisorade::MOST_PRIMES as u64);
     assert_eq!(defined("YUBI_MOST_RECORDS"), yubisorade::MOST_RECORDS);
 }
