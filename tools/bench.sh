@@ -5,10 +5,10 @@
 #
 # looks at the library's product of residues, and exits 1 where the compiler didn't make one multiplication of each product of
 # words; builds both into one program and prints, for genus 2, genus 3 with f_6 = 0 and genus 3 with another f_6 at p = 2^31 - 1, and for the
-# first two at p = 2^61 - 1, in records of version 2, the median
-# time of a batch total of 4,096 records, of a 256-bit multiple, of the search for a repeat among 4,096 different meters, of the check of
-# the curve record alone and of the split of a sum of as many points as the genus, and the ratio. Then it counts the instructions of
-# each, exactly, by Debian's qemu-user or by valgrind, whichever is there. Under an emulator times say nothing but their ratio.
+# first two at p = 2^61 - 1, in records of version 2, the median time of a batch total of 4,096 records, of a 256-bit multiple, of the search
+# for a repeat among 4,096 different meters, of the check of the curve record alone and of the split of a sum of as many points as the genus,
+# and the ratio. Then it counts the instructions of each, exactly, by Debian's qemu-user or by valgrind, whichever is there, and those of the
+# whole census of a curve of genus 3 at p = 13, by calls. Under an emulator times say nothing but their ratio.
 set -eu
 cd "$(dirname "$0")/.."
 . tools/foreign.sh
@@ -85,18 +85,26 @@ fi
 say "instructions, by $counter: two runs that differ in one round"
 declare -A names=([2]="genus 2" [3]="genus 3, f_6 = 0" [3-f6]="genus 3, f_6 ≠ 0")
 names+=([2-61]="genus 2, 2^61 - 1" [3-61]="genus 3, f_6 = 0, 2^61 - 1")
+names+=([3-13]="genus 3, p = 13")
+
+# count WORK CURVE: a line with the instructions of both engines.
+count() {
+    local work=$1 curve=$2 engine one two counts=() ratio
+    for engine in proved plain; do
+        one=$(instructions $engine $work $curve 1)
+        two=$(instructions $engine $work $curve 2)
+        if [ -z "$one" ] || [ -z "$two" ]; then
+            fail "the counter of instructions failed on $engine $work $curve"
+        fi
+        counts+=($((two - one)))
+    done
+    ratio=$(awk -v proved="${counts[0]}" -v plain="${counts[1]}" 'BEGIN { printf "%.2f", proved / plain }')
+    printf '%-26s %-8s  proved %12d   plain %12d   ratio %s\n' "${names[$curve]}" $work "${counts[@]}" "$ratio"
+}
+
 for curve in 2 3 3-f6 2-61 3-61; do
     for work in total multiple repeat check split; do
-        counts=()
-        for engine in proved plain; do
-            one=$(instructions $engine $work $curve 1)
-            two=$(instructions $engine $work $curve 2)
-            if [ -z "$one" ] || [ -z "$two" ]; then
-                fail "the counter of instructions failed on $engine $work $curve"
-            fi
-            counts+=($((two - one)))
-        done
-        ratio=$(awk -v proved="${counts[0]}" -v plain="${counts[1]}" 'BEGIN { printf "%.2f", proved / plain }')
-        printf '%-26s %-8s  proved %12d   plain %12d   ratio %s\n' "${names[$curve]}" $work "${counts[@]}" "$ratio"
+        count $work $curve
     done
 done
+count census 3-13

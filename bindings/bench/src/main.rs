@@ -6,7 +6,8 @@
 //! ENGINE is `proved` or `plain`, WORK is `total` (a batch of 4,096 records), `multiple` (a 256-bit scalar), `repeat` (the first repeat
 //! among 4,096 different meters), `check` (the curve record alone) or `split` (a sum of as many points as the genus), CURVE is `2` for genus
 //! 2, `3` for genus 3 with f_6 = 0, or `3-f6` for genus 3 with another f_6, p = 2,147,483,647 in records of version 1; `2-61` and `3-61` are the
-//! first two at p = 2^61 - 1, in records of version 2 with their witness. Every call checks its curve and its records, in both engines. A program
+//! first two at p = 2^61 - 1, in records of version 2 with their witness. WORK `census` goes with CURVE `3-13` alone, genus 3 and p = 13: every
+//! divisor from the neutral one on, by a call each. Every call checks its curve and its records, in both engines. A program
 //! that was built without
 //! the library times plain against plain. Exit 1 where the engines' results differ, 2 on wrong arguments.
 
@@ -35,6 +36,7 @@ struct Engine {
     repeat: Repeat,
     check: Check,
     split: Total,
+    next: Total,
 }
 
 const PLAIN: Engine = Engine {
@@ -54,6 +56,10 @@ const PLAIN: Engine = Engine {
     check: |curve| plain::check_curve(curve).number,
     split: |curve, divisor, out| {
         let answer = plain::split(curve, divisor, out);
+        (answer.number, answer.length)
+    },
+    next: |curve, divisor, out| {
+        let answer = plain::next_divisor(curve, divisor, out);
         (answer.number, answer.length)
     },
 };
@@ -76,6 +82,10 @@ const PROVED: Engine = Engine {
     check: |curve| yubisorade::raw::check_curve(curve).number,
     split: |curve, divisor, out| {
         let answer = yubisorade::raw::split(curve, divisor, out);
+        (answer.number, answer.length)
+    },
+    next: |curve, divisor, out| {
+        let answer = yubisorade::raw::next_divisor(curve, divisor, out);
         (answer.number, answer.length)
     },
 };
@@ -138,6 +148,26 @@ const CURVES: [On; 5] = [
     On { key: "2-61", name: "genus 2, 2^61 - 1", genus: 2, f_2g: true, modulo: &P61 },
     On { key: "3-61", name: "genus 3, f_6 = 0, 2^61 - 1", genus: 3, f_2g: false, modulo: &P61 },
 ];
+
+/// The curve of the census: y² = x^7 + x + 2 modulo 13.
+const TRAINING: [u64; 8] = [13, 2, 1, 0, 0, 0, 0, 0];
+
+/// How many divisors it has.
+const DIVISORS: u64 = 1358;
+
+/// The steps of a whole census.
+fn census(engine: &Engine) -> u64 {
+    let numbers = TRAINING.iter().flat_map(|number| number.to_be_bytes());
+    let curve: Vec<u8> = b"HJC\x00\x01\x03".iter().copied().chain(numbers).collect();
+    let (mut at, mut out) = (vec![0], [0; 50]);
+    for divisors in 1.. {
+        match (engine.next)(&curve, &at, &mut out) {
+            (0, length) => at = out[..length as usize].to_vec(),
+            _ => return divisors,
+        }
+    }
+    unreachable!("the divisors end")
+}
 
 /// What both engines work on.
 struct Input {
@@ -256,9 +286,13 @@ fn main() {
                 "plain" => &PLAIN,
                 _ => usage(),
             };
+            let n: u64 = n.parse().unwrap_or_else(|_| usage());
+            if (work, curve) == ("census", "3-13") {
+                assert!((0..n).all(|_| census(engine) == DIVISORS), "the census isn't whole");
+                return;
+            }
             let work = Work::ALL.iter().find(|known| known.name() == work).unwrap_or_else(|| usage());
             let on = CURVES.iter().find(|known| known.key == curve).unwrap_or_else(|| usage());
-            let n: u64 = n.parse().unwrap_or_else(|_| usage());
             let input = Input::new(*on);
             for _ in 0..n {
                 input.run(engine, *work);
