@@ -1,21 +1,18 @@
 -- From what was read and found to the rule's answer: a training curve, the divisor on it, the next one.
 use Prim.Native.Nat.{ℕ, _≤_, _<_}
-use mathlib.Core.Path.{_≡_, refl, sym, ap, ap₂, _∙_, subst}
+use mathlib.Core.Path.{_≡_, refl, ap, _∙_}
 use mathlib.Core.Bool.{true}
 use mathlib.Core.List.{List}
 use native.Mathlib.Omega.{arith}
-use borrow.Author.Tests.{le-leb, lt-leb}
-use Rattle.rules.specs.Checks.{Checked, refused, taken, choose, go-on}
-use Rattle.rules.specs.Records.{CurveRecord, PairOf, read-curve, read-divisor, divisor-bytes}
-use Rattle.rules.specs.Census.{next}
-use Rattle.rules.specs.Calls.{Result, deliver, write, stop, read-training, next-call}
+use Rattle.rules.specs.Checks.{Checked, taken, go-on}
+use Rattle.rules.specs.Records.{CurveRecord, read-curve, read-divisor, divisor-bytes}
+use Rattle.rules.specs.Calls.{Result, deliver, write, next-call}
 use Rattle.rules.proofs.calls.Refusals.{on-taken, on-refused}
 use Rattle.rules.proofs.calls.Next.{not-training, for-training}
 use Rattle.rules.proofs.calls.Written.{only}
 use Rattle.divisor.specs.declared.Divisor.{Divisor}
 use Rattle.divisor.specs.Divisors.{pair}
 use Rattle.curve.specs.declared.Curve.{Curve}
-use Rattle.curve.specs.Curves.{Sound, Holds}
 use Rattle.curve.specs.Record.{recordOf}
 use Rattle.record_curve.specs.declared.CurveRead.{CurveRead}
 use Rattle.record_curve.specs.Read.{CurveIs}

@@ -1,6 +1,6 @@
 -- The text by what was read: the curve's bytes taken for training, or refused.
 use Prim.Native.Nat.{ℕ}
-use mathlib.Core.Path.{_≡_, sym, ap, _∙_, subst}
+use mathlib.Core.Path.{_≡_, sym, ap, subst}
 use mathlib.Core.List.{List}
 use Rattle.rules.specs.Checks.{Checked}
 use Rattle.rules.specs.Records.{CurveRecord}

@@ -1,25 +1,21 @@
 -- From one candidate to the next, in the words of the rule's list. Gives: what stands behind a candidate is what is ahead of the next, where a number was raised (`advance-raised`) and where the next weight begins (`advance-over`).
 use Prim.Native.Nat.{ℕ, zero, suc, _+_, _*_, _≤_, _<_}
 use mathlib.Core.Path.{_≡_, refl, sym, ap, ap₂, _∙_, subst}
-use mathlib.Core.List.{List, [], _∷_, _++_}
-use mathlib.Core.Bool.{Bool, true, false}
+use mathlib.Core.List.{List, [], _∷_}
 use native.Mathlib.Decide.{decLt}
 use native.Mathlib.Omega.{arith}
-use lib.Dec.{leb}
-use lib.ListN.{length, take, replicate, length-replicate}
+use lib.ListN.{take, replicate, length-replicate}
 use borrow.Author.Tests.{le-leb, lt-leb}
 use Rattle.algebra.proofs.zmod.Zmod.{zmod, num, emb, num-of}
 use Rattle.rules.specs.Checks.{choose}
-use Rattle.rules.specs.Records.{CurveRecord, PairOf}
+use Rattle.rules.specs.Records.{CurveRecord}
 use Rattle.rules.specs.Census.{pair-from}
-use Rattle.rules.proofs.census.Rows.{Tops}
 use Rattle.rules.proofs.census.Pairs.{later, later-raise, later-heavier, later-none}
 use Rattle.field.specs.declared.Modulus.{Modulus}
 use Rattle.field.specs.declared.Residue.{Residue}
-use Rattle.field.specs.Residues.{el, Good, Settled, Settles, Everywhere}
+use Rattle.field.specs.Residues.{el, Settled, Settles, Everywhere}
 use Rattle.divisor.specs.Divisors.{AllSettled}
 use Rattle.counter.specs.declared.Raised.{Raised}
-use Rattle.counter.specs.declared.Candidate.{Candidate}
 use Rattle.counter.specs.Rows.{digits, Rowed, RaisedAt, RaisedIs, ahead, row-of, on, Advanced}
 
 module _ (c : CurveRecord) (w : ℕ) (r : List ℕ) where

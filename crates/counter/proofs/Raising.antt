@@ -2,20 +2,17 @@
 use Prim.Native.Nat.{ℕ, zero, suc, _+_, _-_, _≤_, _<_}
 use mathlib.Core.Path.{_≡_, refl, sym, ap, ap₂, _∙_, subst}
 use mathlib.Core.List.{List, [], _∷_, _++_}
-use mathlib.Core.Logic.{_⊎_, inl, inr}
 use native.Mathlib.Decide.{ℕ-discrete}
 use native.Mathlib.Omega.{arith}
-use lib.ListN.{length, getD, take, drop, set, replicate, length-take, length-drop, length-set, length-replicate}
-use lib.Seq.{length-take-le, drop-length, take-take, take-set-le, take-set-lt, set-split, split-at, drop-at, getD-take, drop-cons}
-use Rattle.algebra.proofs.ring.CRing.{CRing}
+use lib.ListN.{length, getD, take, drop, set, replicate, length-drop, length-set}
+use lib.Seq.{length-take-le, drop-length, take-take, take-set-le, take-set-lt, set-split, split-at, drop-at, getD-take}
 use Rattle.algebra.proofs.zmod.Zmod.{zmod, emb, num, emb-num, emb-add, emb-zero, emb-one, num-lt, emb-p, num-of, emb-inj, num-zero}
 use Rattle.rules.proofs.census.Rows.{Tops}
 use Rattle.field.specs.declared.Modulus.{Modulus}
 use Rattle.field.specs.declared.Residue.{Residue}
-use Rattle.field.specs.Residues.{el, Good, Settled, Stands, Settles}
+use Rattle.field.specs.Residues.{el, Settled, Stands, Settles}
 use Rattle.divisor.specs.Divisors.{AllSettled}
 use Rattle.divisor.proofs.Rows.{settled-at}
-use Rattle.counter.specs.declared.Raised.{Raised}
 use Rattle.counter.specs.Rows.{digits, Rowed, RaisedAt, RaisedIs}
 
 -- ---- one more, in Z/p

@@ -1,14 +1,14 @@
 -- The screen of weight 3. Gives: where u divides f - v², it is zero (`screens-by`); its value in code (`passes-by`); what the search for a number that passes keeps (`Passing`), from its begin (`pass-begin`) over a turn (`pass-turn`) to its ends.
 use Prim.Native.Nat.{ℕ, suc, _+_, _-_, _≤_, _<_}
-use mathlib.Core.Path.{_≡_, refl, sym, ap, ap₂, _∙_, subst}
+use mathlib.Core.Path.{_≡_, refl, sym, ap, _∙_, subst}
 use mathlib.Core.List.{List, [], _∷_}
-use mathlib.Core.Bool.{Bool, true, false}
+use mathlib.Core.Bool.{Bool}
 use mathlib.Core.Logic.{_≢_}
 use native.Mathlib.Decide.{decLt}
 use native.Mathlib.Omega.{arith}
 use lib.ListN.{getD, take}
 use Rattle.algebra.proofs.ring.CRing.{CRing}
-use Rattle.algebra.proofs.ring.Quote.{ring, quote, by}
+use Rattle.algebra.proofs.ring.Quote.{ring, quote}
 use Rattle.algebra.proofs.list.Ops.{remainder, whole}
 use Rattle.algebra.proofs.list.Division.{no-rest}
 use Rattle.algebra.proofs.zmod.Zmod.{zmod, emb, num, emb-num, num-lt}
@@ -23,7 +23,7 @@ use Rattle.curve.specs.Curves.{above}
 use Rattle.curve.proofs.Squares.{square-three}
 use Rattle.curve.proofs.Quotients.{left-three}
 use Rattle.counter.specs.declared.Screen.{Screen}
-use Rattle.counter.specs.Screens.{value, Ready, Passed, ended, Screens}
+use Rattle.counter.specs.Screens.{value, Ready, Passed, Screens}
 use Rattle.counter.proofs.Raising.{raised-below}
 
 module _ (F : CRing) where

@@ -2,23 +2,21 @@
 use Prim.Native.Nat.{ℕ, zero, suc, _+_, _*_, _≤_, _<_}
 use mathlib.Core.Path.{_≡_, refl, sym, ap, ap₂, _∙_, subst}
 use mathlib.Core.List.{List, [], _∷_, _++_}
-use mathlib.Core.Bool.{Bool, true, false}
+use mathlib.Core.Bool.{Bool}
 use native.Mathlib.Omega.{arith}
-use lib.ListN.{length, take, drop, length-take, length-drop}
-use lib.Seq.{take-take, take-add, take-at, drop-at, length-take-le}
+use lib.ListN.{length, take, drop}
+use lib.Seq.{take-take, take-add, drop-at, length-take-le}
 use Rattle.algebra.proofs.zmod.Zmod.{zmod, num, emb-num, num-lt}
-use Rattle.rules.specs.Pair.{Valid}
-use Rattle.rules.specs.Checks.{Checked, refused, taken}
-use Rattle.rules.specs.Records.{CurveRecord, PairOf, made-of, elements, numbers}
+use Rattle.rules.specs.Records.{CurveRecord, PairOf, elements}
 use Rattle.rules.specs.Tests.{on-curve?}
 use Rattle.rules.proofs.Demand3.{on-curve-test}
 use Rattle.rules.specs.Census.{passing, first, pair-from, pairs, next}
-use Rattle.rules.proofs.census.Rising.{All, passing-yes, passing-no}
+use Rattle.rules.proofs.census.Rising.{passing-yes, passing-no}
 use Rattle.rules.proofs.census.Pairs.{Small, later, pairs-split}
 use Rattle.rules.proofs.census.Census.{next-is}
 use Rattle.field.specs.declared.Modulus.{Modulus}
 use Rattle.field.specs.declared.Residue.{Residue}
-use Rattle.field.specs.Residues.{el, Good}
+use Rattle.field.specs.Residues.{el}
 use Rattle.field.proofs.Decide.{otherwise}
 use Rattle.divisor.specs.declared.Divisor.{Divisor}
 use Rattle.divisor.specs.Divisors.{weightOf, us, vs, elements as values, pair, AllSettled, RowOf, Held}

@@ -1,19 +1,18 @@
 -- Candidates of weight 3 that the screen turns away. Gives: a walk may go past them, its last number raised one after the other (`skipped-three`), and may stay (`skipped-none`).
 use Prim.Native.Nat.{ℕ, zero, suc, _+_, _-_, _*_, _≤_, _<_}
-use mathlib.Core.Path.{_≡_, refl, sym, ap, ap₂, _∙_, subst}
+use mathlib.Core.Path.{_≡_, refl, sym, ap, _∙_, subst}
 use mathlib.Core.List.{List, [], _∷_, _++_}
-use mathlib.Core.Bool.{Bool, true, false}
+use mathlib.Core.Bool.{Bool, false}
 use native.Mathlib.Omega.{arith}
 use lib.ListN.{length, take, set}
 use lib.Seq.{take-all}
-use Rattle.algebra.proofs.zmod.Zmod.{zmod, emb, num, emb-num, num-lt}
+use Rattle.algebra.proofs.zmod.Zmod.{emb, num, emb-num, num-lt}
 use Rattle.rules.specs.Records.{CurveRecord, PairOf, elements}
 use Rattle.rules.specs.Tests.{on-curve?}
 use Rattle.rules.proofs.Demand3.{on-curve-test}
 use Rattle.rules.specs.Census.{passing, pair-from}
 use Rattle.rules.proofs.census.Rising.{passing-no}
 use Rattle.rules.proofs.census.Pairs.{later-raise}
-use Rattle.field.specs.declared.Modulus.{Modulus}
 use Rattle.field.specs.declared.Residue.{Residue}
 use Rattle.field.specs.Residues.{el}
 use Rattle.field.proofs.Decide.{otherwise}
@@ -26,7 +25,7 @@ use Rattle.curve.specs.Curves.{curveOf, Sound}
 use Rattle.curve.specs.Record.{recordOf}
 use Rattle.counter.specs.declared.Screen.{Screen}
 use Rattle.counter.specs.Rows.{Rowed, ahead}
-use Rattle.counter.specs.Screens.{value, Passed, ended, Screens, tried, Skipped}
+use Rattle.counter.specs.Screens.{Passed, ended, Screens, Skipped}
 use Rattle.counter.proofs.Advancing.{ahead-in}
 use Rattle.counter.proofs.Seeking.{row-held}
 

@@ -1,5 +1,5 @@
 use borrow.Author.Needs.{needs}
-use Prim.Native.Nat.{_≤_, _-_}
+use Prim.Native.Nat.{_-_}
 use Rattle.census_scenarios.proofs.main.Statement.{statement}
 use Rattle.census_scenarios.proofs.main.Tie as tie
 
