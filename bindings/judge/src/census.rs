@@ -49,16 +49,31 @@ fn walk(judge: &mut Judge, sample: &Sample, from: &[u8], most: usize) -> usize {
     most
 }
 
+/// Whole censuses at every prime in both genera, of so many curves each.
+pub fn run(judge: &mut Judge, curves: u64) {
+    for (genus, p) in PRIMES.into_iter().flat_map(|p| [(2, p), (3, p)]) {
+        for _ in 0..curves {
+            let sample = Sample::new(&mut judge.rng, genus, p);
+            whole(judge, &sample);
+        }
+    }
+}
+
+/// Steps from the neutral divisor to the last, and counts them.
+fn whole(judge: &mut Judge, sample: &Sample) {
+    let divisors = 1 + walk(judge, sample, &[0], usize::MAX);
+    let walks = judge.tally.walks.entry((sample.genus, sample.p)).or_default();
+    walks.curves += 1;
+    walks.of_version_2 += u64::from(sample.witness.is_some());
+    walks.divisors += divisors as u64;
+}
+
 /// Every prime in turn: a whole census where the curve is small, and everywhere steps from divisors of the pool, from the last one and to it; then
 /// a curve that is too large.
 pub fn of_round(judge: &mut Judge, genus: usize, round: usize) {
     let sample = Sample::new(&mut judge.rng, genus, PRIMES[round % PRIMES.len()]);
     if sample.is_small() {
-        let divisors = 1 + walk(judge, &sample, &[0], usize::MAX);
-        let whole = judge.tally.walks.entry((genus, sample.p)).or_default();
-        whole.curves += 1;
-        whole.of_version_2 += u64::from(sample.witness.is_some());
-        whole.divisors += divisors as u64;
+        whole(judge, &sample);
     }
     for _ in 0..12 {
         let divisor = sample.any(&mut judge.rng).to_vec();

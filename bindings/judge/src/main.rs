@@ -1,12 +1,13 @@
 //! The judge: puts the same calls to the proved library and to the plain implementation, and compares every answer and
 //! every output byte.
 //!
-//!     judge [--self] [--sums | --multiples] SEED COUNT
+//!     judge [--self] [--sums | --multiples | --censuses] SEED COUNT
 //!
 //! runs at least COUNT calls that SEED decides. `--self` puts plain against plain, to try the judge itself. `--sums` has
 //! sums and doubles at small primes alone, half of them special to an explicit formula. `--multiples` has multiples alone, by
 //! both multiply calls: by every scalar to 300 of every divisor on small curves, and COUNT by scalars of 32 bytes at the
-//! largest prime of each version of the curve record. Exit 1 on any difference, 2 on wrong arguments.
+//! largest prime of each version of the curve record. `--censuses` has whole censuses alone, of COUNT curves of either genus at
+//! each p up to 13. Exit 1 on any difference, 2 on wrong arguments.
 
 mod census;
 mod engine;
@@ -34,7 +35,7 @@ const PROVED: Option<&(dyn Engine + Sync)> = Some(&engine::Proved);
 const PROVED: Option<&(dyn Engine + Sync)> = None;
 
 fn usage() -> ! {
-    eprintln!("usage: judge [--self] [--sums | --multiples] SEED COUNT");
+    eprintln!("usage: judge [--self] [--sums | --multiples | --censuses] SEED COUNT");
     exit(2)
 }
 
@@ -50,6 +51,7 @@ fn main() {
     let to_itself = flag("--self");
     let sums = flag("--sums");
     let only_multiples = flag("--multiples");
+    let censuses = flag("--censuses");
     let (seed, count) = match &arguments[..] {
         [seed, count] => match (seed.parse(), count.parse()) {
             (Ok(seed), Ok(count)) => (seed, count),
@@ -68,6 +70,8 @@ fn main() {
 
     if only_multiples {
         println!("{} against plain, multiples, seed {}, {} by scalars of 32 bytes", first.name(), seed, count);
+    } else if censuses {
+        println!("{} against plain, whole censuses, seed {}, {} curves of each kind", first.name(), seed, count);
     } else {
         println!("{} against plain, seed {}, at least {} calls", first.name(), seed, count);
     }
@@ -78,6 +82,8 @@ fn main() {
             plan::sums_by_class(&mut judge, count);
         } else if only_multiples {
             multiples::run(&mut judge, count);
+        } else if censuses {
+            census::run(&mut judge, count);
         } else {
             plan::run(&mut judge, count);
         }
