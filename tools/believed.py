@@ -33,7 +33,7 @@ ORDER = [
     "algebra/proofs/ring", "algebra/proofs/list/Ops", "algebra/proofs/zmod", "algebra/proofs/poly/Series", "algebra/proofs/poly/Bound", "algebra/proofs/poly/Poly",
     "algebra/proofs/poly", "algebra/proofs/list", "algebra", "rules/proofs/Demand3", "rules/proofs",
 ]  # fmt: skip
-RULES = ["Curve", "Pair", "Sum", "Multiple", "Tests", "Bytes", "Checks", "Records", "Split", "First", "Lists", "Calls"]
+RULES = ["Curve", "Pair", "Sum", "Multiple", "Tests", "Bytes", "Checks", "Records", "Split", "First", "Lists", "Census", "Calls"]
 SIGNATURE = re.compile(r"((?:unfoldable |abbrev |pub )*)(\S+)(?: \{[^}]*\})? :(?: |$)")
 DECLARED = re.compile(r"(?:pub )?(record|data) (\S+)")
 
