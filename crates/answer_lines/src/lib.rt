@@ -1,4 +1,4 @@
-// Each of C's answers as the line that tools/README.md says, and a running total by its 64 bytes. For tests: the contracts say no more than safety asks.
+// Each of C's answers as the line that tools/README.md says, and a running total by its 68 bytes. For tests: the contracts say no more than safety asks.
 ghost use mathlib.Core.Path.{_≡_};
 ghost use lib.ListN.{length};
 use c_answers::YubiAnswer;
@@ -47,12 +47,13 @@ pub fn scanned(text: &mut [u8], a: YubiScanned) -> usize {
         t.v1,
         t.v2,
         t.count,
+        t.pole as u64,
     ];
     prints::plain(text, &values)
 }
 
 pub fn running(s: &[u8]) -> YubiRunning
-    requires { ⌜ length (now s) ≡ 64 ⌝ }
+    requires { ⌜ length (now s) ≡ 68 ⌝ }
 {
     YubiRunning {
         weight: big_endian::read64(s, 0),
@@ -63,6 +64,7 @@ pub fn running(s: &[u8]) -> YubiRunning
         v1: big_endian::read64(s, 40),
         v2: big_endian::read64(s, 48),
         count: big_endian::read64(s, 56),
+        pole: big_endian::read32(s, 64) as u32,
     }
 }
 

@@ -1,14 +1,16 @@
 -- Document 01, "Numbers the tablet shows": each call answers a number, a place and the length written, and its counts. The rules' answers as the
 -- exported structs have them; and the values of the calls' one enum.
-use Prim.Native.Nat.{ℕ}
+use Prim.Native.Nat.{ℕ, _<_}
 use mathlib.Core.List.{[]}
 use Rattle.rules.specs.Lists.{Repeat}
 use Rattle.rules.specs.Calls.{Answer as RuleAnswer, Reply}
-use Rattle.call_one.specs.Answers.{Values}
+use Rattle.call_one.specs.declared.Answer.{Answer}
+use Rattle.call_one.specs.Answers.{Values, valuesOf}
 use Rattle.c_answers.specs.declared.YubiAnswer.{YubiAnswer}
 use Rattle.c_answers.specs.declared.YubiTotal.{YubiTotal}
 use Rattle.c_answers.specs.declared.YubiRepeat.{YubiRepeat}
 use Rattle.c_answers.specs.declared.YubiMultiple.{YubiMultiple}
+use Rattle.c_answers.specs.declared.YubiPole.{YubiPole}
 
 abbrev pub flat : RuleAnswer → YubiAnswer
 flat a = record { number = a .number; place = a .place; length = a .length }
@@ -22,6 +24,10 @@ flat-total t = record { number = t .answer .number; place = t .answer .place; le
 abbrev pub flat-repeat : Reply Repeat → YubiRepeat
 flat-repeat r = record { number = r .answer .number; place = r .answer .place; length = r .answer .length; first = r .own .first; second = r .own .second }
 
+-- the reader of a pole file (W-209): the pole's number, 0 on a refusal
+abbrev pub flat-pole : Reply ℕ → YubiPole
+flat-pole r = record { number = r .answer .number; place = r .answer .place; length = r .answer .length; pole = r .own }
+
 -- ---- the values of the enum, which say nothing of the output
 abbrev pub as-answer : Values → YubiAnswer
 as-answer v = flat (v .0)
@@ -34,3 +40,10 @@ as-total v = flat-total (record { answer = v .0; out = []; own = v .1 .0 })
 
 abbrev pub as-repeat : Values → YubiRepeat
 as-repeat v = flat-repeat (record { answer = v .0; out = []; own = record { first = v .1 .0; second = v .1 .1 } })
+
+abbrev pub as-pole : Values → YubiPole
+as-pole v = flat-pole (record { answer = v .0; out = []; own = v .1 .0 })
+
+-- the call's own number has 32 bits
+abbrev pub Fits32 : Answer → Type 0
+Fits32 a = valuesOf a .1 .0 < 4294967296

@@ -1,7 +1,7 @@
 // The answers as C has them, a repr(C) struct for each kind of call, and the calls' one enum flattened to each.
 ghost use mathlib.Core.Path.{_≡_};
 ghost use Rattle.call_one.specs.Answers.{valuesOf};
-ghost use Rattle.c_answers.specs.Flat.{as-answer, as-multiple, as-total, as-repeat};
+ghost use Rattle.c_answers.specs.Flat.{as-answer, as-multiple, as-total, as-repeat, as-pole, Fits32};
 use call_one::Answer;
 
 #[repr(C)]
@@ -35,6 +35,14 @@ pub struct YubiRepeat {
     pub length: u64,
     pub first: u64,
     pub second: u64,
+}
+
+#[repr(C)]
+pub struct YubiPole {
+    pub number: u64,
+    pub place: u64,
+    pub length: u64,
+    pub pole: u32,
 }
 
 pub fn flatten(a: Answer) -> YubiAnswer
@@ -111,6 +119,26 @@ pub fn flatten_repeat(a: Answer) -> YubiRepeat
             length: 0,
             first: 0,
             second: 0,
+        },
+    }
+}
+
+pub fn flatten_pole(a: Answer) -> YubiPole
+    requires { ⌜ Fits32 a ⌝ }
+    ensures { λ r. ⌜ r ≡ as-pole (valuesOf a) ⌝ }
+{
+    match a {
+        Answer::Done(n, pole, _) => YubiPole {
+            number: 0,
+            place: 0,
+            length: n,
+            pole: pole as u32,
+        },
+        Answer::Refused(n, k) => YubiPole {
+            number: n,
+            place: k,
+            length: 0,
+            pole: 0,
         },
     }
 }

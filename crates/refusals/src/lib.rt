@@ -37,6 +37,14 @@ pub const WITNESS: u64 = 18;
 
 pub const EMPTY_KEY: u64 = 19;
 
+pub const OTHER_POLE: u64 = 20;
+
+pub const POLE_FILE_MARK: u64 = 21;
+
+pub const POLE_FILE_VERSION: u64 = 22;
+
+pub const POLE_FILE_LENGTH: u64 = 23;
+
 pub const LAST: u64 = 24;
 
 pub const NOT_FOR_TRAINING: u64 = 25;

@@ -5,21 +5,21 @@ use scan_flat::YubiScanned;
 use scan_total::Running;
 
 fn scan(text: &mut [u8], curve: &[u8], record: &[u8], total: &[u8]) -> usize {
-    if total.len() != 64 {
+    if total.len() != 68 {
         return 0;
     }
     let a = tablet::yubi_scan(answer_lines::running(total), curve, record);
     answer_lines::scanned(text, a)
 }
 
-// The same scan into a total that is lent. A total of zeros is the library's own fresh one.
+// The same scan into a total that is lent. A total of zeros, but for its pole, is the library's own fresh one.
 fn scan_lent(text: &mut [u8], curve: &[u8], record: &[u8], total: &[u8]) -> usize {
-    if total.len() != 64 {
+    if total.len() != 68 {
         return 0;
     }
     let mut t = answer_lines::running(total);
     if answer_lines::is_fresh(t) {
-        t = tablet::yubi_fresh_total();
+        t = tablet::yubi_fresh_total(t.pole);
     }
     let s = lends::scan_own(t, curve, record);
     let a = s.answer;
@@ -37,13 +37,14 @@ fn scan_lent(text: &mut [u8], curve: &[u8], record: &[u8], total: &[u8]) -> usiz
 
 // And into a lent total inside Rattle, from a fresh one; any other is left to C's.
 fn scan_inside(text: &mut [u8], curve: &[u8], record: &[u8], total: &[u8]) -> usize {
-    if total.len() != 64 {
+    if total.len() != 68 {
         return 0;
     }
-    if !answer_lines::is_fresh(answer_lines::running(total)) {
+    let t = answer_lines::running(total);
+    if !answer_lines::is_fresh(t) {
         return scan(text, curve, record, total);
     }
-    let s = scan_lent::scan_own(Running::fresh(), curve, record);
+    let s = scan_lent::scan_own(Running::fresh(t.pole), curve, record);
     answer_lines::scanned(
         text,
         YubiScanned {
@@ -68,7 +69,7 @@ fn write(operation: u8, curve: &[u8], first: &[u8], second: &[u8], out: &mut [u8
     }
 }
 
-// The frame's line at the front of the text; answers its length, 0 where there is no such operation or a scan's total isn't 64 bytes.
+// The frame's line at the front of the text; answers its length, 0 where there is no such operation or a scan's total isn't 68 bytes.
 pub fn line(
     operation: u8,
     curve: &[u8],

@@ -3,7 +3,7 @@
 -- `AllRecords c rs` that each of rs is a divisor record on c, and `pair-of c r` is the pair of one; `answered w ≡ 0` that a call
 -- answered 0, and `front w` is then what it left at the front of its output. The proofs are in calls/.
 use Prim.Native.Nat.{ℕ, suc, _+_, _*_, _%_, _≤_, _<_}
-use mathlib.Core.Path.{_≡_, sym, _∙_, subst}
+use mathlib.Core.Path.{_≡_, refl, sym, ap, _∙_, subst}
 use mathlib.Core.List.{List, [], _∷_, _++_, map, foldl, flatten, Perm, List·Memᴰ}
 use mathlib.Core.Bool.{true}
 use mathlib.Core.Logic.{_↔_, _≢_}
@@ -11,7 +11,7 @@ use lib.ListN.{length, take, drop}
 use Rattle.algebra.proofs.ring.Field.{Arith}
 use Rattle.algebra.proofs.zmod.Prime.{Prime}
 use Rattle.algebra.proofs.zmod.PrimeField.{modulo}
-use Rattle.rules.specs.Bytes.{number}
+use Rattle.rules.specs.Bytes.{number, word32}
 use Rattle.rules.specs.Pair.{Pair, Valid, neutral, opposite}
 use Rattle.rules.specs.Sum.{double}
 use Rattle.rules.specs.Multiple.{multiple}
@@ -19,7 +19,7 @@ use Rattle.rules.specs.Records.{Checked, refused, taken, CurveRecord, cu
 use Rattle.rules.specs.First.{Clear, FirstAt}
 use Rattle.rules.specs.Lists.{Batch, batch, Same, equal?, first-repeat}
 use Rattle.rules.specs.Census.{passing, census, next, Below}
-use Rattle.rules.specs.Calls.{done, Result, stop, put, deliver, check-divisor, write, rewrite-curve, rewrite-divisor, double-call, opposite-call, add-call, multiply-call, total-call, repeat-call, Running, fresh, scan-call}
+use Rattle.rules.specs.Calls.{done, Result, stop, put, deliver, check-divisor, write, rewrite-curve, rewrite-divisor, double-call, opposite-call, add-call, multiply-call, total-call, repeat-call, Running, fresh, resume, scan-call}
 use Rattle.rules.proofs.Demand3.{Demand3}
 use Rattle.rules.proofs.cantor.Totals.{AllValid}
 use Rattle.rules.proofs.calls.Tests.{taken-inj}
@@ -33,7 +33,7 @@ use Rattle.rules.proofs.calls.Repeats.{SameAt}
 use Rattle.rules.proofs.calls.Written.{front, answered, bare}
 use Rattle.rules.proofs.calls.Done.{OneDone, AddDone, TotalDone, total-of}
 use Rattle.rules.proofs.calls.Totals.{subtotal, adds}
-use Rattle.rules.proofs.calls.Scans.{ScanDone, running-result, scans, AllDone}
+use Rattle.rules.proofs.calls.Scans.{ScanDone, running-result, scans, AllDone, AllFor, records-of, of-pole}
 use Rattle.rules.proofs.calls.Delivered.{Kept}
 use Rattle.rules.proofs.calls.Taken.{total-result}
 use Rattle.rules.proofs.calls.Keys.{EmptyKey}
@@ -264,15 +264,27 @@ module _ (s : List ℕ) {c : CurveRecord} (ec : read-curve s ≡ taken c) (rs : 
 pub scan-adds : (s : List ℕ) {c : CurveRecord} → read-curve s ≡ taken c → (t : Running) (a : List ℕ) → (scan-call t s a) .answer .number ≡ 0 → ScanDone c t a (scan-call t s a)
 scan-adds s ec = Scans.scan-done s ec
 
-module _ (s : List ℕ) {c : CurveRecord} (ec : read-curve s ≡ taken c) (rs : List (List ℕ)) where
-  -- from a fresh total every scan answers 0 exactly where each was of a good record and they are at most 4,096
-  pub scans-answer : AllDone fresh s rs ↔ (AllRecords c rs × (length rs ≤ 4096))
-  scans-answer = Scans.scans-done s ec rs
+-- a scan for another pole is refused 20, after 15 and 14 and before the record is looked at, and the total stays (W-209)
+pub scan-of-another : (s : List ℕ) {c : CurveRecord} → read-curve s ≡ taken c → (t : Running) (a : List ℕ) {x : PairOf c} → resume c t ≡ taken x → 4 ≤ length a → (word32 a 0 ≡ t .pole → ⊥)
+    → scan-call t s a ≡ stop t [] 20 0
+scan-of-another s ec = Scans.scan-other s ec
+
+module _ (s : List ℕ) {c : CurveRecord} (ec : read-curve s ≡ taken c) (pole : ℕ) (l : List (List ℕ)) where
+  -- from a fresh total every scan answers 0 exactly where each was for its pole, of a good record, and they are at most 4,096
+  pub scans-answer : AllDone (fresh pole) s l ↔ (AllFor c pole l × (length l ≤ 4096))
+  scans-answer = Scans.scans-done s ec pole l
 
   -- and then the running total equals the batch total of what was taken so far
-  pub scans-are-total : AllDone fresh s rs → (out : List ℕ) → total-call s (flatten rs) out ≡ put 0 out (running-result (scans fresh s rs))
-  scans-are-total = Scans.scans-batch s ec rs
+  pub scans-are-total : AllDone (fresh pole) s l → (out : List ℕ) → total-call s (flatten (records-of l)) out ≡ put 0 out (running-result (scans (fresh pole) s l))
+  scans-are-total = Scans.scans-batch s ec pole l
 
+  -- from a mixed list: whatever else is scanned for other poles, the total is the batch total of the records for its own
+  pub scans-of-one-pole : AllFor c pole (of-pole pole l) → length (of-pole pole l) ≤ 4096 → (out : List ℕ)
+      → total-call s (flatten (records-of (of-pole pole l))) out ≡ put 0 out (running-result (scans (fresh pole) s l))
+  scans-of-one-pole good few out = Scans.scans-batch s ec pole (of-pole pole l) (Scans.scans-done s ec pole (of-pole pole l) .1 (good, few)) out
+      ∙ ap (λ (t : Running). put 0 out (running-result t)) (sym (Scans.scans-mixed s ec l (fresh pole) pole refl))
+
+module _ (s : List ℕ) {c : CurveRecord} (ec : read-curve s ≡ taken c) (rs : List (List ℕ)) where
   -- the first repeat among good records
   pub repeat-of-records : AllRecords c rs → length rs ≤ 4096 → repeat-call s (flatten rs) ≡ record { answer = done 0; out = []; own = first-repeat (c .p) (map (pair-of c) rs) }
   repeat-of-records = Repeats.repeat-records s ec rs

@@ -1,17 +1,17 @@
 -- Document 01, "Numbers the tablet shows": each call as a function from the bytes lent to its whole answer and to every byte of the output as it
 -- returns. A call's rule is what it comes to, its checks in their order and then a result; `deliver` makes the answer of it, the same for every call: 13
--- where the output is too short, and a refusal has length 0, none of the call's own numbers, and leaves the output as it was. Here are the numbers 12 to 15, 19 and 24 to 27 (24 stands in Census, 26 in Split);
--- 16 and 17 are the program's (texts). At the end, of "The pole's list", the running total and the scan.
+-- where the output is too short, and a refusal has length 0, none of the call's own numbers, and leaves the output as it was. Here are the numbers 12 to 15, 19, 20 and 24 to 27 (24 stands in Census, 26 in Split);
+-- 16 and 17 are the program's (texts), 21 to 23 the pole file's (pole_rule). At the end, of "The pole's list", the running total and the scan.
 use Prim.Native.Nat.{ℕ, _+_, _/_, _%_}
 use mathlib.Core.List.{List, [], _∷_, _++_}
 use mathlib.Core.Bool.{Bool, not}
 use lib.Dec.{eqb, ltb, leb}
-use lib.ListN.{length}
+use lib.ListN.{length, drop}
 use lib.Seq.{sets}
 use Rattle.algebra.proofs.zmod.Zmod.{zmod}
 use Rattle.algebra.proofs.zmod.PrimeField.{modulo}
 use Rattle.orders.specs.Tests.{order?}
-use Rattle.rules.specs.Bytes.{number, words32}
+use Rattle.rules.specs.Bytes.{number, word32, words32}
 use Rattle.rules.specs.Pair.{neutral, opposite}
 use Rattle.rules.specs.Sum.{sum, double}
 use Rattle.rules.specs.Multiple.{multiple, doublings, additions}
@@ -19,7 +19,7 @@ use Rattle.rules.specs.Tests.{weighs?, on-curve?}
 use Rattle.rules.specs.Checks.{Checked, refused, taken, choose, Check, first-failed, go-on}
 use Rattle.rules.specs.Records.{both, CurveRecord, curve, PairOf, made-of, below?, elements, numbers, read-curve, read-divisor, form-of, curve-bytes, divisor-bytes}
 use Rattle.rules.specs.Split.{part-at, rest-at, split-root}
-use Rattle.rules.specs.Lists.{batch, most-records, Repeat, first-repeat}
+use Rattle.rules.specs.Lists.{Batch, batch, most-records, Repeat, first-repeat}
 use Rattle.rules.specs.Census.{next}
 
 pub record Answer : Type 0 where
@@ -180,14 +180,23 @@ repeat-call s records = deliver (record { first = 0; second = 0 }) [] (
     go-on (batch c (λ l d. l ++ (d ∷ [])) records []) (λ b.
     taken (record { bytes = []; own = first-repeat (c .p) (b .result) }))))
 
--- ---- the running total: a divisor by its numbers, and a count
+-- a batch checked and counted: nothing is added up and nothing is written
+abbrev pub counted : CurveRecord → List ℕ → Checked (Batch (Unit {0}))
+counted c records = batch c (λ x d. x) records tt
+
+unfoldable pub check-batch : List ℕ → List ℕ → Checked (Batch (Unit {0}))
+unfolding read-curve
+check-batch s records = go-on (read-curve s) (λ c. counted c records)
+
+-- ---- the running total: a divisor by its numbers, a count and the pole's number (W-209)
 pub record Running : Type 0 where
   pub u : List ℕ
   pub v : List ℕ
   pub count : ℕ
+  pub pole : ℕ
 
-abbrev pub fresh : Running
-fresh = record { u = []; v = []; count = 0 }
+abbrev pub fresh : ℕ → Running
+fresh pole = record { u = []; v = []; count = 0; pole = pole }
 
 -- its divisor on the curve; 15 where it has a number of p or more or isn't valid, or its count is over 4,096, then 14 where it is full
 abbrev pub resume-checks : CurveRecord → Running → List Check
@@ -204,13 +213,24 @@ unfoldable pub resume : (c : CurveRecord) → Running → Checked (PairOf c)
 unfolding below? elements on-curve?
 resume c t = first-failed (resume-checks c t) (made-of c (t .u) (t .v))
 
+-- W-209: in a scan the pole's number stands in 4 bytes before the divisor record. 8 at place 1 where they aren't there, then 20 where the scan is for another pole
+abbrev pub scan-checks : ℕ → List ℕ → List Check
+scan-checks pole a =
+    (leb 4 (length a), 8, 1) ∷
+    (eqb (word32 a 0) pole, 20, 0) ∷
+    []
+
+abbrev pub scan-record : ℕ → List ℕ → Checked (List ℕ)
+scan-record pole a = first-failed (scan-checks pole a) (drop 4 a)
+
 -- one divisor scanned on a curve that was taken
 abbrev pub scanned : CurveRecord → Running → List ℕ → Checked (Result Running)
 scanned c t a =
     go-on (resume c t) (λ x.
-    go-on (read-divisor c 1 a) (λ y.
+    go-on (scan-record (t .pole) a) (λ r.
+    go-on (read-divisor c 1 r) (λ y.
     let z : PairOf c = sum (curve c) x y in
-    taken (record { bytes = []; own = record { u = numbers (c .p) (z .u); v = numbers (c .p) (z .v); count = t .count + 1 } })))
+    taken (record { bytes = []; own = record { u = numbers (c .p) (z .u); v = numbers (c .p) (z .v); count = t .count + 1; pole = t .pole } }))))
 
 -- refused, the total is the one that was lent
 unfoldable pub scan-on : CurveRecord → Running → List ℕ → Reply Running

@@ -5,7 +5,7 @@ use mathlib.Core.Bool.{true}
 use mathlib.Core.List.{List, [], _∷_}
 use native.Mathlib.Decide.{ℕ-discrete}
 use native.Mathlib.Omega.{arith}
-use lib.ListN.{length, getD, take}
+use lib.ListN.{length, getD, take, drop}
 use Rattle.rules.specs.Records.{Checked, CurveRecord, taken, refused, curve, read-curve}
 use Rattle.rules.specs.Calls.{Running, Reply, scan-call}
 use Rattle.rules.specs.Sum.{sum}
@@ -33,7 +33,7 @@ pub record Small (t : Running) : Type 0 where
   pub few : length (t .u) ≤ 3
 
 pub unflat-flat : (t : Running) → Small t → unflat (flat-running t) ≡ t
-unflat-flat t h = λ i. record { u = cut (t .u) (h .few) i; v = v-is i; count = t .count }
+unflat-flat t h = λ i. record { u = cut (t .u) (h .few) i; v = v-is i; count = t .count; pole = t .pole }
   where
     v-is : take (length (t .u)) (getD (t .v) 0 0 ∷ getD (t .v) 1 0 ∷ getD (t .v) 2 0 ∷ []) ≡ t .v
     v-is = ap (λ (n : ℕ). take n (getD (t .v) 0 0 ∷ getD (t .v) 1 0 ∷ getD (t .v) 2 0 ∷ [])) (sym (h .same)) ∙ cut (t .v) (omega (arith, h .same, h .few))
@@ -60,7 +60,7 @@ module _ (s : List ℕ) {c : CurveRecord} (ec : read-curve s ≡ taken c) where
       go (no n) = subst Small (sym (scan-kept s t a n)) h
       go (yes e) =
           let d = scan-done s ec t a e in
-          let v = accepts-laws c (accepts s ec) .sum-closed (d .x) (d .y) (resume-valid c t (d .t-is)) (divisor-valid c 1 true a 0 (d .a-is)) in
+          let v = accepts-laws c (accepts s ec) .sum-closed (d .x) (d .y) (resume-valid c t (d .t-is)) (divisor-valid c 1 true (drop 4 a) 0 (d .a-is)) in
           subst (λ (w : Reply Running). Small (w .own)) (sym (d .is)) (record {
             same = length-numbers (c .p) (sum (curve c) (d .x) (d .y) .v) ∙ v .fits ∙ sym (length-numbers (c .p) (sum (curve c) (d .x) (d .y) .u));
             few = omega (arith, length-numbers (c .p) (sum (curve c) (d .x) (d .y) .u), v .small, accepts s ec .greatest);

@@ -41,21 +41,21 @@ module _ (t : YubiRunning) where
   pub cubic-cut : (d : Cubic) → (t .weight ≡ 0 → ⊥) → (t .weight ≡ 1 → ⊥) → (t .weight ≡ 2 → ⊥) → raw (d .u0) ≡ t .u0 → raw (d .u1) ≡ t .u1 → raw (d .u2) ≡ t .u2 → raw (d .v0) ≡ t .v0 → raw (d .v1) ≡ t .v1 → raw (d .v2) ≡ t .v2 → Cut t (Three d)
   cubic-cut d e0 e1 e2 a b c x y z = record { u = (λ i. a i ∷ b i ∷ c i ∷ []) ∙ all-three (t .weight) (t .u0) (t .u1) (t .u2) e0 e1 e2; v = (λ i. x i ∷ y i ∷ z i ∷ []) ∙ all-three (t .weight) (t .v0) (t .v1) (t .v2) e0 e1 e2 }
 
-abbrev flat-of : Divisor → ℕ → YubiRunning
-flat-of d n = flat-running (totalOf d n)
+abbrev flat-of : Divisor → ℕ → ℕ → YubiRunning
+flat-of d n pole = flat-running (totalOf d n pole)
 
 module _ (t : Running) where
-  pub flat-neutral : t .divisor ≡ Neutral → flat-of Neutral (t .count) ≡ flat-of (t .divisor) (t .count)
-  flat-neutral e = sym (ap (λ d. flat-of d (t .count)) e)
+  pub flat-neutral : t .divisor ≡ Neutral → flat-of Neutral (t .count) (t .pole) ≡ flat-of (t .divisor) (t .count) (t .pole)
+  flat-neutral e = sym (ap (λ d. flat-of d (t .count) (t .pole)) e)
 
-  pub flat-linear : (d : Linear) → t .divisor ≡ One d → (a x : ℕ) → a ≡ raw (d .u0) → x ≡ raw (d .v0) → record { weight = 1; u0 = a; u1 = 0; u2 = 0; v0 = x; v1 = 0; v2 = 0; count = t .count } ≡ flat-of (t .divisor) (t .count)
-  flat-linear d e a x p r = (λ i. record { weight = 1; u0 = p i; u1 = 0; u2 = 0; v0 = r i; v1 = 0; v2 = 0; count = t .count }) ∙ sym (ap (λ d. flat-of d (t .count)) e)
+  pub flat-linear : (d : Linear) → t .divisor ≡ One d → (a x : ℕ) → a ≡ raw (d .u0) → x ≡ raw (d .v0) → record { weight = 1; u0 = a; u1 = 0; u2 = 0; v0 = x; v1 = 0; v2 = 0; count = t .count; pole = t .pole } ≡ flat-of (t .divisor) (t .count) (t .pole)
+  flat-linear d e a x p r = (λ i. record { weight = 1; u0 = p i; u1 = 0; u2 = 0; v0 = r i; v1 = 0; v2 = 0; count = t .count; pole = t .pole }) ∙ sym (ap (λ d. flat-of d (t .count) (t .pole)) e)
 
-  pub flat-quadratic : (d : Quadratic) → t .divisor ≡ Two d → (a b x y : ℕ) → a ≡ raw (d .u0) → b ≡ raw (d .u1) → x ≡ raw (d .v0) → y ≡ raw (d .v1) → record { weight = 2; u0 = a; u1 = b; u2 = 0; v0 = x; v1 = y; v2 = 0; count = t .count } ≡ flat-of (t .divisor) (t .count)
-  flat-quadratic d e a b x y p q r s = (λ i. record { weight = 2; u0 = p i; u1 = q i; u2 = 0; v0 = r i; v1 = s i; v2 = 0; count = t .count }) ∙ sym (ap (λ d. flat-of d (t .count)) e)
+  pub flat-quadratic : (d : Quadratic) → t .divisor ≡ Two d → (a b x y : ℕ) → a ≡ raw (d .u0) → b ≡ raw (d .u1) → x ≡ raw (d .v0) → y ≡ raw (d .v1) → record { weight = 2; u0 = a; u1 = b; u2 = 0; v0 = x; v1 = y; v2 = 0; count = t .count; pole = t .pole } ≡ flat-of (t .divisor) (t .count) (t .pole)
+  flat-quadratic d e a b x y p q r s = (λ i. record { weight = 2; u0 = p i; u1 = q i; u2 = 0; v0 = r i; v1 = s i; v2 = 0; count = t .count; pole = t .pole }) ∙ sym (ap (λ d. flat-of d (t .count) (t .pole)) e)
 
-  pub flat-cubic : (d : Cubic) → t .divisor ≡ Three d → (a b c x y z : ℕ) → a ≡ raw (d .u0) → b ≡ raw (d .u1) → c ≡ raw (d .u2) → x ≡ raw (d .v0) → y ≡ raw (d .v1) → z ≡ raw (d .v2) → record { weight = 3; u0 = a; u1 = b; u2 = c; v0 = x; v1 = y; v2 = z; count = t .count } ≡ flat-of (t .divisor) (t .count)
-  flat-cubic d e a b c x y z p q o r s l = (λ i. record { weight = 3; u0 = p i; u1 = q i; u2 = o i; v0 = r i; v1 = s i; v2 = l i; count = t .count }) ∙ sym (ap (λ d. flat-of d (t .count)) e)
+  pub flat-cubic : (d : Cubic) → t .divisor ≡ Three d → (a b c x y z : ℕ) → a ≡ raw (d .u0) → b ≡ raw (d .u1) → c ≡ raw (d .u2) → x ≡ raw (d .v0) → y ≡ raw (d .v1) → z ≡ raw (d .v2) → record { weight = 3; u0 = a; u1 = b; u2 = c; v0 = x; v1 = y; v2 = z; count = t .count; pole = t .pole } ≡ flat-of (t .divisor) (t .count) (t .pole)
+  flat-cubic d e a b c x y z p q o r s l = (λ i. record { weight = 3; u0 = p i; u1 = q i; u2 = o i; v0 = r i; v1 = s i; v2 = l i; count = t .count; pole = t .pole }) ∙ sym (ap (λ d. flat-of d (t .count) (t .pole)) e)
 
-pub all-same : (a b : YubiRunning) → a .weight ≡ b .weight → a .u0 ≡ b .u0 → a .u1 ≡ b .u1 → a .u2 ≡ b .u2 → a .v0 ≡ b .v0 → a .v1 ≡ b .v1 → a .v2 ≡ b .v2 → a .count ≡ b .count → a ≡ b
-all-same a b w p q o r s l n = λ i. record { weight = w i; u0 = p i; u1 = q i; u2 = o i; v0 = r i; v1 = s i; v2 = l i; count = n i }
+pub all-same : (a b : YubiRunning) → a .weight ≡ b .weight → a .u0 ≡ b .u0 → a .u1 ≡ b .u1 → a .u2 ≡ b .u2 → a .v0 ≡ b .v0 → a .v1 ≡ b .v1 → a .v2 ≡ b .v2 → a .count ≡ b .count → a .pole ≡ b .pole → a ≡ b
+all-same a b w p q o r s l n k = λ i. record { weight = w i; u0 = p i; u1 = q i; u2 = o i; v0 = r i; v1 = s i; v2 = l i; count = n i; pole = k i }

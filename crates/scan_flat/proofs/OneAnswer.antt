@@ -11,24 +11,24 @@ use Rattle.scan_flat.specs.declared.YubiScanned.{YubiScanned}
 use Rattle.scan_flat.specs.Flats.{flat-running, unflat, Flattened, FlatScanIs}
 
 -- its numbers in a row
-abbrev Eight : Type 0
-Eight = ℕ × (ℕ × (ℕ × (ℕ × (ℕ × (ℕ × (ℕ × ℕ))))))
+abbrev Nine : Type 0
+Nine = ℕ × (ℕ × (ℕ × (ℕ × (ℕ × (ℕ × (ℕ × (ℕ × ℕ)))))))
 
-abbrev to-eight : YubiRunning → Eight
-to-eight t = (t .weight, (t .u0, (t .u1, (t .u2, (t .v0, (t .v1, (t .v2, t .count)))))))
+abbrev to-nine : YubiRunning → Nine
+to-nine t = (t .weight, (t .u0, (t .u1, (t .u2, (t .v0, (t .v1, (t .v2, (t .count, t .pole))))))))
 
-abbrev of-eight : Eight → YubiRunning
-of-eight e = record { weight = e .0; u0 = e .1 .0; u1 = e .1 .1 .0; u2 = e .1 .1 .1 .0; v0 = e .1 .1 .1 .1 .0; v1 = e .1 .1 .1 .1 .1 .0; v2 = e .1 .1 .1 .1 .1 .1 .0; count = e .1 .1 .1 .1 .1 .1 .1 }
+abbrev of-nine : Nine → YubiRunning
+of-nine e = record { weight = e .0; u0 = e .1 .0; u1 = e .1 .1 .0; u2 = e .1 .1 .1 .0; v0 = e .1 .1 .1 .1 .0; v1 = e .1 .1 .1 .1 .1 .0; v2 = e .1 .1 .1 .1 .1 .1 .0; count = e .1 .1 .1 .1 .1 .1 .1 .0; pole = e .1 .1 .1 .1 .1 .1 .1 .1 }
 
-eights : Discrete Eight
-eights = ×-discrete ℕ-discrete (×-discrete ℕ-discrete (×-discrete ℕ-discrete (×-discrete ℕ-discrete (×-discrete ℕ-discrete (×-discrete ℕ-discrete (×-discrete ℕ-discrete ℕ-discrete))))))
+nines : Discrete Nine
+nines = ×-discrete ℕ-discrete (×-discrete ℕ-discrete (×-discrete ℕ-discrete (×-discrete ℕ-discrete (×-discrete ℕ-discrete (×-discrete ℕ-discrete (×-discrete ℕ-discrete (×-discrete ℕ-discrete ℕ-discrete)))))))
 
 pub flattened? : (t : YubiRunning) → Dec (Flattened t)
-flattened? t = go (eights (to-eight (flat-running (unflat t))) (to-eight t))
+flattened? t = go (nines (to-nine (flat-running (unflat t))) (to-nine t))
   where
-    go : Dec (to-eight (flat-running (unflat t)) ≡ to-eight t) → Dec (Flattened t)
-    go (yes e) = yes (ap of-eight e)
-    go (no n) = no (λ e. n (ap to-eight e))
+    go : Dec (to-nine (flat-running (unflat t)) ≡ to-nine t) → Dec (Flattened t)
+    go (yes e) = yes (ap of-nine e)
+    go (no n) = no (λ e. n (ap to-nine e))
 
 module _ (t : YubiRunning) (s a : List ℕ) (x y : YubiScanned) (h : FlatScanIs t s a x) (k : FlatScanIs t s a y) where
   -- two programs that keep the words agree in the answer and in every number of the total

@@ -15,7 +15,7 @@ use Rattle.scan_flat.specs.declared.YubiScanned.{YubiScanned}
 
 -- the total, with 0 for what is unused
 abbrev pub flat-running : RuleRunning → YubiRunning
-flat-running t = record { weight = length (t .u); u0 = getD (t .u) 0 0; u1 = getD (t .u) 1 0; u2 = getD (t .u) 2 0; v0 = getD (t .v) 0 0; v1 = getD (t .v) 1 0; v2 = getD (t .v) 2 0; count = t .count }
+flat-running t = record { weight = length (t .u); u0 = getD (t .u) 0 0; u1 = getD (t .u) 1 0; u2 = getD (t .u) 2 0; v0 = getD (t .v) 0 0; v1 = getD (t .v) 1 0; v2 = getD (t .v) 2 0; count = t .count; pole = t .pole }
 
 abbrev pub first-u : YubiRunning → List ℕ
 first-u t = take (t .weight) (t .u0 ∷ t .u1 ∷ t .u2 ∷ [])
@@ -25,7 +25,7 @@ first-v t = take (t .weight) (t .v0 ∷ t .v1 ∷ t .v2 ∷ [])
 
 -- the coefficients below the weight
 abbrev pub unflat : YubiRunning → RuleRunning
-unflat t = record { u = first-u t; v = first-v t; count = t .count }
+unflat t = record { u = first-u t; v = first-v t; count = t .count; pole = t .pole }
 
 -- a total that can have been flattened
 abbrev pub Flattened : YubiRunning → Type 0

@@ -1,4 +1,4 @@
-// The running total as C holds it: a weight, six numbers and a count, any of them anything. A flattened total has weight 0 to 3, and 0 for
+// The running total as C holds it: a weight, six numbers, a count and a pole, any of them anything. A flattened total has weight 0 to 3, and 0 for
 // what is unused.
 ghost use mathlib.Core.Path.{_≡_};
 ghost use Rattle.field.specs.Primes.{Decides};
@@ -21,6 +21,7 @@ pub struct YubiRunning {
     pub v1: u64,
     pub v2: u64,
     pub count: u64,
+    pub pole: u32,
 }
 
 #[repr(C)]
@@ -68,9 +69,10 @@ pub fn divisor_of(t: YubiRunning) -> Divisor
 
 // Unused coefficients are 0.
 pub fn flatten_running(t: Running) -> YubiRunning
-    ensures { λ r. ⌜ r ≡ flat-running (totalOf (t .divisor) (t .count)) ⌝ }
+    ensures { λ r. ⌜ r ≡ flat-running (totalOf (t .divisor) (t .count) (t .pole)) ⌝ }
 {
     let count = t.count;
+    let pole = t.pole;
     let divisor = t.divisor;
     match divisor {
         Divisor::Neutral => YubiRunning {
@@ -82,6 +84,7 @@ pub fn flatten_running(t: Running) -> YubiRunning
             v1: 0,
             v2: 0,
             count: count,
+            pole: pole,
         },
         Divisor::One(d) => YubiRunning {
             weight: 1,
@@ -92,6 +95,7 @@ pub fn flatten_running(t: Running) -> YubiRunning
             v1: 0,
             v2: 0,
             count: count,
+            pole: pole,
         },
         Divisor::Two(d) => YubiRunning {
             weight: 2,
@@ -102,6 +106,7 @@ pub fn flatten_running(t: Running) -> YubiRunning
             v1: d.v1.to_raw(),
             v2: 0,
             count: count,
+            pole: pole,
         },
         Divisor::Three(d) => YubiRunning {
             weight: 3,
@@ -112,6 +117,7 @@ pub fn flatten_running(t: Running) -> YubiRunning
             v1: d.v1.to_raw(),
             v2: d.v2.to_raw(),
             count: count,
+            pole: pole,
         },
     }
 }
@@ -141,6 +147,9 @@ pub fn same(a: YubiRunning, b: YubiRunning) -> bool
         return false;
     }
     if a.count != b.count {
+        return false;
+    }
+    if a.pole != b.pole {
         return false;
     }
     true

@@ -54,10 +54,10 @@ module _ (t : YubiRunning) (s a : List ℕ) (r : CurveRead) (h : CurveIs s r) wh
 
     module _ (d : Divisor) (cut : Cut t d) (x : YubiRunning) where
       abbrev held : Running
-      held = record { divisor = d; count = t .count }
+      held = record { divisor = d; count = t .count; pole = t .pole }
 
       held-is : runningOf held ≡ unflat t
-      held-is = λ i. record { u = cut .u i; v = cut .v i; count = t .count }
+      held-is = λ i. record { u = cut .u i; v = cut .v i; count = t .count; pole = t .pole }
 
       module _ (x-is : x ≡ flat-running (runningOf held)) where
         pub unlike : (x ≡ t → ⊥) → FlatScanIs t s a (scanned-as 15 0 0 t)

@@ -22,6 +22,7 @@ pub fn scan(t: YubiRunning, curve: &[u8], record: &[u8]) -> YubiScanned
     let r = Running {
         divisor: scan_flat::divisor_of(t),
         count: t.count,
+        pole: t.pole,
     };
     if scan_flat::same(scan_flat::flatten_running(r), t) {
         match scan_value::scan_on(c, r, record) {

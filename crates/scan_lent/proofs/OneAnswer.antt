@@ -13,7 +13,7 @@ use Rattle.scan_lent.specs.Lent.{ScanIs}
 
 -- what the rule sees of a total is all of it
 pub same-total : (x y : Running) → runningOf x ≡ runningOf y → x ≡ y
-same-total x y e = λ i. record { divisor = divisors i; count = e i .count }
+same-total x y e = λ i. record { divisor = divisors i; count = e i .count; pole = e i .pole }
   where
     divisors : x .divisor ≡ y .divisor
     divisors = same-coefficients (x .divisor) (y .divisor)

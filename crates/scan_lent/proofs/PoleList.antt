@@ -6,7 +6,7 @@ use mathlib.Core.Path.{_≡_, ap}
 use mathlib.Core.List.{List, _++_, map, flatten}
 use Rattle.rules.specs.Records.{CurveRecord, taken, read-curve}
 use Rattle.rules.specs.Calls.{Running as RuleRunning, Reply, fresh, put, total-call}
-use Rattle.rules.proofs.calls.Scans.{running-result}
+use Rattle.rules.proofs.calls.Scans.{running-result, records-of}
 use Rattle.field.specs.Residues.{raw}
 use Rattle.divisor.specs.Divisors.{us, vs}
 use Rattle.scan_total.specs.declared.Running.{Running}
@@ -16,16 +16,16 @@ use Rattle.scan_lent.specs.declared.Report.{Report}
 use Rattle.scan_lent.specs.Lent.{ScanIs}
 use Rattle.rules.proofs.calls.Sequences.{Scan, AllScans, last-total, took, sequence-total}
 
-fresh-is : (t : Running) → Fresh t → runningOf t ≡ fresh
-fresh-is t f = λ i. record { u = map raw (us (f .neutral i)); v = map raw (vs (f .neutral i)); count = f .none i }
+fresh-is : (pole : ℕ) (t : Running) → Fresh pole t → runningOf t ≡ fresh pole
+fresh-is pole t f = λ i. record { u = map raw (us (f .neutral i)); v = map raw (vs (f .neutral i)); count = f .none i; pole = f .given i }
 
 module _ (s : List ℕ) {c : CurveRecord} (ec : read-curve s ≡ taken c) where
   abbrev pub LentScan : Running → List ℕ → Report → Running → Type 0
   LentScan t a r after = ScanIs t s a r after
 
-  pub lent-is-batch-total : (t : Running) → Fresh t → (xs later : List (Scan Running Report)) → AllScans LentScan t (xs ++ later)
-      → (out : List ℕ) → total-call s (flatten (took (λ (r : Report). r .number) xs)) out ≡ put 0 out (running-result (runningOf (last-total t xs)))
-  lent-is-batch-total t f =
+  pub lent-is-batch-total : (pole : ℕ) (t : Running) → Fresh pole t → (xs later : List (Scan Running Report)) → AllScans LentScan t (xs ++ later)
+      → (out : List ℕ) → total-call s (flatten (records-of (took (λ (r : Report). r .number) xs))) out ≡ put 0 out (running-result (runningOf (last-total t xs)))
+  lent-is-batch-total pole t f =
       sequence-total (λ (r : Report). r .number) LentScan s runningOf (λ t. Unit {0})
       (λ t a r after f h. record { fine = tt; answers = ap (λ (w : Reply RuleRunning). w .answer .number) (h .is); leaves = ap (λ (w : Reply RuleRunning). w .own) (h .is) })
-      ec t tt (fresh-is t f)
+      ec t tt pole (fresh-is pole t f)

@@ -1,4 +1,4 @@
--- A total of a divisor and a count, as the rule has it, and what it is taken up as.
+-- A total of a divisor, a count and a pole, as the rule has it, and what it is taken up as, whatever its pole.
 use Prim.Native.Nat.{ℕ, _<_}
 use mathlib.Core.Path.{_≡_}
 use mathlib.Core.List.{map}
@@ -13,12 +13,12 @@ use Rattle.curve.specs.Curves.{Holds}
 use Rattle.curve.specs.Record.{recordOf}
 use Rattle.scan_resume.specs.declared.TakenUp.{TakenUp}
 
--- its divisor by the numbers it is written as, and its count
-abbrev pub totalOf : Divisor → ℕ → RuleRunning
-totalOf d count = record { u = map raw (us d); v = map raw (vs d); count = count }
+-- its divisor by the numbers it is written as, its count and its pole
+abbrev pub totalOf : Divisor → ℕ → ℕ → RuleRunning
+totalOf d count pole = record { u = map raw (us d); v = map raw (vs d); count = count; pole = pole }
 
 pub record ResumeIs (c : Curve) (d : Divisor) (count : ℕ) (r : TakenUp) : Type 0 where
   pub holds : r .number ≡ 0 → Holds c (r .divisor)
   pub room : r .number ≡ 0 → count < most-records
-  pub takes : r .number ≡ 0 → resume (recordOf c) (totalOf d count) ≡ taken (pair (c .m) (r .divisor))
-  pub refuses : (r .number ≡ 0 → ⊥) → resume (recordOf c) (totalOf d count) ≡ refused (r .number) 0
+  pub takes : r .number ≡ 0 → (pole : ℕ) → resume (recordOf c) (totalOf d count pole) ≡ taken (pair (c .m) (r .divisor))
+  pub refuses : (r .number ≡ 0 → ⊥) → (pole : ℕ) → resume (recordOf c) (totalOf d count pole) ≡ refused (r .number) 0

@@ -1,5 +1,5 @@
--- Document 01, "The pole's list": a fresh total is neutral with 0; each divisor taken is added to the total's, and 1 to its count.
-use Prim.Native.Nat.{_+_, _<_}
+-- Document 01, "The pole's list": a fresh total is neutral with 0, for the pole that it is given (W-209); each divisor taken is added to the total's, and 1 to its count.
+use Prim.Native.Nat.{ℕ, _+_, _<_}
 use mathlib.Core.Path.{_≡_}
 use mathlib.Core.List.{map}
 use Rattle.rules.specs.Sum.{sum}
@@ -12,9 +12,10 @@ use Rattle.curve.specs.declared.Curve.{Curve}
 use Rattle.curve.specs.Curves.{curveOf, Sound, Holds}
 use Rattle.scan_total.specs.declared.Running.{Running}
 
-pub record Fresh (r : Running) : Type 0 where
+pub record Fresh (pole : ℕ) (r : Running) : Type 0 where
   pub neutral : r .divisor ≡ Neutral
   pub none : r .count ≡ 0
+  pub given : r .pole ≡ pole
 
 -- (the count has room for one more in 64 bits)
 pub record ToTake (c : Curve) (t : Running) (x d : Divisor) : Type 0 where
@@ -28,3 +29,4 @@ pub record Taken (c : Curve) (t : Running) (x d : Divisor) (r : Running) : Type 
   pub u-is : map raw (us (r .divisor)) ≡ numbers (c .m .p) (sum (curveOf c) (pair (c .m) x) (pair (c .m) d) .u)
   pub v-is : map raw (vs (r .divisor)) ≡ numbers (c .m .p) (sum (curveOf c) (pair (c .m) x) (pair (c .m) d) .v)
   pub count-is : r .count ≡ t .count + 1
+  pub pole-is : r .pole ≡ t .pole

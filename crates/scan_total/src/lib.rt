@@ -1,4 +1,4 @@
-// A running total as a value: the sum of the divisors taken so far, as plain numbers, and how many they were.
+// A running total as a value: the sum of the divisors taken so far, as plain numbers, how many they were, and the pole that they are for.
 ghost use Rattle.scan_total.specs.Totals.{Fresh, ToTake, Taken};
 use curve::Curve;
 use divisor::Divisor;
@@ -6,15 +6,17 @@ use divisor::Divisor;
 pub struct Running {
     pub divisor: Divisor,
     pub count: u64,
+    pub pole: u32,
 }
 
 impl Running {
-    pub fn fresh() -> Running
-        ensures { λ r. ⌜ Fresh r ⌝ }
+    pub fn fresh(pole: u32) -> Running
+        ensures { λ r. ⌜ Fresh pole r ⌝ }
     {
         Running {
             divisor: Divisor::neutral(),
             count: 0,
+            pole: pole,
         }
     }
 
@@ -24,10 +26,12 @@ impl Running {
         ensures { λ r. ⌜ Taken c self total d r ⌝ }
     {
         let n = self.count;
+        let pole = self.pole;
         let m = c.m;
         Running {
             divisor: scan_numbers::stored(jacobian::sum(c, total, d), m),
             count: n + 1,
+            pole: pole,
         }
     }
 }

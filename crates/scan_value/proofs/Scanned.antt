@@ -1,14 +1,19 @@
 -- A scan's answers: the rules `scan-on` and `scan-call`, where each check stops them or lets them go on.
-use Prim.Native.Nat.{ℕ, _+_}
+use Prim.Native.Nat.{ℕ, _+_, _-_, _≤_, _<_}
 use mathlib.Core.Path.{_≡_, refl, sym, ap, _∙_, subst}
 use mathlib.Core.Bool.{true}
 use mathlib.Core.List.{List, []}
 use native.Mathlib.Omega.{arith}
+use lib.ListN.{length, take, drop, length-drop}
+use lib.Seq.{take-all}
+use borrow.Author.Tests.{le-leb, lt-leb, ne-eqb}
+use Rattle.rules.specs.Bytes.{word32}
 use Rattle.rules.specs.Sum.{sum}
 use Rattle.rules.specs.Checks.{Checked, taken, go-on}
 use Rattle.rules.specs.Records.{CurveRecord, PairOf, numbers, read-curve, read-divisor}
-use Rattle.rules.specs.Calls.{Running as RuleRunning, Result, deliver, done, resume, scanned as rule-scanned, scan-on, scan-call}
+use Rattle.rules.specs.Calls.{Running as RuleRunning, Result, deliver, done, resume, scan-record, scanned as rule-scanned, scan-on, scan-call}
 use Rattle.rules.proofs.calls.Refusals.{on-taken, on-refused}
+use Rattle.rules.proofs.calls.Scans.{scan-taken}
 use Rattle.divisor.specs.declared.Divisor.{Divisor}
 use Rattle.divisor.specs.Divisors.{pair}
 use Rattle.curve.specs.declared.Curve.{Curve}
@@ -33,13 +38,16 @@ module _ (c : Curve) (t : Running) (a : List ℕ) where
 
   -- the total after z was made
   abbrev made : PairOf (recordOf c) → Result RuleRunning
-  made z = record { bytes = []; own = record { u = numbers (c .m .p) (z .u); v = numbers (c .m .p) (z .v); count = t .count + 1 } }
+  made z = record { bytes = []; own = record { u = numbers (c .m .p) (z .u); v = numbers (c .m .p) (z .v); count = t .count + 1; pole = t .pole } }
 
   abbrev sums : PairOf (recordOf c) → PairOf (recordOf c) → Checked (Result RuleRunning)
   sums x y = taken (made (sum (curveOf c) x y))
 
+  abbrev reads : PairOf (recordOf c) → List ℕ → Checked (Result RuleRunning)
+  reads x r = go-on (read-divisor (recordOf c) 1 r) (sums x)
+
   abbrev rest : PairOf (recordOf c) → Checked (Result RuleRunning)
-  rest x = go-on (read-divisor (recordOf c) 1 a) (sums x)
+  rest x = go-on (scan-record (t .pole) a) (reads x)
 
   rule-is : {x : Checked (Result RuleRunning)} → go-on (resume (recordOf c) rule) rest ≡ x → scan-on (recordOf c) rule a ≡ deliver rule [] x
   unfolding scan-on
@@ -47,28 +55,42 @@ module _ (c : Curve) (t : Running) (a : List ℕ) where
 
   module _ (r : TakenUp) (h : ResumeIs c (t .divisor) (t .count) r) where
     pub not-resumed : (r .number ≡ 0 → ⊥) → scannedOf t (Refused (r .number) 0) ≡ scan-on (recordOf c) rule a
-    not-resumed z = sym (rule-is (on-refused _ rest (h .refuses z)))
+    not-resumed z = sym (rule-is (on-refused _ rest (h .refuses z (t .pole))))
 
     module _ (z : r .number ≡ 0) where
       resumed : go-on (resume (recordOf c) rule) rest ≡ rest (pair (c .m) (r .divisor))
-      resumed = on-taken _ rest (h .takes z)
+      resumed = on-taken _ rest (h .takes z (t .pole))
 
-      module _ (b : DivisorRead) (b-is : DivisorIs c true a 0 b) where
-        pub not-read : (k : ℕ) → b ≡ NotRead k → scannedOf t (Refused k 1) ≡ scan-on (recordOf c) rule a
-        not-read k e = sym (rule-is (resumed ∙ on-refused _ (sums (pair (c .m) (r .divisor))) (subst (DivisorIs c true a 0) e b-is 1)))
+      -- the pole's four bytes: not there, or another's; n is their number
+      pub no-pole : length a < 4 → scannedOf t (Refused 8 1) ≡ scan-on (recordOf c) rule a
+      no-pole l = sym (rule-is (resumed ∙ on-refused (scan-record (t .pole) a) (reads (pair (c .m) (r .divisor))) (rw (lt-leb 4 (length a) l) refl)))
 
-        module _ (d : Divisor) (e : b ≡ Read d) where
-          read : DivisorIs c true a 0 (Read d)
-          read = subst (DivisorIs c true a 0) e b-is
+      module _ (l : 4 ≤ length a) {n : ℕ} (n-is : n ≡ word32 a 0) where
+        pub other-pole : (n ≡ t .pole → ⊥) → scannedOf t (Refused 20 0) ≡ scan-on (recordOf c) rule a
+        other-pole q = sym (rule-is (resumed ∙ on-refused (scan-record (t .pole) a) (reads (pair (c .m) (r .divisor))) (rw (le-leb 4 (length a) l, ne-eqb (word32 a 0) (t .pole) (λ e. q (n-is ∙ e))) refl)))
 
-          pub to-take : Sound c → ToTake c t (r .divisor) d
-          to-take s = record { sound = s; total = h .holds z; taken = read .0; room = omega (arith, h .room z) }
+        module _ (q : n ≡ t .pole) (b : DivisorRead) (b-is : DivisorIs c true (take (length a - 4) (drop 4 a)) 0 b) where
+          behind : DivisorIs c true (drop 4 a) 0 b
+          behind = subst (λ (s : List ℕ). DivisorIs c true s 0 b) (take-all (length a - 4) (drop 4 a) (omega (arith, length-drop 4 a))) b-is
 
-          pub scanned : (x : Running) → Taken c t (r .divisor) d x → scannedOf t (Done x) ≡ scan-on (recordOf c) rule a
-          scanned x k = total-is ∙ sym (rule-is (resumed ∙ on-taken _ (sums (pair (c .m) (r .divisor))) (read .1 1)))
-            where
-              total-is : scannedOf t (Done x) ≡ deliver rule [] (sums (pair (c .m) (r .divisor)) (pair (c .m) d))
-              total-is = λ i. record { answer = done 0; out = []; own = record { u = k .u-is i; v = k .v-is i; count = k .count-is i } }
+          for-pole : go-on (resume (recordOf c) rule) rest ≡ reads (pair (c .m) (r .divisor)) (drop 4 a)
+          for-pole = resumed ∙ on-taken (scan-record (t .pole) a) (reads (pair (c .m) (r .divisor))) (scan-taken (t .pole) a l (sym n-is ∙ q))
+
+          pub not-read : (k : ℕ) → b ≡ NotRead k → scannedOf t (Refused k 1) ≡ scan-on (recordOf c) rule a
+          not-read k e = sym (rule-is (for-pole ∙ on-refused _ (sums (pair (c .m) (r .divisor))) (subst (DivisorIs c true (drop 4 a) 0) e behind 1)))
+
+          module _ (d : Divisor) (e : b ≡ Read d) where
+            read : DivisorIs c true (drop 4 a) 0 (Read d)
+            read = subst (DivisorIs c true (drop 4 a) 0) e behind
+
+            pub to-take : Sound c → ToTake c t (r .divisor) d
+            to-take s = record { sound = s; total = h .holds z; taken = read .0; room = omega (arith, h .room z) }
+
+            pub scanned : (x : Running) → Taken c t (r .divisor) d x → scannedOf t (Done x) ≡ scan-on (recordOf c) rule a
+            scanned x k = total-is ∙ sym (rule-is (for-pole ∙ on-taken _ (sums (pair (c .m) (r .divisor))) (read .1 1)))
+              where
+                total-is : scannedOf t (Done x) ≡ deliver rule [] (sums (pair (c .m) (r .divisor)) (pair (c .m) d))
+                total-is = λ i. record { answer = done 0; out = []; own = record { u = k .u-is i; v = k .v-is i; count = k .count-is i; pole = k .pole-is i } }
 
 -- the curve first
 module _ (t : Running) (s a : List ℕ) (r : CurveRead) (h : CurveIs s r) where

@@ -1,4 +1,4 @@
--- The running total in code, as the rule has it: its divisor by the numbers it is written as, and its count.
+-- The running total in code, as the rule has it: its divisor by the numbers it is written as, its count and its pole.
 use mathlib.Core.List.{[], map}
 use Rattle.rules.specs.Calls.{Running as RuleRunning, Reply, done, stop}
 use Rattle.field.specs.Residues.{raw}
@@ -8,7 +8,7 @@ use Rattle.scan_value.specs.declared.ScanAnswer.{ScanAnswer}
 use Rattle.scan_value.specs.declared.ScanAnswer.the-variants.{Done, Refused}
 
 abbrev pub runningOf : Running → RuleRunning
-runningOf t = record { u = map raw (us (t .divisor)); v = map raw (vs (t .divisor)); count = t .count }
+runningOf t = record { u = map raw (us (t .divisor)); v = map raw (vs (t .divisor)); count = t .count; pole = t .pole }
 
 -- number, place, length and the total after a scan of t
 abbrev pub scannedOf : Running → ScanAnswer → Reply RuleRunning

@@ -1,4 +1,4 @@
-// A scan into the running total, by value: the total's own divisor is checked on the curve given, then the record.
+// A scan into the running total, by value: the total's own divisor is checked on the curve given, then the pole's four bytes, then the record behind them.
 ghost use mathlib.Core.Path.{_≡_};
 ghost use Rattle.rules.specs.Calls.{scan-call, scan-on};
 ghost use Rattle.curve.specs.Curves.{Sound};
@@ -26,7 +26,14 @@ pub fn scan_on(c: Curve, t: Running, record: &[u8]) -> ScanAnswer
     if number != 0 {
         return ScanAnswer::Refused(number, 0);
     }
-    match record_divisor::divisor_at(c, true, record, 0) {
+    if record.len() < 4 {
+        return ScanAnswer::Refused(refusals::DIVISOR_LENGTH, 1);
+    }
+    let pole = t.pole as u64;
+    if big_endian::read32(record, 0) != pole {
+        return ScanAnswer::Refused(refusals::OTHER_POLE, 0);
+    }
+    match record_divisor::divisor_at(c, true, &record[4..], 0) {
         DivisorRead::Taken(d) => ScanAnswer::Done(t.take(c, total, d)),
         DivisorRead::Refused(n) => ScanAnswer::Refused(n, 1),
     }

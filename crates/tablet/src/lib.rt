@@ -4,10 +4,12 @@ ghost use mathlib.Core.Path.{_≡_};
 ghost use Rattle.rules.specs.Calls.{check-curve, check-divisor, rewrite-curve, rewrite-divisor, add-call, double-call, opposite-call, multiply-call, total-call, repeat-call};
 ghost use Rattle.rules.specs.Calls.{check-order, split-call, next-call};
 ghost use Rattle.rules.specs.Calls.{fresh};
+ghost use Rattle.pole_rule.specs.PoleFile.{read-file, write-file};
 ghost use Rattle.scan_flat.specs.Flats.{flat-running, scanned-as, FlatScanIs};
-ghost use Rattle.c_answers.specs.Flat.{flat, flat-multiple, flat-total, flat-repeat};
+ghost use Rattle.c_answers.specs.Flat.{flat, flat-multiple, flat-total, flat-repeat, flat-pole};
 use c_answers::YubiAnswer;
 use c_answers::YubiMultiple;
+use c_answers::YubiPole;
 use c_answers::YubiRepeat;
 use c_answers::YubiTotal;
 use scan_flat::YubiRunning;
@@ -140,10 +142,10 @@ pub extern "C" fn yubi_first_repeat(curve: &[u8], batch: &[u8]) -> YubiRepeat
 }
 
 #[no_mangle]
-pub extern "C" fn yubi_fresh_total() -> YubiRunning
-    ensures { λ r. ⌜ r ≡ flat-running fresh ⌝ }
+pub extern "C" fn yubi_fresh_total(pole: u32) -> YubiRunning
+    ensures { λ r. ⌜ r ≡ flat-running (fresh pole) ⌝ }
 {
-    scan_flat::flatten_running(Running::fresh())
+    scan_flat::flatten_running(Running::fresh(pole))
 }
 
 #[no_mangle]
@@ -183,4 +185,26 @@ pub extern "C" fn yubi_scan_lent(total: &mut YubiRunning, curve: &[u8], record: 
     let s = lent_by_value(*total, curve, record);
     *total = s.total;
     s.answer
+}
+
+// The pole file: a floor above the other calls, by their promises alone (pole_file).
+#[no_mangle]
+pub extern "C" fn yubi_write_pole_file(
+    pole: u32,
+    curve: &[u8],
+    batch: &[u8],
+    out: &mut [u8],
+) -> YubiAnswer
+    ensures answer { λ r. ⌜ r ≡ flat (write-file pole (now (curve .entry)) (now (batch .entry)) (now (out .entry)) .answer) ⌝ }
+    ensures output { λ r. ⌜ now (out .exit) ≡ write-file pole (now (curve .entry)) (now (batch .entry)) (now (out .entry)) .out ⌝ }
+{
+    c_answers::flatten(pole_file::write_pole_file(pole as u64, curve, batch, out))
+}
+
+#[no_mangle]
+pub extern "C" fn yubi_read_pole_file(file: &[u8], out: &mut [u8]) -> YubiPole
+    ensures answer { λ r. ⌜ r ≡ flat-pole (read-file (now (file .entry)) (now (out .entry))) ⌝ }
+    ensures output { λ r. ⌜ now (out .exit) ≡ read-file (now (file .entry)) (now (out .entry)) .out ⌝ }
+{
+    c_answers::flatten_pole(pole_file::read_pole_file(file, out))
 }

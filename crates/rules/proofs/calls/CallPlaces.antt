@@ -7,6 +7,7 @@ use mathlib.Core.List.{List, [], _∷_, _++_}
 use mathlib.Core.Bool.{true}
 use mathlib.Core.Logic.{_⊎_, inl, inr}
 use native.Mathlib.Omega.{arith}
+use lib.ListN.{drop}
 use Rattle.rules.specs.Bytes.{number}
 use Rattle.rules.specs.Pair.{neutral, opposite}
 use Rattle.rules.specs.Sum.{sum, double}
@@ -17,7 +18,7 @@ use Rattle.rules.specs.Lists.{batch}
 use Rattle.rules.specs.Split.{split-root}
 use Rattle.rules.specs.Census.{next}
 use Rattle.rules.specs.Calls.{order-checks, check-order, split-call, training-checks, read-training, next-call}
-use Rattle.rules.specs.Calls.{Result, Reply, deliver, check-curve, check-divisor, rewrite-curve, from-one, rewrite-divisor, double-call, opposite-call, add-call, multiply-checks, multiply-call, total-call, repeat-call, Running, resume, scan-call}
+use Rattle.rules.specs.Calls.{Result, Reply, deliver, check-curve, check-divisor, rewrite-curve, from-one, rewrite-divisor, double-call, opposite-call, add-call, multiply-checks, multiply-call, total-call, repeat-call, Running, resume, scan-checks, scan-record, scan-call}
 use Rattle.rules.proofs.calls.Checks.{refused-as}
 use Rattle.rules.proofs.calls.Places.{At, None, Placed, elsewhere, placed-on, placed-taken, curve-place, divisor-place, resume-place, Faulty, batch-place}
 use Rattle.rules.proofs.calls.Delivered.{delivered-place}
@@ -128,10 +129,15 @@ module _ (s : List ℕ) where
       K : ℕ → ℕ → Type 0
       K = On s (λ c. Faulty c records)
 
+  -- 8 where the pole's 4 bytes aren't there has place 1, 20 has place 0
+  pole-place : (pole : ℕ) (a : List ℕ) → Placed Alone (scan-record pole a)
+  pole-place pole a n j q = refused-as (drop 4 a) (At Alone) (scan-checks pole a) ((λ l u. refl, λ l. absurd (omega arith), λ l. absurd (omega arith)), (elsewhere Alone (λ l u. omega arith) refl, tt)) q
+
   pub scan-place : (t : Running) (a : List ℕ) → Stands Alone (scan-call t s a)
   unfolding scan-call
   scan-place t a = delivered-place t [] Alone _ (on-curve Alone s _ (λ c e.
-      placed-on Alone None (resume c t) _ (resume-place c t) (λ n j e h. absurd h) (λ x e. alone c a _ (λ y. placed-taken Alone _))))
+      placed-on Alone None (resume c t) _ (resume-place c t) (λ n j e h. absurd h) (λ x e.
+      placed-on Alone Alone (scan-record (t .pole) a) _ (pole-place (t .pole) a) (λ n j e h. h) (λ r q. alone c r _ (λ y. placed-taken Alone _)))))
 
   -- 12 and 27 have place 0
   pub order-place : (a order primes : List ℕ) → At Alone (check-order s a order primes .number) (check-order s a order primes .place)

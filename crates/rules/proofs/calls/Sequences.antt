@@ -1,5 +1,5 @@
 -- Scans one after the other, into totals of any kind A, each of which keeps some words `Keeps` on the total that the one before it left. Where those words are
--- the rule's of totals that are fine, and leave a fine one, the total after each scan is the batch total of what was taken so far (`sequence-total`).
+-- the rule's of totals that are fine, and leave a fine one, the total after each scan is the batch total of what was taken so far (`sequence-total`), scans for other poles among those that were refused.
 use Prim.Native.Nat.{ℕ}
 use mathlib.Core.Path.{_≡_, refl, sym, ap, _∙_, subst}
 use mathlib.Core.Bool.{Bool, true, false}
@@ -8,7 +8,7 @@ use borrow.Author.Tests.{eqb-true, eqb-false}
 use lib.Dec.{eqb}
 use Rattle.rules.specs.Records.{CurveRecord, taken, choose, read-curve}
 use Rattle.rules.specs.Calls.{Running, fresh, put, total-call, scan-call}
-use Rattle.rules.proofs.calls.Scans.{running-result, scans, AllDone, scans-batch, scan-kept}
+use Rattle.rules.proofs.calls.Scans.{running-result, scans, AllDone, records-of, scans-batch, scan-kept}
 
 -- one scan: its record, what it reported, and the total that it left
 pub record Scan (A Report : Type 0) : Type 0 where
@@ -64,9 +64,9 @@ module _ {A Report : Type 0} where
           go k true e rest = one-taken t x (took number xs) (last-total (x .after) xs) k (eqb-true _ _ e) rest
           go k false e rest = one-refused t x (took number xs) (last-total (x .after) xs) k (eqb-false _ _ e) rest
 
-      pub sequence-total : {c : CurveRecord} → read-curve s ≡ taken c → (t : A) → Fine t → rule t ≡ fresh → (xs later : List (Scan A Report)) → AllScans Keeps t (xs ++ later)
-          → (out : List ℕ) → total-call s (flatten (took number xs)) out ≡ put 0 out (running-result (rule (last-total t xs)))
-      sequence-total ec t f e xs later h out =
+      pub sequence-total : {c : CurveRecord} → read-curve s ≡ taken c → (t : A) → Fine t → (pole : ℕ) → rule t ≡ fresh pole → (xs later : List (Scan A Report)) → AllScans Keeps t (xs ++ later)
+          → (out : List ℕ) → total-call s (flatten (records-of (took number xs))) out ≡ put 0 out (running-result (rule (last-total t xs)))
+      sequence-total ec t f pole e xs later h out =
           let k = reaches t xs f (so-far Keeps t xs later h) in
-          scans-batch s ec (took number xs) (subst (λ (u : Running). AllDone u s (took number xs)) e (k .1)) out
+          scans-batch s ec pole (took number xs) (subst (λ (u : Running). AllDone u s (took number xs)) e (k .1)) out
           ∙ ap (λ (u : Running). put 0 out (running-result u)) (ap (λ (u : Running). scans u s (took number xs)) (sym e) ∙ k .0)

@@ -11,7 +11,7 @@ flatten-running-requires : tie.Need-flatten-running-requires
 flatten-running-requires c κs = search needs
 
 returns : tie.Need-returns
-returns c = c .flatten-running .ensures ∙ fresh-is (c .before .fresh .result) (c .before .fresh .ensures)
+returns c = c .flatten-running .ensures ∙ fresh-is (c .before .before .args .pole) (c .before .fresh .result) (c .before .fresh .ensures)
 
 pub yubi-fresh-total-spec : {M : Type 1} → statement M
 yubi-fresh-total-spec = tie.close (tie.spec fresh-requires flatten-running-requires returns)

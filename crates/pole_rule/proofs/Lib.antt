@@ -1,0 +1,10 @@
+pub mod Counted
+pub mod CurveParts
+pub mod Longer
+pub mod Files
+pub mod Laws
+pub mod CurveCut
+pub mod Cuts
+pub mod FilePlaces
+pub mod Shown
+pub mod Small
