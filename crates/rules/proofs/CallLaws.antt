@@ -33,7 +33,8 @@ use Rattle.rules.proofs.calls.Repeats.{SameAt}
 use Rattle.rules.proofs.calls.Written.{front, answered, bare}
 use Rattle.rules.proofs.calls.Done.{OneDone, AddDone, TotalDone, total-of}
 use Rattle.rules.proofs.calls.Totals.{subtotal, adds}
-use Rattle.rules.proofs.calls.Scans.{ScanDone, running-result, scans, AllDone, AllFor, records-of, of-pole}
+use Rattle.rules.proofs.calls.OneScan.{ScanDone}
+use Rattle.rules.proofs.calls.Scans.{running-result, scans, AllDone, AllFor, records-of, of-pole}
 use Rattle.rules.proofs.calls.Delivered.{Kept}
 use Rattle.rules.proofs.calls.Taken.{total-result}
 use Rattle.rules.proofs.calls.Keys.{EmptyKey}
@@ -57,6 +58,7 @@ use Rattle.rules.proofs.census.Census
 use Rattle.rules.proofs.calls.Done
 use Rattle.rules.proofs.calls.Sums
 use Rattle.rules.proofs.calls.Totals
+use Rattle.rules.proofs.calls.OneScan
 use Rattle.rules.proofs.calls.Scans
 
 -- ---- the records
@@ -262,12 +264,18 @@ module _ (s : List ℕ) {c : CurveRecord} (ec : read-curve s ≡ taken c) (rs : 
 -- ---- the pole's list
 -- a scan that answers 0 adds the record's divisor to the total's and 1 to its count, whatever total it was lent
 pub scan-adds : (s : List ℕ) {c : CurveRecord} → read-curve s ≡ taken c → (t : Running) (a : List ℕ) → (scan-call t s a) .answer .number ≡ 0 → ScanDone c t a (scan-call t s a)
-scan-adds s ec = Scans.scan-done s ec
+scan-adds s ec = OneScan.scan-done s ec
 
--- a scan for another pole is refused 20, after 15 and 14 and before the record is looked at, and the total stays (W-209)
-pub scan-of-another : (s : List ℕ) {c : CurveRecord} → read-curve s ≡ taken c → (t : Running) (a : List ℕ) {x : PairOf c} → resume c t ≡ taken x → 4 ≤ length a → (word32 a 0 ≡ t .pole → ⊥)
-    → scan-call t s a ≡ stop t [] 20 0
-scan-of-another s ec = Scans.scan-other s ec
+-- a scan's refusals in their order (W-209), each of which leaves the total: 15 and 14, whatever is scanned; then 8 at place 1, below 4 bytes; then 20 for another pole, whatever stands behind its number
+module _ (s : List ℕ) {c : CurveRecord} (ec : read-curve s ≡ taken c) (t : Running) (a : List ℕ) where
+  pub scan-into-unfit : {n k : ℕ} → resume c t ≡ refused n k → scan-call t s a ≡ stop t [] n k
+  scan-into-unfit = OneScan.scan-unfit s ec t a
+
+  pub scan-cut-short : {x : PairOf c} → resume c t ≡ taken x → length a < 4 → scan-call t s a ≡ stop t [] 8 1
+  scan-cut-short = OneScan.scan-short s ec t a
+
+  pub scan-of-another : {x : PairOf c} → resume c t ≡ taken x → 4 ≤ length a → (word32 a 0 ≡ t .pole → ⊥) → scan-call t s a ≡ stop t [] 20 0
+  scan-of-another = OneScan.scan-other s ec t a
 
 module _ (s : List ℕ) {c : CurveRecord} (ec : read-curve s ≡ taken c) (pole : ℕ) (l : List (List ℕ)) where
   -- from a fresh total every scan answers 0 exactly where each was for its pole, of a good record, and they are at most 4,096

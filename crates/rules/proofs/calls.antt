@@ -30,6 +30,7 @@ pub mod Done
 pub mod Sums
 pub mod ListLaws
 pub mod Totals
+pub mod OneScan
 pub mod Scans
 pub mod Sequences
 pub mod Rewrites

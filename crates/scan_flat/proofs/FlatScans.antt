@@ -13,7 +13,7 @@ use Rattle.rules.proofs.calls.Elements.{length-numbers}
 use Rattle.rules.proofs.calls.CurveRecords.{accepts}
 use Rattle.rules.proofs.calls.DivisorRecords.{divisor-valid}
 use Rattle.rules.proofs.calls.Accepted.{accepts-laws}
-use Rattle.rules.proofs.calls.Scans.{resume-valid, scan-on-is, scan-done, scan-kept}
+use Rattle.rules.proofs.calls.OneScan.{resume-valid, scan-on-is, scan-done, scan-kept}
 use Rattle.scan_flat.specs.declared.YubiRunning.{YubiRunning}
 use Rattle.scan_flat.specs.declared.YubiScanned.{YubiScanned}
 use Rattle.scan_flat.specs.Flats.{flat-running, unflat, Flattened, flat-scanned, FlatScanIs}

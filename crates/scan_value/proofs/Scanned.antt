@@ -4,16 +4,16 @@ use mathlib.Core.Path.{_≡_, refl, sym, ap, _∙_, subst}
 use mathlib.Core.Bool.{true}
 use mathlib.Core.List.{List, []}
 use native.Mathlib.Omega.{arith}
-use lib.ListN.{length, take, drop, length-drop}
-use lib.Seq.{take-all}
+use lib.ListN.{length, take, drop}
 use borrow.Author.Tests.{le-leb, lt-leb, ne-eqb}
 use Rattle.rules.specs.Bytes.{word32}
 use Rattle.rules.specs.Sum.{sum}
 use Rattle.rules.specs.Checks.{Checked, taken, go-on}
 use Rattle.rules.specs.Records.{CurveRecord, PairOf, numbers, read-curve, read-divisor}
 use Rattle.rules.specs.Calls.{Running as RuleRunning, Result, deliver, done, resume, scan-record, scanned as rule-scanned, scan-on, scan-call}
+use Rattle.rules.proofs.calls.Bytes.{part-from}
 use Rattle.rules.proofs.calls.Refusals.{on-taken, on-refused}
-use Rattle.rules.proofs.calls.Scans.{scan-taken}
+use Rattle.rules.proofs.calls.OneScan.{scan-taken}
 use Rattle.divisor.specs.declared.Divisor.{Divisor}
 use Rattle.divisor.specs.Divisors.{pair}
 use Rattle.curve.specs.declared.Curve.{Curve}
@@ -71,7 +71,7 @@ module _ (c : Curve) (t : Running) (a : List ℕ) where
 
         module _ (q : n ≡ t .pole) (b : DivisorRead) (b-is : DivisorIs c true (take (length a - 4) (drop 4 a)) 0 b) where
           behind : DivisorIs c true (drop 4 a) 0 b
-          behind = subst (λ (s : List ℕ). DivisorIs c true s 0 b) (take-all (length a - 4) (drop 4 a) (omega (arith, length-drop 4 a))) b-is
+          behind = subst (λ (s : List ℕ). DivisorIs c true s 0 b) (part-from a 4) b-is
 
           for-pole : go-on (resume (recordOf c) rule) rest ≡ reads (pair (c .m) (r .divisor)) (drop 4 a)
           for-pole = resumed ∙ on-taken (scan-record (t .pole) a) (reads (pair (c .m) (r .divisor))) (scan-taken (t .pole) a l (sym n-is ∙ q))

@@ -1,14 +1,14 @@
 -- Big-endian numbers. Gives, of any length: one byte more (`number-more`); of eight bytes: the number of the bytes of x is x, for x below 2^64 (`word-bytes`); the bytes of the number of
--- eight bytes are those bytes (`bytes-word`); the same of many numbers (`words-bytes`, `bytes-words`).
-use Prim.Native.Nat.{ℕ, zero, suc, _+_, _*_, _/_, _%_, _≤_, _<_}
+-- eight bytes are those bytes (`bytes-word`); the same of many numbers (`words-bytes`, `bytes-words`). And the bytes from a place on, as a part of a slice (`part-from`).
+use Prim.Native.Nat.{ℕ, zero, suc, _+_, _*_, _-_, _/_, _%_, _≤_, _<_}
 use mathlib.Core.Path.{_≡_, refl, sym, ap, ap₂, _∙_}
 use mathlib.Core.List.{List, [], _∷_, _++_, append-assoc, foldl-append}
 use mathlib.Core.Bool.{true}
 use native.Mathlib.Numerals.{add-one}
 use native.Mathlib.Omega.{arith}
 use lib.Dec.{ltb}
-use lib.ListN.{getD, length, take, drop}
-use lib.Seq.{take-suc, drop-cons, getD-append-add}
+use lib.ListN.{getD, length, take, drop, length-drop}
+use lib.Seq.{take-all, take-suc, drop-cons, getD-append-add}
 use borrow.Author.Tests.{ltb-true}
 use Rattle.rules.specs.Bytes.{number, word64, words, bytes64, all-bytes}
 use Rattle.rules.specs.Records.{below?}
@@ -17,6 +17,10 @@ use Rattle.rules.proofs.calls.Tests.{both-true}
 -- every one is below 256
 abbrev pub AreBytes : List ℕ → Type 0
 AreBytes s = (i : ℕ) → getD s i 0 < 256
+
+-- what stands from e on, as code has it
+pub part-from : (s : List ℕ) (e : ℕ) → take (length s - e) (drop e s) ≡ drop e s
+part-from s e = take-all (length s - e) (drop e s) (omega (arith, length-drop e s))
 
 -- ---- one byte more of a number of any length
 pub number-more : (s : List ℕ) (i : ℕ) → i < length s → number (take (i + 1) s) ≡ 256 * number (take i s) + getD s i 0

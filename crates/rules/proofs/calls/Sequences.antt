@@ -8,7 +8,8 @@ use borrow.Author.Tests.{eqb-true, eqb-false}
 use lib.Dec.{eqb}
 use Rattle.rules.specs.Records.{CurveRecord, taken, choose, read-curve}
 use Rattle.rules.specs.Calls.{Running, fresh, put, total-call, scan-call}
-use Rattle.rules.proofs.calls.Scans.{running-result, scans, AllDone, records-of, scans-batch, scan-kept}
+use Rattle.rules.proofs.calls.OneScan.{scan-kept}
+use Rattle.rules.proofs.calls.Scans.{running-result, scans, AllDone, records-of, scans-batch}
 
 -- one scan: its record, what it reported, and the total that it left
 pub record Scan (A Report : Type 0) : Type 0 where
