@@ -34,6 +34,3 @@ put-more out s a k h = sym (ap (sets out a) one ∙ sets-append out (take k s) (
   where
     one : take (k + 1) s ≡ take k s ++ (getD s k 0 ∷ [])
     one = ap (λ (n : ℕ). take n s) {x = k + 1} {y = suc k} (omega arith) ∙ take-suc s k 0 h
-
-pub put-front : (out s : List ℕ) (k : ℕ) → k < length s → set (sets out 0 (take k s)) k (getD s k 0) ≡ sets out 0 (take (k + 1) s)
-put-front out s k h = ap (λ (n : ℕ). set (sets out 0 (take k s)) n (getD s k 0)) {x = k} {y = 0 + k} (omega arith) ∙ put-more out s 0 k h

@@ -52,14 +52,14 @@ pub fn write_words(out: &mut [u8], a: usize, x: [u64; 8], n: usize)
     }
 }
 
-// A record that was read, written as it stood: at the front, and the rest of the output stays.
-pub fn write_bytes(s: &[u8], out: &mut [u8])
-    requires { ⌜ length (now s) ≤ length (now out) ⌝ }
-    ensures { λ _. ⌜ now (out .exit) ≡ sets (now (out .entry)) 0 (now (s .entry)) ⌝ }
+// Bytes written as they stand, from a on; the rest of the output stays.
+pub fn write_bytes(out: &mut [u8], a: usize, s: &[u8])
+    requires { ⌜ a + length (now s) ≤ length (now out) ⌝ }
+    ensures { λ _. ⌜ now (out .exit) ≡ sets (now (out .entry)) a (now (s .entry)) ⌝ }
 {
     let mut k: usize = 0;
     while k < s.len() {
-        out[k] = s[k];
+        out[a + k] = s[k];
         k += 1;
     }
 }

@@ -1,13 +1,12 @@
 -- A batch counted in code: k records stand before place a. Gives: the loop's start, a turn of it, and what is answered at each return; and the call's answer by its parts.
 use Prim.Native.Nat.{ℕ, _+_, _*_, _≤_, _<_}
-use mathlib.Core.Path.{_≡_, refl, ap, _∙_}
+use mathlib.Core.Path.{_≡_, refl, _∙_}
 use mathlib.Core.List.{List}
 use mathlib.Core.Bool.{false}
 use lib.ListN.{getD, length}
 use Rattle.rules.proofs.calls.Refusals.{on-taken, on-refused}
 use Rattle.divisor.specs.declared.Divisor.{Divisor}
 use Rattle.curve.specs.declared.Curve.{Curve}
-use Rattle.curve.specs.Record.{recordOf}
 use Rattle.record_divisor.specs.declared.DivisorRead.{DivisorRead}
 use Rattle.record_divisor.specs.declared.DivisorRead.the-variants.{Taken, Refused}
 use Rattle.record_divisor.specs.Read.{DivisorIs}

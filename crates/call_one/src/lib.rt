@@ -111,7 +111,7 @@ pub fn rewrite_curve(curve: &[u8], out: &mut [u8]) -> Answer
     if out.len() < curve.len() {
         return Answer::Refused(refusals::OUTPUT_LENGTH, 0);
     }
-    big_endian::write_bytes(curve, out);
+    big_endian::write_bytes(out, 0, curve);
     Answer::Done(curve.len() as u64, 0, 0)
 }
 

@@ -1,18 +1,19 @@
 -- The reader's answers, by what its parts answered: a batch told apart by the count (`in-..`), a count that isn't there (`after-..`), the parts (`few-bytes`, `high-count`, `all-parts`),
 -- what is written, and the head.
-use Prim.Native.Nat.{ℕ, _+_, _*_, _-_, _≤_, _<_}
+use Prim.Native.Nat.{ℕ, _+_, _-_, _≤_, _<_}
 use mathlib.Core.Path.{_≡_, refl, sym, ap, ap₂, _∙_, subst}
-use mathlib.Core.Bool.{Bool, true, false}
-use mathlib.Core.List.{List, [], _∷_, _++_}
+use mathlib.Core.Bool.{true, false}
+use mathlib.Core.List.{List, [], _++_}
 use native.Mathlib.Omega.{arith}
-use lib.ListN.{getD, length, take, drop, length-append, length-drop}
-use lib.Seq.{sets, take-all, drop-drop}
+use lib.ListN.{length, take, drop, length-append, length-drop}
+use lib.Seq.{sets, drop-drop}
 use borrow.Author.Tests.{eq-eqb, ne-eqb, le-leb, lt-leb, lt-ltb}
 use Rattle.rules.specs.Bytes.{word32}
-use Rattle.rules.specs.Checks.{Checked, refused, taken, choose, first-failed, go-on}
-use Rattle.rules.specs.Records.{both, CurveRecord, version-of, read-curve}
+use Rattle.rules.specs.Checks.{Checked, refused, taken, first-failed, go-on}
+use Rattle.rules.specs.Records.{CurveRecord, version-of, read-curve}
 use Rattle.rules.specs.Lists.{Batch, most-records}
-use Rattle.rules.specs.Calls.{Result, put, done, deliver}
+use Rattle.rules.specs.Calls.{Result, put, done, deliver, counted, check-batch}
+use Rattle.rules.proofs.calls.Bytes.{part-from}
 use Rattle.rules.proofs.calls.Delivered.{put-room}
 use Rattle.rules.proofs.calls.Checks.{passed-all}
 use Rattle.rules.proofs.calls.Refusals.{on-taken, on-refused, went-on}
@@ -25,14 +26,9 @@ use Rattle.call_one.proofs.Written.{goes-on, stopped-as}
 use Rattle.call_batch.specs.declared.BatchRead.{BatchRead}
 use Rattle.call_batch.specs.declared.BatchRead.the-variants.{Taken as TakenBatch, Refused as RefusedBatch}
 use Rattle.call_batch.specs.Counts.{ReadAs, BatchIs}
-use Rattle.rules.specs.Calls.{counted, check-batch}
-use Rattle.pole_rule.specs.PoleFile.{word16, read-parts, pole-marked?, head-checks, curve-part, behind-curve, read-behind, read-file}
+use Rattle.pole_rule.specs.PoleFile.{word16, read-parts, pole-marked?, head-checks, curve-part, behind-curve, both-parts, read-behind, read-file}
 use Rattle.pole_rule.proofs.Counted.{as-file, same-count, other-count, later, stays, cut-short, over-full, no-count, parts-are-batch, parts-taken}
-use Rattle.pole_file.specs.Files.{both-parts, PoleIs, PartsAre, InFile, Ends}
-
--- what stands from e on, as a part of a slice has it
-pub part-from : (s : List ℕ) (e : ℕ) → take (length s - e) (drop e s) ≡ drop e s
-part-from s e = take-all (length s - e) (drop e s) (omega (arith, length-drop e s))
+use Rattle.pole_file.specs.Files.{PoleIs, PartsAre, InFile, Ends}
 
 -- ---- a batch, in a file whose count is n
 module _ (n : ℕ) (r : BatchRead) where
@@ -86,13 +82,13 @@ module _ (s rest : List ℕ) (x : BatchRead) where
   pub few-bytes : length rest < 2 → PartsAre x (go-on (read-curve s) (λ c. refused 23 0)) → PartsAre x (read-parts s rest)
   few-bytes l h = subst (PartsAre x) (sym (no-count s rest (rw (lt-leb 2 (length rest) l) refl))) h
 
-  -- the two bytes of the count, as read
-  module _ {a b : ℕ} (ea : a ≡ getD rest 0 0) (eb : b ≡ getD rest 1 0) (l : 2 ≤ length rest) where
-    pub high-count : 4096 < a * 256 + b → PartsAre x (go-on (read-curve s) (λ c. refused 23 0)) → PartsAre x (read-parts s rest)
+  -- the count, as read
+  module _ {n : ℕ} (en : n ≡ word16 rest 0) (l : 2 ≤ length rest) where
+    pub high-count : 4096 < n → PartsAre x (go-on (read-curve s) (λ c. refused 23 0)) → PartsAre x (read-parts s rest)
     high-count u h = subst (PartsAre x) (sym (no-count s rest (rw (le-leb 2 (length rest) l, lt-leb (word16 rest 0) most-records (omega arith)) refl))) h
 
-    pub all-parts : a * 256 + b ≤ 4096 → PartsAre x (as-file (a * 256 + b) (check-batch s (drop 2 rest))) → PartsAre x (read-parts s rest)
-    all-parts u h = subst (PartsAre x) (ap (λ (k : ℕ). as-file k (check-batch s (drop 2 rest))) {x = a * 256 + b} {y = word16 rest 0} (omega arith) ∙ sym (parts-are-batch s rest l (omega arith))) h
+    pub all-parts : n ≤ 4096 → PartsAre x (as-file n (check-batch s (drop 2 rest))) → PartsAre x (read-parts s rest)
+    all-parts u h = subst (PartsAre x) (ap (λ (k : ℕ). as-file k (check-batch s (drop 2 rest))) en ∙ sym (parts-are-batch s rest l (omega arith))) h
 
 -- ---- the curve record, then the divisor records
 module _ (pole : ℕ) (a b out : List ℕ) where
@@ -142,27 +138,13 @@ module _ (file out : List ℕ) where
   head-short l = stops (rw (lt-leb 9 (length file) l) refl)
 
   module _ (l : 9 ≤ length file) where
-    unmarked : pole-marked? file ≡ false → PoleIs (Refused 21 0) out (read-file file out)
+    pub unmarked : pole-marked? file ≡ false → PoleIs (Refused 21 0) out (read-file file out)
     unmarked e = stops (rw (le-leb 9 (length file) l, e) refl)
 
-    pub first-letter : (getD file 0 0 ≡ 72 → ⊥) → PoleIs (Refused 21 0) out (read-file file out)
-    first-letter h = unmarked (rw (ne-eqb (getD file 0 0) 72 h) refl)
+    module _ (marked : pole-marked? file ≡ true) where
+      pub other-version : (version-of file ≡ 1 → ⊥) → PoleIs (Refused 22 0) out (read-file file out)
+      other-version h = stops (rw (le-leb 9 (length file) l, marked, ne-eqb (version-of file) 1 h) refl)
 
-    module _ (a : getD file 0 0 ≡ 72) where
-      pub second-letter : (getD file 1 0 ≡ 74 → ⊥) → PoleIs (Refused 21 0) out (read-file file out)
-      second-letter h = unmarked (rw (eq-eqb (getD file 0 0) 72 a, ne-eqb (getD file 1 0) 74 h) refl)
-
-      module _ (b : getD file 1 0 ≡ 74) where
-        pub third-letter : (getD file 2 0 ≡ 80 → ⊥) → PoleIs (Refused 21 0) out (read-file file out)
-        third-letter h = unmarked (rw (eq-eqb (getD file 0 0) 72 a, eq-eqb (getD file 1 0) 74 b, ne-eqb (getD file 2 0) 80 h) refl)
-
-        module _ (d : getD file 2 0 ≡ 80) where
-          marked : pole-marked? file ≡ true
-          marked = rw (eq-eqb (getD file 0 0) 72 a, eq-eqb (getD file 1 0) 74 b, eq-eqb (getD file 2 0) 80 d) refl
-
-          pub other-version : (version-of file ≡ 1 → ⊥) → PoleIs (Refused 22 0) out (read-file file out)
-          other-version h = stops (rw (le-leb 9 (length file) l, marked, ne-eqb (version-of file) 1 h) refl)
-
-          pub head-done : version-of file ≡ 1 → {r : Answer} {o : List ℕ} {pole : ℕ} → pole ≡ word32 file 5 → PoleIs r o (deliver 0 out (read-behind pole (take (length file - 9) (drop 9 file)))) → PoleIs r o (read-file file out)
-          unfolding read-file
-          head-done v {pole = pole} e w = goes-on (ap (deliver 0 out) (on-taken _ next (passed-all (word32 file 5) (head-checks file) (le-leb 9 (length file) l, (marked, (eq-eqb (version-of file) 1 v, tt))))) ∙ ap₂ (λ (n : ℕ) (l : List ℕ). deliver 0 out (read-behind n l)) (sym e) (sym (part-from file 9))) w
+      pub head-done : version-of file ≡ 1 → {r : Answer} {o : List ℕ} {pole : ℕ} → pole ≡ word32 file 5 → PoleIs r o (deliver 0 out (read-behind pole (take (length file - 9) (drop 9 file)))) → PoleIs r o (read-file file out)
+      unfolding read-file
+      head-done v {pole = pole} e w = goes-on (ap (deliver 0 out) (on-taken _ next (passed-all (word32 file 5) (head-checks file) (le-leb 9 (length file) l, (marked, (eq-eqb (version-of file) 1 v, tt))))) ∙ ap₂ (λ (n : ℕ) (l : List ℕ). deliver 0 out (read-behind n l)) (sym e) (sym (part-from file 9))) w

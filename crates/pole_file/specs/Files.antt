@@ -1,11 +1,11 @@
 -- What the functions over a pole file promise: answers of code are the rule's on the same bytes. The reader's own number is the pole's.
 use Prim.Native.Nat.{ℕ, _≤_}
 use mathlib.Core.Path.{_≡_}
-use mathlib.Core.List.{List, _++_}
+use mathlib.Core.List.{List}
 use lib.ListN.{length, take, drop}
 use Rattle.rules.specs.Checks.{Checked, refused, taken}
 use Rattle.rules.specs.Lists.{Batch}
-use Rattle.rules.specs.Calls.{Result, Reply}
+use Rattle.rules.specs.Calls.{Reply}
 use Rattle.call_one.specs.declared.Answer.{Answer}
 use Rattle.call_one.specs.Answers.{AnswerIs}
 use Rattle.call_batch.specs.declared.BatchRead.{BatchRead}
@@ -35,6 +35,3 @@ PartsAre (Refused n k) rule = rule ≡ refused n k
 -- x is what r, of a batch, is in a file whose count is n
 abbrev pub InFile : ℕ → BatchRead → BatchRead → Type 0
 InFile n r x = (rule : Checked (Batch (Unit {0}))) → ReadAs r rule → PartsAre x (as-file n rule)
-
-abbrev pub both-parts : ℕ → List ℕ → List ℕ → Result ℕ
-both-parts pole s records = record { bytes = s ++ records; own = pole }

@@ -1,29 +1,29 @@
-// The pole file, written and read: a floor above the calls, by their promises alone. The reader is the writer's check on parts of the file, its refusals told apart by the
+// The pole file (W-209), written and read: a floor above the calls, by their promises alone. The reader is the writer's check on parts of the file, its refusals told apart by the
 // count.
 ghost use mathlib.Core.Path.{_≡_};
 ghost use Prim.Native.Nat.{_+_, _≤_};
 ghost use lib.ListN.{length};
 ghost use lib.Seq.{sets};
-ghost use mathlib.Core.List.{_++_};
 ghost use Rattle.rules.specs.Checks.{refused, go-on};
 ghost use Rattle.rules.specs.Records.{read-curve};
 ghost use Rattle.rules.specs.Calls.{put, write, deliver};
 ghost use Rattle.call_one.specs.Answers.{Wrote};
-ghost use Rattle.pole_rule.specs.PoleFile.{bytes16, head-bytes, file-bytes, read-parts, read-behind, read-file, write-file, pole-marked?};
-ghost use Rattle.pole_file.specs.Files.{both-parts, Least, PoleIs, Ends, PartsAre, InFile};
+ghost use Rattle.pole_rule.specs.PoleFile.{word16, bytes16, pole-marked?, head-bytes, file-bytes, both-parts, read-parts, read-behind, read-file, write-file};
+ghost use Rattle.pole_file.specs.Files.{Least, PoleIs, Ends, PartsAre, InFile};
 use call_batch::BatchRead;
 use call_one::Answer;
 
-// ---- bytes put into an output
-fn put_at(out: &mut [u8], a: usize, s: &[u8])
-    requires { ⌜ a + length (now s) ≤ length (now out) ⌝ }
-    ensures { λ _. ⌜ now (out .exit) ≡ sets (now (out .entry)) a (now (s .entry)) ⌝ }
+// The mark and the version of the file.
+const MARK: [u8; 3] = [72, 74, 80];
+
+const VERSION: u64 = 1;
+
+// ---- numbers of two bytes, and the head
+fn read16(s: &[u8], a: usize) -> u64
+    requires { ⌜ a + 2 ≤ length (now s) ⌝ }
+    ensures { λ r. ⌜ r ≡ word16 (now (s .entry)) a ⌝ }
 {
-    let mut k: usize = 0;
-    while k < s.len() {
-        out[a + k] = s[k];
-        k += 1;
-    }
+    big_endian::wide(s[a]) * 256 + big_endian::wide(s[a + 1])
 }
 
 fn put16(out: &mut [u8], a: usize, x: u64)
@@ -34,16 +34,28 @@ fn put16(out: &mut [u8], a: usize, x: u64)
     out[a + 1] = (x % 256) as u8;
 }
 
+fn marked(s: &[u8]) -> bool
+    requires { ⌜ 9 ≤ length (now s) ⌝ }
+    ensures { λ r. ⌜ r ≡ pole-marked? (now (s .entry)) ⌝ }
+{
+    if s[0] == MARK[0] {
+        if s[1] == MARK[1] {
+            return s[2] == MARK[2];
+        }
+    }
+    false
+}
+
 // The mark, the version and the pole.
 fn put_head(out: &mut [u8], pole: u64)
     requires { ⌜ 9 ≤ length (now out) ⌝ }
     ensures { λ _. ⌜ now (out .exit) ≡ sets (now (out .entry)) 0 (head-bytes pole) ⌝ }
 {
-    out[0] = 72;
-    out[1] = 74;
-    out[2] = 80;
-    out[3] = 0;
-    out[4] = 1;
+    out[0] = MARK[0];
+    out[1] = MARK[1];
+    out[2] = MARK[2];
+    out[3] = (VERSION / 256 % 256) as u8;
+    out[4] = (VERSION % 256) as u8;
     out[5] = (pole / 16777216 % 256) as u8;
     out[6] = (pole / 65536 % 256) as u8;
     out[7] = (pole / 256 % 256) as u8;
@@ -67,17 +79,17 @@ fn write_file(pole: u64, curve: &[u8], count: u64, batch: &[u8], out: &mut [u8])
         return Answer::Refused(refusals::OUTPUT_LENGTH, 0);
     }
     put_head(out, pole);
-    put_at(out, 9, curve);
+    big_endian::write_bytes(out, 9, curve);
     put16(out, 9 + c, count);
-    put_at(out, 11 + c, batch);
+    big_endian::write_bytes(out, 11 + c, batch);
     Answer::Done((11 + c + b) as u64, 0, 0)
 }
 
-pub fn write_pole_file(pole: u64, curve: &[u8], batch: &[u8], out: &mut [u8]) -> Answer
+pub fn write_pole_file(pole: u32, curve: &[u8], batch: &[u8], out: &mut [u8]) -> Answer
     ensures { λ r. ⌜ Wrote r (now (out .exit)) (write-file pole (now (curve .entry)) (now (batch .entry)) (now (out .entry))) ⌝ }
 {
     match call_batch::check_batch(curve, batch) {
-        BatchRead::Taken(k) => write_file(pole, curve, k, batch, out),
+        BatchRead::Taken(k) => write_file(pole as u64, curve, k, batch, out),
         BatchRead::Refused(n, k) => Answer::Refused(n, k),
     }
 }
@@ -101,7 +113,7 @@ fn curve_end(s: &[u8]) -> usize
         return all;
     }
     let n = 22 + 16 * (big_endian::wide(s[5]) as usize);
-    if big_endian::wide(s[3]) * 256 + big_endian::wide(s[4]) == 1 {
+    if read16(s, 3) == 1 {
         return least(n, all);
     }
     if all < n + 9 {
@@ -153,7 +165,7 @@ fn check_parts(curve: &[u8], rest: &[u8]) -> BatchRead
     if rest.len() < 2 {
         return without_count(curve);
     }
-    let n = big_endian::wide(rest[0]) * 256 + big_endian::wide(rest[1]);
+    let n = read16(rest, 0);
     if refusals::MOST_COUNT < n {
         return without_count(curve);
     }
@@ -173,8 +185,8 @@ fn write_both(pole: u64, a: &[u8], b: &[u8], out: &mut [u8]) -> Answer
     if room - c < d {
         return Answer::Refused(refusals::OUTPUT_LENGTH, 0);
     }
-    put_at(out, 0, a);
-    put_at(out, c, b);
+    big_endian::write_bytes(out, 0, a);
+    big_endian::write_bytes(out, c, b);
     Answer::Done((c + d) as u64, pole, 0)
 }
 
@@ -195,16 +207,10 @@ pub fn read_pole_file(file: &[u8], out: &mut [u8]) -> Answer
     if file.len() < 9 {
         return Answer::Refused(refusals::POLE_FILE_LENGTH, 0);
     }
-    if file[0] != 72 {
+    if !marked(file) {
         return Answer::Refused(refusals::POLE_FILE_MARK, 0);
     }
-    if file[1] != 74 {
-        return Answer::Refused(refusals::POLE_FILE_MARK, 0);
-    }
-    if file[2] != 80 {
-        return Answer::Refused(refusals::POLE_FILE_MARK, 0);
-    }
-    if big_endian::wide(file[3]) * 256 + big_endian::wide(file[4]) != 1 {
+    if read16(file, 3) != VERSION {
         return Answer::Refused(refusals::POLE_FILE_VERSION, 0);
     }
     read_rest(big_endian::read32(file, 5), &file[9..], out)

@@ -1,9 +1,9 @@
 -- The records of a file, so many as its count says, and the batch of the same bytes. Gives: what is read of the records is what the batch comes to, refusals told apart by the count
 -- (`records-are-batch`); so is what is read of the curve, the count and the records (`parts-are-batch`).
--- Open: `as-file`.
+-- Open: `as-file`, `count-is`.
 use Prim.Native.Nat.{ℕ, zero, suc, _+_, _*_, _≤_, _<_}
 use mathlib.Core.Path.{_≡_, refl, sym, ap, _∙_}
-use mathlib.Core.List.{List, [], _∷_}
+use mathlib.Core.List.{List}
 use mathlib.Core.Bool.{Bool, true, false}
 use native.Mathlib.Omega.{arith}
 use lib.Dec.{eqb, ltb, leb}
@@ -11,7 +11,7 @@ use lib.ListN.{getD, length, drop}
 use borrow.Author.Tests.{le-leb, leb-true, leb-false, eq-eqb, ne-eqb, lt-ltb, le-ltb}
 use Rattle.rules.specs.Checks.{Checked, refused, taken, choose, first-failed, go-on}
 use Rattle.rules.specs.Records.{either, CurveRecord, PairOf, read-curve, divisor-at}
-use Rattle.rules.specs.Lists.{Batch, batch-from, batch, most-records}
+use Rattle.rules.specs.Lists.{Batch, batch-from, most-records}
 use Rattle.rules.proofs.calls.Checks.{passed-all, all-passed}
 use Rattle.rules.proofs.calls.Steps.{at-end, too-many, stops, goes-on}
 use Rattle.rules.proofs.calls.Batches.{Reading, ends, full, goes, reading}
@@ -27,7 +27,7 @@ as-file n x = elim x [
   | taken b ↦ choose (eqb (b .count) n) (taken tt) (refused 23 0)
 ]
 
-abbrev count-is : ℕ → Checked (Batch (Unit {0}))
+abbrev pub count-is : ℕ → Checked (Batch (Unit {0}))
 count-is k = taken (record { result = tt; count = k })
 
 -- ---- by cases

@@ -3,7 +3,7 @@ use Prim.Native.Nat.{ℕ, suc, _+_, _*_, _≤_, _<_}
 use mathlib.Core.Path.{_≡_, refl, sym, ap, _∙_}
 use mathlib.Core.Bool.{Bool, true, false}
 use mathlib.Core.List.{List, [], _∷_, _++_}
-use mathlib.Core.Logic.{_⊎_, inl, inr}
+use mathlib.Core.Logic.{inl, inr}
 use native.Mathlib.Omega.{arith}
 use lib.Dec.{eqb, leb}
 use lib.ListN.{getD, length, take}
@@ -18,6 +18,7 @@ use Rattle.rules.proofs.calls.Checks.{AllPass, FirstFails, pass-both}
 use Rattle.rules.proofs.calls.CurveRecords.{CurveBytes, Formed, Unwitnessed, Witnessed, curve-read}
 use Rattle.rules.proofs.calls.Refusals.{curve-order}
 use Rattle.pole_rule.specs.PoleFile.{curve-length, curve-part}
+use Rattle.pole_rule.proofs.CurveParts.{first-length, second-length, length-least}
 
 module _ (s : List ℕ) {c : CurveRecord} (ec : read-curve s ≡ taken c) (m : ℕ) (l : m < length s) where
   abbrev t : List ℕ
@@ -131,25 +132,17 @@ module _ (s : List ℕ) {c : CurveRecord} (ec : read-curve s ≡ taken c) (m : �
       go false q = head-cut (leb-false _ _ q)
 
   -- ---- as a part of a file
-  abbrev by-version : Bool → ℕ
-  by-version b = choose b (22 + 16 * getD t 5 0) (31 + 16 * getD t 5 0 + 8 * count-of t)
-
   reaches : m ≤ curve-length t
-  unfolding curve-length
   reaches = go (leb 6 m) refl (h .formed)
     where
-      some : (b : Bool) → 22 ≤ by-version b
-      some true = omega arith
-      some false = omega arith
-
       two : (b : Bool) → leb (31 + 16 * getD s 5 0) m ≡ b → (six : 6 ≤ m) → Witnessed s → m ≤ 31 + 16 * getD t 5 0 + 8 * count-of t
       two true q six f = omega (arith, genus-same six, count-same six f (leb-true (31 + 16 * getD s 5 0) m q), f .long)
       two false q six f = omega (arith, genus-same six, leb-false (31 + 16 * getD s 5 0) m q)
 
-      go : (b : Bool) → leb 6 m ≡ b → Formed s → m ≤ by-version (eqb (version-of t) 1)
-      go false q f = omega (arith, leb-false 6 m q, some (eqb (version-of t) 1))
-      go true q (inl f) = let six : 6 ≤ m = leb-true 6 m q in rw (eq-eqb (version-of t) 1 (version-same six ∙ f .version)) (omega (arith, genus-same six, f .long))
-      go true q (inr f) = let six : 6 ≤ m = leb-true 6 m q in rw (second six f) (two (leb (31 + 16 * getD s 5 0) m) refl six f)
+      go : (b : Bool) → leb 6 m ≡ b → Formed s → m ≤ curve-length t
+      go false q f = omega (arith, leb-false 6 m q, length-least t)
+      go true q (inl f) = let six : 6 ≤ m = leb-true 6 m q in omega (arith, first-length t (version-same six ∙ f .version), genus-same six, f .long)
+      go true q (inr f) = let six : 6 ≤ m = leb-true 6 m q in omega (arith, second-length t (λ z. omega (arith, z, version-same six, f .version)), two (leb (31 + 16 * getD s 5 0) m) refl six f)
 
   pub part-cut : curve-part t ≡ t
   part-cut = take-all (curve-length t) t (omega (arith, long, reaches))

@@ -1,22 +1,22 @@
--- A good file cut short: 1 where the cut is in its curve record (`cut-in-curve`), 23 anywhere else (`cut-in-head`, `cut-behind`). The numbers of the ticket's order, at every byte.
+-- A good file cut short, at any byte: 1 where the cut is in its curve record, 23 anywhere else (`cut-number`; by parts `cut-in-head`, `cut-in-curve`, `cut-behind`).
 use Prim.Native.Nat.{ℕ, zero, suc, _+_, _*_, _-_, _≤_, _<_}
 use mathlib.Core.Path.{_≡_, refl, sym, ap, ap₂, _∙_}
 use mathlib.Core.Bool.{Bool, true, false}
-use mathlib.Core.List.{List, [], _∷_, _++_}
+use mathlib.Core.List.{List, _++_}
 use native.Mathlib.Omega.{arith}
 use lib.Dec.{leb, ltb}
 use lib.ListN.{getD, length, take, drop, length-append, length-drop, take-append-drop}
-use lib.Seq.{length-take-le, getD-take, take-take, take-add, take-append-le, take-append-add, drop-append-le, drop-at}
-use borrow.Author.Tests.{leb-true, leb-false, le-leb, lt-leb, lt-ltb, le-ltb}
+use lib.Seq.{length-take-le, getD-take, take-add, take-append-le, take-append-add, drop-append-le, drop-at}
+use borrow.Author.Tests.{leb-true, leb-false, ltb-true, ltb-false, le-leb, lt-leb, lt-ltb, le-ltb}
 use Rattle.rules.specs.Bytes.{word32}
 use Rattle.rules.specs.Checks.{Checked, refused, taken, choose, first-failed, go-on}
-use Rattle.rules.specs.Records.{CurveRecord, PairOf, version-of, read-curve, divisor-at}
+use Rattle.rules.specs.Records.{both, CurveRecord, PairOf, read-curve, divisor-at}
 use Rattle.rules.specs.Calls.{stop, deliver}
 use Rattle.rules.proofs.calls.Tests.{passed}
 use Rattle.rules.proofs.calls.DivisorRecords.{DivisorBytes, divisor-read, pair-at, record-out, alone-out, taken-among}
 use Rattle.rules.proofs.calls.Refusals.{went-on, on-taken, on-refused}
 use Rattle.rules.proofs.calls.Written.{answered}
-use Rattle.pole_rule.specs.PoleFile.{word16, head-checks, pole-marked?, curve-length, curve-part, behind-curve, count-checks, or-cut, records-from, read-parts, read-behind, read-file}
+use Rattle.pole_rule.specs.PoleFile.{word16, head-checks, curve-length, curve-part, behind-curve, or-cut, records-from, read-parts, read-behind, read-file}
 use Rattle.pole_rule.proofs.Counted.{no-count}
 use Rattle.pole_rule.proofs.CurveParts.{curve-part-is, behind-is}
 use Rattle.pole_rule.proofs.CurveCut.{curve-cut, part-cut}
@@ -177,3 +177,12 @@ module _ (file o : List ℕ) (z : answered (read-file file o) ≡ 0) (n : ℕ) (
           go : (b : Bool) → leb 2 d ≡ b → read-parts s (take d tail) ≡ refused 23 0
           go true q = records-left (leb-true 2 d q)
           go false q = no-count-left (leb-false 2 d q)
+
+  -- the number, by the byte
+  pub cut-number : read-file cut out ≡ stop 0 out (choose (both (leb 9 n) (ltb n (9 + length s))) 1 23) 0
+  cut-number = go (leb 9 n) refl (ltb n (9 + length s)) refl
+    where
+      go : (b : Bool) → leb 9 n ≡ b → (d : Bool) → ltb n (9 + length s) ≡ d → read-file cut out ≡ stop 0 out (choose (both b d) 1 23) 0
+      go false q d r = cut-in-head (leb-false 9 n q)
+      go true q true r = cut-in-curve (leb-true 9 n q) (ltb-true n (9 + length s) r)
+      go true q false r = cut-behind (leb-true 9 n q) (ltb-false n (9 + length s) r)

@@ -1,14 +1,14 @@
 -- "Place is k for 8 to 11 where the k-th divisor (from 1) is at fault, otherwise 0": of the writer (`write-place`) and of the reader (`read-place`), whose records stand behind its count.
-use Prim.Native.Nat.{ℕ, _≤_}
-use mathlib.Core.Path.{_≡_, refl, sym, ap, _∙_, subst₂}
+use Prim.Native.Nat.{ℕ}
+use mathlib.Core.Path.{_≡_, refl, sym, _∙_, subst₂}
 use mathlib.Core.Bool.{Bool, true, false}
 use mathlib.Core.List.{List}
 use native.Mathlib.Omega.{arith}
 use lib.Dec.{eqb, ltb}
-use lib.ListN.{length, drop}
+use lib.ListN.{drop}
 use borrow.Author.Tests.{leb-true}
 use Rattle.rules.specs.Bytes.{word32}
-use Rattle.rules.specs.Checks.{Checked, refused, taken, choose, first-failed, go-on}
+use Rattle.rules.specs.Checks.{Checked, refused, taken, choose, first-failed}
 use Rattle.rules.specs.Records.{either, CurveRecord, read-curve}
 use Rattle.rules.specs.Lists.{Batch, most-records}
 use Rattle.rules.specs.Calls.{counted, check-batch}
@@ -17,9 +17,8 @@ use Rattle.rules.proofs.calls.Places.{At, None, Placed, elsewhere, placed-on, p
 use Rattle.rules.proofs.calls.Delivered.{delivered-place}
 use Rattle.rules.proofs.calls.Written.{only}
 use Rattle.rules.proofs.calls.CallPlaces.{On, Stands}
-use Rattle.pole_rule.specs.PoleFile.{word16, head-checks, curve-part, behind-curve, count-checks, records-from, read-parts, read-behind, read-file, file-bytes, write-file}
+use Rattle.pole_rule.specs.PoleFile.{word16, head-checks, curve-part, behind-curve, count-checks, records-from, read-parts, both-parts, read-behind, read-file, file-bytes, write-file}
 use Rattle.pole_rule.proofs.Counted.{as-file, records-are-batch}
-use Rattle.pole_rule.proofs.Files.{both-parts}
 
 -- the j-th of the records is at fault, on the curve of s
 abbrev pub AtFault : List ℕ → List ℕ → ℕ → ℕ → Type 0

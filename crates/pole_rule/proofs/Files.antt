@@ -1,36 +1,29 @@
 -- What a file is: exactly the head, a curve record, a count and a batch that were checked. Gives: such a file is read as its parts (`file-read`); a file that is read is so made (`parts-of`),
 -- byte for byte (`file-made`).
 use Prim.Native.Nat.{ℕ, suc, _+_, _*_, _/_, _%_, _≤_, _<_}
-use mathlib.Core.Path.{_≡_, refl, sym, ap, ap₂, _∙_, subst}
+use mathlib.Core.Path.{_≡_, refl, sym, ap, ap₂, _∙_}
 use mathlib.Core.Bool.{Bool, true, false}
 use mathlib.Core.List.{List, [], _∷_, _++_}
 use native.Mathlib.Omega.{arith}
 use lib.Dec.{eqb, ltb}
-use lib.ListN.{getD, length, take, drop, take-append-drop}
+use lib.ListN.{getD, length, drop, take-append-drop}
 use lib.Seq.{getD-drop}
 use borrow.Author.Tests.{le-leb, leb-true, eqb-true}
 use Rattle.rules.specs.Bytes.{word32}
 use Rattle.rules.specs.Checks.{Checked, refused, taken, choose, first-failed, go-on}
 use Rattle.rules.specs.Records.{either, CurveRecord, version-of, read-curve}
 use Rattle.rules.specs.Lists.{Batch}
-use Rattle.rules.specs.Calls.{Result, put, deliver}
+use Rattle.rules.specs.Calls.{put, deliver, counted, check-batch}
 use Rattle.rules.proofs.calls.Tests.{refused-taken, taken-inj, passed, both-true}
 use Rattle.rules.proofs.calls.Checks.{all-passed, passed-all, refused-as}
 use Rattle.rules.proofs.calls.Bytes.{AreBytes, one-off}
 use Rattle.rules.proofs.calls.Batches.{batch-made, batch-is}
 use Rattle.rules.proofs.calls.Refusals.{Numbered, numbered-on, numbered-taken, went-on, on-taken}
 use Rattle.rules.proofs.calls.Delivered.{delivered}
-use Rattle.rules.specs.Calls.{counted, check-batch}
-use Rattle.pole_rule.specs.PoleFile.{word16, bytes16, bytes32, head-bytes, head-checks, pole-marked?, curve-length, curve-part, behind-curve, count-checks, records-from, read-parts, read-behind, read-file, file-bytes, write-file}
-use Rattle.pole_rule.proofs.Counted.{as-file, same-count, parts-are-batch, parts-taken, records-are-batch}
+use Rattle.pole_rule.specs.PoleFile.{word16, bytes16, bytes32, head-bytes, head-checks, pole-marked?, curve-length, curve-part, behind-curve, records-from, read-parts, both-parts, read-behind, read-file, file-bytes}
+use Rattle.pole_rule.proofs.Counted.{as-file, count-is, same-count, parts-are-batch, parts-taken, records-are-batch}
 use Rattle.pole_rule.proofs.CurveParts.{curve-part-is, behind-is}
 use Rattle.pole_rule.proofs.Longer.{parts-numbered}
-
-abbrev pub count-is : ℕ → Checked (Batch (Unit {0}))
-count-is n = taken (record { result = tt; count = n })
-
-abbrev pub both-parts : ℕ → List ℕ → List ℕ → Result ℕ
-both-parts pole s records = record { bytes = s ++ records; own = pole }
 
 -- ---- numbers of two and four bytes
 pub word16-bytes : (x : ℕ) (r : List ℕ) → x < 65536 → word16 (bytes16 x ++ r) 0 ≡ x
@@ -138,9 +131,6 @@ module _ (file : List ℕ) where
         ∙ as-file-taken (word16 tail 0) (counted (h .c) (drop 2 tail)) (sym (records-are-batch (h .c) (drop 2 tail) (word16 tail 0) (h .few)) ∙ h .records)
 
     module _ (bytes : AreBytes file) where
-      pub small : word32 file 5 < 4294967296
-      small = omega (arith, bytes 5, bytes 6, bytes 7, bytes 8)
-
       -- byte for byte
       nine : file ≡ getD file 0 0 ∷ getD file 1 0 ∷ getD file 2 0 ∷ getD file 3 0 ∷ getD file 4 0 ∷ getD file 5 0 ∷ getD file 6 0 ∷ getD file 7 0 ∷ getD file 8 0 ∷ rest
       nine = off 0 1 refl (omega arith) ∙ ap (_∷_ (getD file 0 0)) (off 1 2 refl (omega arith) ∙ ap (_∷_ (getD file 1 0)) (off 2 3 refl (omega arith) ∙ ap (_∷_ (getD file 2 0))

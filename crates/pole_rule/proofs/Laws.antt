@@ -2,7 +2,7 @@
 -- front of its output. Reading and writing undo each other (`reads-what-was-written`, `writes-what-was-read`); a refusal changes nothing (`read-kept`, `write-kept`); a good file with bytes
 -- behind it is 23 (`left-over`), so every cut of a good file is refused (`cut-refused`).
 use Prim.Native.Nat.{ℕ, _+_, _≤_, _<_}
-use mathlib.Core.Path.{_≡_, refl, sym, ap, ap₂, _∙_, subst}
+use mathlib.Core.Path.{_≡_, sym, ap, ap₂, _∙_}
 use mathlib.Core.Bool.{true}
 use mathlib.Core.List.{List, _++_, append-assoc}
 use native.Mathlib.Omega.{arith}
@@ -10,22 +10,22 @@ use lib.ListN.{getD, length, take, drop, length-append, length-drop, take-append
 use lib.Seq.{drop-append-le}
 use borrow.Author.Tests.{le-leb, eq-eqb}
 use Rattle.rules.specs.Bytes.{word32}
-use Rattle.rules.specs.Checks.{Checked, refused, taken, first-failed, go-on}
+use Rattle.rules.specs.Checks.{refused, taken, first-failed, go-on}
 use Rattle.rules.specs.Records.{CurveRecord, version-of, read-curve}
 use Rattle.rules.specs.Lists.{most-records}
-use Rattle.rules.specs.Calls.{Result, Reply, put, stop, write, deliver}
+use Rattle.rules.specs.Calls.{Result, put, stop, write, deliver, counted, check-batch}
 use Rattle.rules.proofs.calls.Tests.{taken-inj}
 use Rattle.rules.proofs.calls.Checks.{passed-all}
 use Rattle.rules.proofs.calls.Bytes.{AreBytes}
-use Rattle.rules.proofs.calls.Refusals.{Numbered, numbered-on, numbered-taken, went-on, on-taken, on-refused, curve-numbered}
+use Rattle.rules.proofs.calls.Refusals.{Numbered, numbered-on, numbered-taken, on-taken, on-refused, curve-numbered}
 use Rattle.rules.proofs.calls.Places.{batch-numbered}
-use Rattle.rules.proofs.calls.Written.{front, front-is, only, answered, bare, bare-put}
+use Rattle.rules.proofs.calls.Written.{front, front-is, only, answered, bare-put}
 use Rattle.rules.proofs.calls.Delivered.{Kept, refused-kept, delivered, came-on}
-use Rattle.rules.specs.Calls.{counted, check-batch}
-use Rattle.pole_rule.specs.PoleFile.{word16, head-checks, pole-marked?, curve-length, curve-part, behind-curve, count-checks, records-from, read-parts, read-behind, read-file, file-bytes, write-file}
+use Rattle.pole_rule.specs.PoleFile.{word16, head-checks, pole-marked?, curve-length, curve-part, behind-curve, count-checks, records-from, read-parts, both-parts, read-behind, read-file, file-bytes, write-file}
+use Rattle.pole_rule.proofs.Counted.{count-is}
 use Rattle.pole_rule.proofs.CurveParts.{curve-part-is, behind-is}
 use Rattle.pole_rule.proofs.Longer.{records-longer}
-use Rattle.pole_rule.proofs.Files.{count-is, both-parts, file-read, Parts, parts-of, checked, small, file-made}
+use Rattle.pole_rule.proofs.Files.{file-read, Parts, parts-of, checked, file-made}
 
 -- ---- a refusal changes nothing: length 0, the output as it was, and the pole 0
 pub read-kept : (file out : List ℕ) → Kept 0 out (read-file file out)

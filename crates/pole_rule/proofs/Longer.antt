@@ -10,10 +10,10 @@ use lib.Seq.{length-take-le}
 use borrow.Author.Tests.{leb-true, lt-leb}
 use Rattle.rules.specs.Checks.{Checked, refused, taken, choose, first-failed, go-on}
 use Rattle.rules.specs.Records.{CurveRecord, PairOf, read-curve, divisor-at}
-use Rattle.rules.proofs.calls.Tests.{refused-taken, passed}
+use Rattle.rules.proofs.calls.Tests.{refused-taken}
 use Rattle.rules.proofs.calls.Checks.{refused-as}
 use Rattle.rules.proofs.calls.DivisorRecords.{DivisorBytes, divisor-read, pair-at, record-out, alone-out, split-out, taken-among}
-use Rattle.rules.proofs.calls.Refusals.{Numbered, numbered-on, numbered-taken, went-on, on-taken, curve-numbered, divisor-refused}
+use Rattle.rules.proofs.calls.Refusals.{Numbered, numbered-on, numbered-taken, went-on, curve-numbered, divisor-refused}
 use Rattle.pole_rule.specs.PoleFile.{word16, count-checks, or-cut, records-from, read-parts}
 
 -- a record that is taken isn't cut

@@ -2,12 +2,12 @@
 -- What it is read as, a check a line in the ticket's order, and what it is written as. The curve and the divisors are read as the rules below have it; here are the numbers 21 to 23.
 use Prim.Native.Nat.{ℕ, zero, suc, _+_, _*_, _/_, _%_}
 use mathlib.Core.List.{List, [], _∷_, _++_}
-use mathlib.Core.Bool.{Bool, true, false}
+use mathlib.Core.Bool.{Bool, false}
 use lib.Dec.{eqb, leb}
 use lib.ListN.{getD, length, take, drop}
 use Rattle.rules.specs.Bytes.{word32}
 use Rattle.rules.specs.Checks.{Checked, refused, taken, choose, Check, first-failed, go-on}
-use Rattle.rules.specs.Records.{both, CurveRecord, PairOf, version-of, count-of, read-curve, divisor-at}
+use Rattle.rules.specs.Records.{both, CurveRecord, version-of, count-of, read-curve, divisor-at}
 use Rattle.rules.specs.Lists.{most-records}
 use Rattle.rules.specs.Calls.{Result, Reply, deliver, check-batch}
 
@@ -77,8 +77,11 @@ read-parts s rest =
     go-on (first-failed (count-checks rest) (word16 rest 0)) (λ n.
     records-from c (drop 2 rest) n 0 0))
 
+abbrev pub both-parts : ℕ → List ℕ → List ℕ → Result ℕ
+both-parts pole s records = record { bytes = s ++ records; own = pole }
+
 abbrev pub read-behind : ℕ → List ℕ → Checked (Result ℕ)
-read-behind pole s = go-on (read-parts (curve-part s) (behind-curve s)) (λ x. taken (record { bytes = curve-part s ++ drop 2 (behind-curve s); own = pole }))
+read-behind pole s = go-on (read-parts (curve-part s) (behind-curve s)) (λ x. taken (both-parts pole (curve-part s) (drop 2 (behind-curve s))))
 
 unfoldable pub read-file : List ℕ → List ℕ → Reply ℕ
 unfolding curve-length read-parts

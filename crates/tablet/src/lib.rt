@@ -198,7 +198,7 @@ pub extern "C" fn yubi_write_pole_file(
     ensures answer { λ r. ⌜ r ≡ flat (write-file pole (now (curve .entry)) (now (batch .entry)) (now (out .entry)) .answer) ⌝ }
     ensures output { λ r. ⌜ now (out .exit) ≡ write-file pole (now (curve .entry)) (now (batch .entry)) (now (out .entry)) .out ⌝ }
 {
-    c_answers::flatten(pole_file::write_pole_file(pole as u64, curve, batch, out))
+    c_answers::flatten(pole_file::write_pole_file(pole, curve, batch, out))
 }
 
 #[no_mangle]

@@ -1,10 +1,10 @@
 use native.Mathlib.Omega.{arith}
-use mathlib.Core.Path.{_≡_, subst, ap, sym}
+use mathlib.Core.Path.{subst}
 use mathlib.Core.List.{List}
 use Prim.Native.Nat.{ℕ}
-use lib.ListN.{drop}
+use Rattle.rules.proofs.calls.Bytes.{part-from}
 use Rattle.call_batch.specs.Counts.{BatchIs}
-use Rattle.pole_file.proofs.Parts.{part-from, few-bytes, high-count, all-parts}
+use Rattle.pole_file.proofs.Parts.{few-bytes, high-count, all-parts}
 use borrow.Author.Needs.{needs}
 use Rattle.pole_file.proofs.check_parts.Statement.{statement}
 use Rattle.pole_file.proofs.check_parts.Tie as tie
@@ -15,29 +15,14 @@ without-count-requires c κs = search needs
 returns : tie.Need-returns
 returns c = let s = c .before .before .before .before .args in few-bytes (s .curve .now) (s .rest .now) (c .without-count .result) (omega arith) (c .without-count .ensures)
 
-shared-slice-read-wide : tie.Need-shared-slice-read-wide
-shared-slice-read-wide c = search needs
-
-wide-requires : tie.Need-wide-requires
-wide-requires c κs = search needs
-
-mul-n : tie.Need-mul-n
-mul-n c = search needs
-
-shared-slice-read-wide-2 : tie.Need-shared-slice-read-wide-2
-shared-slice-read-wide-2 c = search needs
-
-wide-requires-2 : tie.Need-wide-requires-2
-wide-requires-2 c κs = search needs
-
-add-n : tie.Need-add-n
-add-n c = search needs
+read16-requires : tie.Need-read16-requires
+read16-requires c κs = search needs
 
 without-count-requires-2 : tie.Need-without-count-requires-2
 without-count-requires-2 c κs = search needs
 
 returns-2 : tie.Need-returns-2
-returns-2 c = let s = c .before .before .before .before .before .before .before .before .before .args in high-count (s .curve .now) (s .rest .now) (c .without-count2 .result) (c .before .before .before .before .wide .ensures .0) (c .before .before .wide2 .ensures .0) (omega arith) (omega arith) (c .without-count2 .ensures)
+returns-2 c = let s = c .before .before .before .before .before .before .args in high-count (s .curve .now) (s .rest .now) (c .without-count2 .result) (c .before .before .read16 .ensures) (omega arith) (omega arith) (c .without-count2 .ensures)
 
 sub-check-batch : tie.Need-sub-check-batch
 sub-check-batch c = search needs
@@ -55,7 +40,7 @@ in-file-requires : tie.Need-in-file-requires
 in-file-requires c κs = search needs
 
 returns-3 : tie.Need-returns-3
-returns-3 c = let s = c .before .before .before .before .before .before .before .before .before .before .before .args in all-parts (s .curve .now) (s .rest .now) (c .in-file .result) (c .before .before .before .before .before .before .wide .ensures .0) (c .before .before .before .before .wide2 .ensures .0) (omega arith) (omega arith)
+returns-3 c = let s = c .before .before .before .before .before .before .before .before .args in all-parts (s .curve .now) (s .rest .now) (c .in-file .result) (c .before .before .before .before .read16 .ensures) (omega arith) (omega arith)
     (c .in-file .ensures _ (subst (λ (l : List ℕ). BatchIs (s .curve .now) l (c .before .check-batch .result)) (part-from (s .rest .now) 2) (c .before .check-batch .ensures)))
 
 pub check-parts-spec : {M : Type 1} → statement M
@@ -64,12 +49,7 @@ check-parts-spec =
     (tie.spec
     without-count-requires
     returns
-    shared-slice-read-wide
-    wide-requires
-    mul-n
-    shared-slice-read-wide-2
-    wide-requires-2
-    add-n
+    read16-requires
     without-count-requires-2
     returns-2
     sub-check-batch

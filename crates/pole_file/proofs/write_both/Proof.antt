@@ -15,11 +15,11 @@ returns c = let s = c .before .before .before .before .args in no-room (s .pole)
 returns-2 : tie.Need-returns-2
 returns-2 c = let s = c .before .before .before .before .before .args in no-room (s .pole) (s .a .now) (s .b .now) (s .out .now) (omega arith)
 
-put-at-requires : tie.Need-put-at-requires
-put-at-requires c κs = search needs
+write-bytes-requires : tie.Need-write-bytes-requires
+write-bytes-requires c κs = search needs
 
-put-at-requires-2 : tie.Need-put-at-requires-2
-put-at-requires-2 c κs = search needs
+write-bytes-requires-2 : tie.Need-write-bytes-requires-2
+write-bytes-requires-2 c κs = search needs
 
 add-t9 : tie.Need-add-t9
 add-t9 c = search needs
@@ -29,9 +29,9 @@ same-length c = search needs
 
 returns-3 : tie.Need-returns-3
 returns-3 c = let s = c .before .before .before .before .before .before .before .before .before .before .before .before .before .args in both-put (s .pole) (s .a .now) (s .b .now) (s .out .now) (omega arith) (omega arith)
-    (c .before .before .put-at2 .ensures ∙ ap (λ (l : List ℕ). sets l (length (s .a .now)) (s .b .now)) (c .before .before .before .before .before .before .put-at .ensures))
+    (c .before .before .write-bytes2 .ensures ∙ ap (λ (l : List ℕ). sets l (length (s .a .now)) (s .b .now)) (c .before .before .before .before .before .before .write-bytes .ensures))
 
 pub write-both-spec : {M : Type 1} → statement M
 write-both-spec =
     tie.close
-    (tie.spec returns returns-2 put-at-requires put-at-requires-2 add-t9 same-length returns-3)
+    (tie.spec returns returns-2 write-bytes-requires write-bytes-requires-2 add-t9 same-length returns-3)

@@ -1,8 +1,7 @@
 use native.Mathlib.Omega.{arith}
-use Prim.Native.Nat.{_+_}
+use Prim.Native.Nat.{_+_, ℕ}
 use mathlib.Core.Path.{_∙_, ap}
 use mathlib.Core.List.{List}
-use Prim.Native.Nat.{ℕ}
 use lib.ListN.{length}
 use lib.Seq.{sets}
 use Rattle.pole_rule.specs.PoleFile.{bytes16}
@@ -26,8 +25,8 @@ returns-3 c = let s = c .before .before .before .before .before .before .args in
 put-head-requires : tie.Need-put-head-requires
 put-head-requires c κs = search needs
 
-put-at-requires : tie.Need-put-at-requires
-put-at-requires c κs = search needs
+write-bytes-requires : tie.Need-write-bytes-requires
+write-bytes-requires c κs = search needs
 
 add-put16 : tie.Need-add-put16
 add-put16 c = search needs
@@ -35,11 +34,11 @@ add-put16 c = search needs
 put16-requires : tie.Need-put16-requires
 put16-requires c κs = search needs
 
-add-put-at : tie.Need-add-put-at
-add-put-at c = search needs
+add-write-bytes : tie.Need-add-write-bytes
+add-write-bytes c = search needs
 
-put-at-requires-2 : tie.Need-put-at-requires-2
-put-at-requires-2 c κs = search needs
+write-bytes-requires-2 : tie.Need-write-bytes-requires-2
+write-bytes-requires-2 c κs = search needs
 
 add-t10 : tie.Need-add-t10
 add-t10 c = search needs
@@ -52,8 +51,8 @@ same-length c = search needs
 
 returns-4 : tie.Need-returns-4
 returns-4 c = let s = c .before .before .before .before .before .before .before .before .before .before .before .before .before .before .before .before .before .before .before .before .before .before .args in file-put (s .pole) (s .curve .now) (s .count) (s .batch .now) (s .out .now) (omega arith) (omega arith)
-    (c .before .before .put-at2 .ensures ∙ ap (λ (l : List ℕ). sets l (11 + length (s .curve .now)) (s .batch .now)) (c .before .before .before .before .before .before .put16 .ensures
-    ∙ ap (λ (l : List ℕ). sets l (9 + length (s .curve .now)) (bytes16 (s .count))) (c .before .before .before .before .before .before .before .before .before .before .put-at .ensures
+    (c .before .before .write-bytes2 .ensures ∙ ap (λ (l : List ℕ). sets l (11 + length (s .curve .now)) (s .batch .now)) (c .before .before .before .before .before .before .put16 .ensures
+    ∙ ap (λ (l : List ℕ). sets l (9 + length (s .curve .now)) (bytes16 (s .count))) (c .before .before .before .before .before .before .before .before .before .before .write-bytes .ensures
     ∙ ap (λ (l : List ℕ). sets l 9 (s .curve .now)) (c .before .before .before .before .before .before .before .before .before .before .before .before .before .before .put-head .ensures))))
 
 pub write-file-spec : {M : Type 1} → statement M
@@ -65,11 +64,11 @@ write-file-spec =
     sub-if3
     returns-3
     put-head-requires
-    put-at-requires
+    write-bytes-requires
     add-put16
     put16-requires
-    add-put-at
-    put-at-requires-2
+    add-write-bytes
+    write-bytes-requires-2
     add-t10
     add-t11
     same-length
