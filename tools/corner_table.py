@@ -1,9 +1,9 @@
 """corner_table.py: document 01's "Street corners" as tables, line by line, and the records they speak of; corners.py runs them
 through the calls of the product, selfcheck.py holds reference.py to them. All is written out by hand from the document, the
-witnesses and what breaks them from W-201, the steps of a census from W-211, the splits from W-213, the orders and what
-breaks them from W-214.
+witnesses and what breaks them from W-201, the scans and pole files and what is wrong with them from W-209, the steps of a
+census from W-211, the splits from W-213, the orders and what breaks them from W-214.
 """
-from records import curve_record, divisor_record, in_4_bytes
+from records import curve_record, divisor_record, in_4_bytes, pole_file, scan_record
 
 CURVE_A = curve_record(2, 7, [1, 0, 0, 0, 0])
 CURVE_B = curve_record(3, 11, [1, 0, 0, 0, 0, 0, 0])
@@ -268,6 +268,109 @@ SPLITS = (
     ("split-B-neutral", CURVE_B, NEUTRAL, None),
     *splits_at_largest(2),
     *splits_at_largest(3),
+)
+
+# W-209, on A: name, the total, the scan, number, place, and the total as it returns, None where it stays
+POLE, OTHER_POLE = 30, 31
+FRESH, ONE_TAKEN, TWO_TAKEN = (0,) * 8 + (POLE,), (1, 0, 0, 0, 1, 0, 0, 1, POLE), (2, 0, 6, 0, 1, 2, 0, 2, POLE)
+FULL, MALFORMED = (1, 0, 0, 0, 1, 0, 0, 4096, POLE), (1, 0, 0, 0, 2, 0, 0, 4096, POLE)
+POLE_SCANS = (
+    ("pole-first", FRESH, scan_record(POLE, X_1), 0, 0, ONE_TAKEN),
+    ("pole-another-between", ONE_TAKEN, scan_record(OTHER_POLE, X_1), 20, 0, None),
+    ("pole-second", ONE_TAKEN, scan_record(POLE, X6_3), 0, 0, TWO_TAKEN),
+    ("pole-another-on-fresh", FRESH, scan_record(OTHER_POLE, X_1), 20, 0, None),
+    ("pole-0", FRESH[:8] + (0,), scan_record(0, X_1), 0, 0, ONE_TAKEN[:8] + (0,)),
+    ("pole-0-given-30", FRESH, scan_record(0, X_1), 20, 0, None),
+    ("pole-2^32-1", FRESH[:8] + (2**32 - 1,), scan_record(2**32 - 1, X_1), 0, 0, ONE_TAKEN[:8] + (2**32 - 1,)),
+    ("pole-2^31-given-0", FRESH[:8] + (0,), scan_record(2**31, X_1), 20, 0, None),
+    ("pole-turned-round", FRESH, b"\x1e\0\0\0" + X_1, 20, 0, None),
+    ("pole-no-bytes", FRESH, b"", 8, 1, None),
+    ("pole-3-bytes", FRESH, b"\0\0\0", 8, 1, None),
+    ("pole-4-bytes", FRESH, scan_record(POLE, b""), 8, 1, None),
+    ("pole-4-bytes-of-another", FRESH, scan_record(OTHER_POLE, b""), 20, 0, None),
+    ("pole-another-and-weight-3", FRESH, scan_record(OTHER_POLE, b"\3"), 20, 0, None),
+    ("pole-another-and-(x,2)", FRESH, scan_record(OTHER_POLE, X_2), 20, 0, None),
+    ("pole-and-weight-3", FRESH, scan_record(POLE, b"\3"), 9, 1, None),
+    ("pole-and-(x,2)", FRESH, scan_record(POLE, X_2), 11, 1, None),
+    ("pole-and-a-byte-more", FRESH, scan_record(POLE, X_1 + b"\0"), 8, 1, None),
+    ("pole-without-its-bytes", FRESH, X_1, 20, 0, None),
+    ("pole-full", FULL, scan_record(POLE, X_1), 14, 0, None),
+    ("pole-full-3-bytes", FULL, b"\0\0\0", 14, 0, None),
+    ("pole-full-another", FULL, scan_record(OTHER_POLE, X_1), 14, 0, None),
+    ("pole-malformed-3-bytes", MALFORMED, b"\0\0\0", 15, 0, None),
+    ("pole-malformed-another", MALFORMED, scan_record(OTHER_POLE, X_1), 15, 0, None),
+)
+
+# W-209: name, pole, curve, records of a pole file that is good
+POLE_FILES = (
+    ("file-A", POLE, CURVE_A, CASE_P),
+    ("file-A-no-records", POLE, CURVE_A, ()),
+    ("file-A-neutral", 0, CURVE_A, (NEUTRAL, XX_1, NEUTRAL)),
+    ("file-B", 2**32 - 1, CURVE_B, (B_XXX_1, NEUTRAL, X_1)),
+    ("file-v2-p=7", 2**31, power_and_1(2, 7, BY_7), (X_1, X_6)),
+    ("file-v2-2^61-1", 65536, power_and_1(2, LARGEST, BY_LARGEST), (X_1, XX_1)),
+    ("file-v2-k=15", 256, power_and_1(3, FIFTEEN, BY_FIFTEEN), (X_1,)),
+)
+FILE_A = pole_file(POLE, CURVE_A, CASE_P)
+
+
+def file_on(curve, **wrong):
+    return pole_file(POLE, curve, CASE_P, **wrong)
+
+
+# W-209: name, pole file, number, place. The curve of A ends with byte 63, the count with 65, the records with 82, 99 and 116.
+BROKEN_FILES = (
+    ("file-empty", b"", 23, 0),
+    ("file-8-bytes", FILE_A[:8], 23, 0),
+    ("file-8-bytes-mark-HJC", b"HJC" + FILE_A[3:8], 23, 0),
+    ("file-9-bytes", FILE_A[:9], 1, 0),
+    ("file-9-bytes-mark-HJC", b"HJC" + FILE_A[3:9], 21, 0),
+    ("file-9-bytes-version-2", b"HJP\0\2\0\0\0\0", 22, 0),
+    ("file-mark-HJC", file_on(CURVE_A, mark=b"HJC"), 21, 0),
+    ("file-mark-hjp", file_on(CURVE_A, mark=b"hjp"), 21, 0),
+    ("file-mark-and-version", file_on(CURVE_A, mark=b"PJH", version=0), 21, 0),
+    ("file-version-0", file_on(CURVE_A, version=0), 22, 0),
+    ("file-version-2", file_on(CURVE_A, version=2), 22, 0),
+    ("file-version-256", file_on(CURVE_A, version=256), 22, 0),
+    ("file-version-257-p=9", file_on(power_and_1(2, 9), version=257), 22, 0),
+    ("file-curve-5-bytes", FILE_A[:14], 1, 0),
+    ("file-curve-6-bytes", FILE_A[:15], 1, 0),
+    ("file-curve-53-bytes", FILE_A[:62], 1, 0),
+    ("file-curve-mark", file_on(b"HJP" + CURVE_A[3:]), 2, 0),
+    ("file-curve-version-3", file_on(curve_record(2, 7, [1, 0, 0, 0, 0], version=3)), 3, 0),
+    ("file-genus-4", file_on(curve_record(4, 7, [1, 0, 0, 0, 0])), 4, 0),
+    ("file-genus-3-in-54-bytes", file_on(curve_record(3, 7, [1, 0, 0, 0, 0]))[:78], 1, 0),
+    ("file-p=9", file_on(power_and_1(2, 9)), 5, 0),
+    ("file-f_0=7", file_on(curve_record(2, 7, [7, 0, 0, 0, 0])), 6, 0),
+    ("file-x^5+1,p=5", file_on(power_and_1(2, 5)), 7, 0),
+    ("file-v2-before-k", pole_file(POLE, power_and_1(2, 7, BY_7), ())[:71], 1, 0),
+    ("file-v2-behind-k", pole_file(POLE, power_and_1(2, 7, BY_7), ())[:72], 1, 0),
+    ("file-v2-k=0", file_on(power_and_1(2, 7, (3, ()))), 18, 0),
+    ("file-v2-k=16", file_on(power_and_1(2, 7, BY_7, k=16)), 18, 0),
+    ("file-v2-base-1", file_on(power_and_1(2, 7, (1, (2, 3)))), 18, 0),
+    ("file-no-count", FILE_A[:63], 23, 0),
+    ("file-half-a-count", FILE_A[:64], 23, 0),
+    ("file-count-4097", file_on(CURVE_A, count=4097), 23, 0),
+    ("file-count-65535", file_on(CURVE_A, count=65535), 23, 0),
+    ("file-count-4097-p=9", file_on(power_and_1(2, 9), count=4097), 5, 0),
+    ("file-count-4097-weight-3", pole_file(POLE, CURVE_A, (b"\3",), count=4097), 23, 0),
+    ("file-count-4096", file_on(CURVE_A, count=4096), 23, 0),
+    ("file-count-4", file_on(CURVE_A, count=4), 23, 0),
+    ("file-count-2", file_on(CURVE_A, count=2), 23, 0),
+    ("file-count-0", file_on(CURVE_A, count=0), 23, 0),
+    ("file-no-records-count-1", pole_file(POLE, CURVE_A, (), count=1), 23, 0),
+    ("file-cut", FILE_A[:-1], 23, 0),
+    ("file-cut-behind-a-weight", FILE_A[:100], 23, 0),
+    ("file-cut-between-records", FILE_A[:99], 23, 0),
+    ("file-a-byte-more", FILE_A + b"\0", 23, 0),
+    ("file-a-record-more", FILE_A + X_1, 23, 0),
+    ("file-weight-3-cut", pole_file(POLE, CURVE_A, (X_1, b"\3")), 9, 2),
+    ("file-weight-3", pole_file(POLE, CURVE_A, (b"\3" + bytes(48), X_1)), 9, 1),
+    ("file-coefficient-7", pole_file(POLE, CURVE_A, (X_1, X_1, divisor_record([7], [1]))), 10, 3),
+    ("file-(x,2)", pole_file(POLE, CURVE_A, (X_1, X_2, X_1)), 11, 2),
+    ("file-(x,2)-and-a-byte-more", pole_file(POLE, CURVE_A, (X_2, X_1)) + b"\0", 11, 1),
+    ("file-(x,2)-and-one-missing", pole_file(POLE, CURVE_A, (X_2,), count=2), 11, 1),
+    ("file-(x,2)-behind-the-count", pole_file(POLE, CURVE_A, (X_1, X_2), count=1), 23, 0),
 )
 
 # W-211: name, curve, divisor, the next one or the number refused. A has 7 divisors of weight 1, from (x, 1) to (x + 6, 4), and 42 of weight 2, from

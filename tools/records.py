@@ -1,4 +1,4 @@
-"""records.py: curve and divisor records and lists of primes from their parts, also wrong ones: nothing is checked here."""
+"""records.py: curve and divisor records, scans, pole files and lists of primes from their parts, also wrong ones: nothing is checked here."""
 
 
 def in_8_bytes(numbers):
@@ -23,3 +23,13 @@ def curve_record(g, p, f, mark=b"HJC", version=None, witness=None, k=None):
 def divisor_record(u, v, w=None):
     """u: u_0 up to u_(w-1), without the leading 1; v: v_0 up to v_(w-1)."""
     return bytes([len(u) if w is None else w]) + in_8_bytes([*u, *v])
+
+
+def scan_record(pole, record):
+    return in_4_bytes([pole]) + record
+
+
+def pole_file(pole, curve, records, mark=b"HJP", version=1, count=None):
+    """records: a list; count is how many it says that there are."""
+    head = mark + version.to_bytes(2, "big") + in_4_bytes([pole])
+    return head + curve + (len(records) if count is None else count).to_bytes(2, "big") + b"".join(records)

@@ -4,8 +4,8 @@
     python3 tools/reference.py tally DIR     prints what the program `tally` prints for DIR's files `curve` and `batch`
     python3 tools/reference.py census DIR    prints what the program `census` prints for DIR's file `curve`
 
-It was written from document 01 and, of document 02, W-201, W-205, W-207, W-208, W-211, W-213 and W-214, and shares no code with the product. Where
-the document leaves a choice (the flat running total, the place in a double, an opposite or a multiple, the order of 16 and 17) it follows the
+It was written from document 01 and, of document 02, W-201, W-205, W-207, W-208, W-209, W-211, W-213 and W-214, and shares no code with the product.
+Where the document leaves a choice (the flat running total, the place in a double, an opposite or a multiple, the order of 16 and 17) it follows the
 project's settled readings, as the product does: on those the two agreeing says nothing about the reading. Headings in quotes are the document's
 own. Each public call is one function from the bytes lent to it to a pair: the answer's fields in the order of the call's answer, and the
 output as it returns (None where the call has no output). The output is lent as bytes, handed back as bytes.
@@ -17,6 +17,7 @@ from collections import namedtuple
 from functools import lru_cache
 
 MARK = b"HJC"
+POLE_MARK, POLE_VERSION = b"HJP", 1  # of a pole file
 GREATEST_PRIME = {1: 2147483647, 2: 2**61 - 1}  # by the version of the curve record
 MOST_LISTED = 15  # primes of a witness
 MOST_OF_AN_ORDER = 32  # primes
@@ -692,12 +693,12 @@ def first_repeat(curve, batch):
     return answered(work, extra=2)
 
 
-# "The pole's list": the flat running total is the tuple weight, u0, u1, u2, v0, v1, v2, count.
+# "The pole's list": the flat running total is the tuple weight, u0, u1, u2, v0, v1, v2, count, pole.
 
 
-def fresh_total():
-    """ "A fresh one is neutral with 0"."""
-    return (0, 0, 0, 0, 0, 0, 0, 0)
+def fresh_total(pole):
+    """ "A fresh one is neutral with 0"; W-209: "A fresh total is given its pole"."""
+    return (0, 0, 0, 0, 0, 0, 0, 0, pole)
 
 
 def read_running_total(curve, total):
@@ -716,25 +717,88 @@ def read_running_total(curve, total):
     return divisor, count
 
 
-def flat_total(divisor, count):
+def flat_total(divisor, count, pole):
     w = weight(divisor)
     u = divisor.u[:w] + (0,) * (3 - w)
     v = divisor.v + (0,) * (3 - len(divisor.v))
-    return (w,) + u + v + (count,)
+    return (w,) + u + v + (count, pole)
 
 
 def scan(total, curve, record):
-    """number, place, length, then the eight numbers of the running total as it returns.
-    Order: "A scan into a running total checks curve, 15, 14, record"."""
+    """number, place, length, then the nine numbers of the running total as it returns. Order: "A scan into a running total checks curve, 15, 14,
+    record"; by W-209 the pole's number "stands in 4 bytes before the divisor record, and a scan shorter than 4 bytes gives 8 with place 1, after 14
+    and before 20", which is "for another pole", "after 14 and before the divisor checks"."""
+    pole = total[8]
     try:
         on = read_curve(curve)
         held, count = read_running_total(on, total)
         if count == MOST_RECORDS:
             raise Refused(14)
-        divisor = read_divisor(on, record, 1)
+        if len(record) < 4:
+            raise Refused(8, 1)
+        if int.from_bytes(record[:4], "big") != pole:
+            raise Refused(20)
+        divisor = read_divisor(on, record[4:], 1)
     except Refused as refusal:
         return (refusal.number, refusal.place, 0) + total, None
-    return (0, 0, 0) + flat_total(sum_of(on, held, divisor), count + 1), None
+    return (0, 0, 0) + flat_total(sum_of(on, held, divisor), count + 1, pole), None
+
+
+# W-209's pole file: "three letters `HJP`, 16-bit version 1, pole number, a curve record, a 16-bit count up to 4,096, then the divisor records"
+
+
+def write_pole_file(pole, curve, batch, out):
+    """number, place, length. "the writer takes a pole number, a curve record and a batch, checked as before; 13 is last"."""
+
+    def work():
+        count = len(read_batch(read_curve(curve), batch))
+        head = POLE_MARK + POLE_VERSION.to_bytes(2, "big") + pole.to_bytes(4, "big")
+        return head + curve + count.to_bytes(2, "big") + batch, ()
+
+    return answered(work, out)
+
+
+def front_curve(data):
+    """The curve record that the data begin with, as long as its g and in version 2 its k say; all of them where they don't say, or end before,
+    and then the record is refused."""
+    end = {b"\2": 54, b"\3": 70}.get(data[5:6], len(data))  # of the coefficients
+    if data[3:5] == b"\0\2":
+        end += 9 + 8 * int.from_bytes(data[end + 8 : end + 9], "big")
+    return data[:end]
+
+
+def read_counted(curve, data, count):
+    """So many divisor records: "one cut short gives 23, then 23 for bytes left over". A record that isn't there is cut short too."""
+    start = 0
+    for place in range(1, count + 1):
+        try:
+            start += read_front_divisor(curve, data[start : start + 49], place, lambda length, given: given >= length)[1]
+        except Refused as refusal:
+            raise Refused(23) if refusal.number == 8 else refusal
+    if start < len(data):
+        raise Refused(23)
+
+
+def read_pole_file(file, out):
+    """number, place, length, pole. "Order: 23 below 9 bytes, 21, 22, the curve's numbers, where a curve cut short gives 1, then 23 for the count,
+    then the records"; "The reader answers the pole number (0 on a refusal) and writes out the curve record, then the divisor records"."""
+
+    def work():
+        if len(file) < 9:
+            raise Refused(23)
+        if file[:3] != POLE_MARK:
+            raise Refused(21)
+        if int.from_bytes(file[3:5], "big") != POLE_VERSION:
+            raise Refused(22)
+        record = front_curve(file[9:])
+        curve = read_curve(record)
+        behind = file[9 + len(record) :]
+        if len(behind) < 2 or int.from_bytes(behind[:2], "big") > MOST_RECORDS:
+            raise Refused(23)
+        read_counted(curve, behind[2:], int.from_bytes(behind[:2], "big"))
+        return record + behind[2:], (int.from_bytes(file[5:9], "big"),)
+
+    return answered(work, out, extra=1)
 
 
 # ---------------------------------------------------------------------------------------------------------

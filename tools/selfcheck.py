@@ -18,11 +18,11 @@ import reference as r
 import splits
 import witnesses
 from corner_table import (
-    B_X_10, B_XXX_1, B_XXX_10, BROKEN_ORDERS, BY_7, CASE_P, CASE_P_COUNT, CASE_P_REPEAT, CASE_P_TOTAL, CURVE_A, CURVE_B, CURVES, DIVISORS,
-    BY_LARGEST, KEYS, LARGEST, NEUTRAL, NEXT, ORDERS, SCALARS, SPLITS, TWOS, WITNESSED, X1_0, X6_3, X_1, X_6, XX6X, XX_1, XX_6, XXX_X1, each_example,
-    power_and_1,
+    B_X_10, B_XXX_1, B_XXX_10, BROKEN_FILES, BROKEN_ORDERS, BY_7, BY_LARGEST, CASE_P, CASE_P_COUNT, CASE_P_REPEAT, CASE_P_TOTAL, CURVE_A, CURVE_B,
+    CURVES, DIVISORS, KEYS, LARGEST, NEUTRAL, NEXT, ORDERS, POLE_FILES, POLE_SCANS, SCALARS, SPLITS, TWOS, WITNESSED, X1_0, X6_3, X_1, X_2, X_6,
+    XX6X, XX_1, XX_6, XXX_X1, each_example, power_and_1,
 )  # fmt: skip
-from records import curve_record, divisor_record, in_4_bytes
+from records import curve_record, divisor_record, in_4_bytes, pole_file, scan_record
 
 held = 0
 failures = []
@@ -115,8 +115,9 @@ def check_corners():
             expect("multiply", r.multiply(CURVE_A, record, b"\1", out), ((number, 1, 0, 0, 0), out))
             expect("add, first", r.add(CURVE_A, record, X_1, out), ((number, 1, 0), out))
             expect("add, second", r.add(CURVE_A, X_1, record, out), ((number, 2, 0), out))
-            total = (1, 0, 0, 0, 1, 0, 0, 9)
-            expect("scan", r.scan(total, CURVE_A, record), ((number, 1, 0) + total, None))
+            total = (1, 0, 0, 0, 1, 0, 0, 9, 5)
+            expect("scan", r.scan(total, CURVE_A, scan_record(5, record)), ((number, 1, 0) + total, None))
+            expect("scan for another pole", r.scan(total, CURVE_A, scan_record(6, record)), ((20, 0, 0) + total, None))
         else:
             expect_written("rewrite", lambda out: r.rewrite_divisor(CURVE_A, record, out), record)
 
@@ -186,11 +187,16 @@ def check_order():
         (11, divisor_record([0], [2])),
     ]
     later = wrong_divisors + [(0, X_1)]
-    bad_total, full_total = (9,) * 7 + (5000,), (0,) * 7 + (4096,)
+    bad_total, full_total = (9,) * 7 + (5000, 1), (0,) * 7 + (4096, 1)
     for number, curve in ladder:
         expect("curve %d" % number, r.check_curve(curve), ((number, 0, 0), None))
         expect("curve %d, rewrite" % number, r.rewrite_curve(curve, b""), ((number, 0, 0), b""))
         expect("curve %d, scan" % number, r.scan(bad_total, curve, b""), ((number, 0, 0) + bad_total, None))
+        if number not in (1, 18):
+            file = pole_file(1, curve, (b"\xff",), count=5000)
+            expect("curve %d, reading a file" % number, r.read_pole_file(file, b""), ((number, 0, 0, 0), b""))
+            expect("22 first", r.read_pole_file(pole_file(1, curve, (), version=0), b""), ((22, 0, 0, 0), b""))
+            expect("21 first", r.read_pole_file(pole_file(1, curve, (), mark=b"HJC", version=0), b""), ((21, 0, 0, 0), b""))
         for _, wrong in later:
             expect("curve first", r.check_divisor(curve, wrong), ((number, 0, 0), None))
             expect("curve first", r.rewrite_divisor(curve, wrong, b""), ((number, 0, 0), b""))
@@ -203,6 +209,7 @@ def check_order():
             expect("curve first", r.check_order(curve, wrong, bytes(33), b"\0"), ((number, 0, 0), None))
             expect("curve first", r.total_batch(curve, wrong, b""), ((number, 0, 0, 0), b""))
             expect("curve first", r.first_repeat(curve, wrong), ((number, 0, 0, 0, 0), None))
+            expect("curve first", r.write_pole_file(1, curve, wrong, b""), ((number, 0, 0), b""))
     for number, wrong in wrong_divisors:
         for _, second in later:
             expect("first divisor first", r.add(CURVE_A, wrong, second, b""), ((number, 1, 0), b""))
@@ -219,8 +226,12 @@ def check_order():
             for out in (b"", GUARD * 49):
                 expect("25 first", r.next_divisor(power_and_1(2, p, witness), wrong, out), ((25, 0, 0), out))
         expect("before 13", r.rewrite_divisor(CURVE_A, wrong, b""), ((number, 1, 0), b""))
-        expect("15 first", r.scan(bad_total, CURVE_A, wrong), ((15, 0, 0) + bad_total, None))
-        expect("14 first", r.scan(full_total, CURVE_A, wrong), ((14, 0, 0) + full_total, None))
+        for scanned in (scan_record(1, wrong), scan_record(2, wrong), b"\0\0\0", b""):
+            expect("15 first", r.scan(bad_total, CURVE_A, scanned), ((15, 0, 0) + bad_total, None))
+            expect("14 first", r.scan(full_total, CURVE_A, scanned), ((14, 0, 0) + full_total, None))
+        if number != 8:
+            expect("writing a file", r.write_pole_file(1, CURVE_A, X_1 + wrong + b"\xff", b""), ((number, 2, 0), b""))
+            expect("reading a file", r.read_pole_file(pole_file(1, CURVE_A, (X_1, wrong, b"\xff")), b""), ((number, 2, 0, 0), b""))
 
 
 def check_witnesses():
@@ -417,23 +428,24 @@ def check_batches():
 
 
 def check_running_totals():
-    expect("fresh", r.fresh_total(), (0,) * 8)
-    taken, total = b"", r.fresh_total()
+    expect("fresh", r.fresh_total(77), (0,) * 8 + (77,))
+    taken, total = b"", r.fresh_total(77)
     for k, record in enumerate((X_1, X6_3, X_1, NEUTRAL, XX6X, X1_0, X_6, XX_1), start=1):
-        (number, place, length, *total), _ = r.scan(tuple(total), CURVE_A, record)
+        expect("another pole", r.scan(tuple(total), CURVE_A, scan_record(k, record)), ((20, 0, 0) + tuple(total), None))
+        (number, place, length, *total), _ = r.scan(tuple(total), CURVE_A, scan_record(77, record))
         taken += record
         written = r.total_batch(CURVE_A, taken, GUARD * 33)
         w = total[0]
         as_record = divisor_record(total[1 : 1 + w], total[4 : 4 + w])
-        expect("scan %d" % k, (number, place, length, total[7]), (0, 0, 0, k))
+        expect("scan %d" % k, (number, place, length, *total[7:]), (0, 0, 0, k, 77))
         expect("scan %d" % k, written, ((0, 0, len(as_record), k), as_record + GUARD * (33 - len(as_record))))
     good = (1, 0, 0, 0, 1, 0, 0)  # (x, 1)
     for count, number in ((4095, 0), (4096, 14), (4097, 15), (2**64 - 1, 15), (0, 0)):
-        got, _ = r.scan(good + (count,), CURVE_A, X_1)
+        got, _ = r.scan(good + (count, 3), CURVE_A, scan_record(3, X_1))
         if number:
-            expect("count %d" % count, got, (number, 0, 0) + good + (count,))
+            expect("count %d" % count, got, (number, 0, 0) + good + (count, 3))
         else:
-            expect("count %d" % count, got, (0, 0, 0, 2, 0, 0, 0, 1, 0, 0, count + 1))
+            expect("count %d" % count, got, (0, 0, 0, 2, 0, 0, 0, 1, 0, 0, count + 1, 3))
     for wrong in (
         (3, 0, 0, 0, 1, 0, 0),  # weight above g
         (4, 0, 0, 0, 0, 0, 0),
@@ -448,12 +460,65 @@ def check_running_totals():
         (1, 0, 0, 0, 2, 0, 0),  # not valid
     ):
         for count in (0, 4096, 4097):
-            for record in (X_1, b"", b"\xff"):
-                total = wrong + (count,)
+            for record in (X_1, b"", b"\xff", scan_record(3, X_1)):
+                total = wrong + (count, 3)
                 expect("15", r.scan(total, CURVE_A, record), ((15, 0, 0) + total, None))
-    three = (3, 0, 0, 0, 1, 0, 0, 1)  # (x³, 1) belongs to curve B
-    expect("weight 3", r.scan(three, CURVE_B, B_XXX_1), ((0, 0, 0, 1, 0, 0, 0, 10, 0, 0, 2), None))
-    expect("15", r.scan(three, CURVE_A, X_1), ((15, 0, 0) + three, None))
+    three = (3, 0, 0, 0, 1, 0, 0, 1, 0)  # (x³, 1) belongs to curve B
+    expect("weight 3", r.scan(three, CURVE_B, scan_record(0, B_XXX_1)), ((0, 0, 0, 1, 0, 0, 0, 10, 0, 0, 2, 0), None))
+    expect("15", r.scan(three, CURVE_A, scan_record(0, X_1)), ((15, 0, 0) + three, None))
+    for name, total, record, number, place, after in POLE_SCANS:
+        expect(name, r.scan(total, CURVE_A, record), ((number, place, 0) + (after or total), None))
+    # every list of five scans for two poles and a third: each total is that of the pole's own records
+    for poles in itertools.product((1, 2, 3), repeat=5):
+        totals = {1: r.fresh_total(1), 2: r.fresh_total(2)}
+        walk = list(zip(poles, (X_1, X6_3, XX_1, X1_0, XX6X)))
+        for pole, record in walk:
+            totals = {own: r.scan(total, CURVE_A, scan_record(pole, record))[0][3:] for own, total in totals.items()}
+        for own, total in totals.items():
+            records = [record for pole, record in walk if pole == own]
+            (number, _, length, count), out = r.total_batch(CURVE_A, b"".join(records), GUARD * 33)
+            w = total[0]
+            expect("own records", divisor_record(total[1 : 1 + w], total[4 : 4 + w]), out[:length])
+            expect("own records", (number, *total[7:]), (0, count, own))
+
+
+def check_pole_files():
+    """The tables by hand; reading undoes writing and writing reading; each file cut at every byte and grown, with every count; files of 4,096."""
+    for name, pole, curve, records in POLE_FILES:
+        file, batch = pole_file(pole, curve, records), b"".join(records)
+        expect_written(name, lambda out: r.write_pole_file(pole, curve, batch, out), file)
+        content = curve + batch
+        expect_read(name, file, content, pole)
+        got = r.read_pole_file(file, bytes(len(content)))
+        expect(name + " and back", r.write_pole_file(got[0][3], got[1][: len(curve)], got[1][len(curve) :], bytes(len(file))), ((0, 0, len(file)), file))
+        for n in range(len(file)):
+            number = 1 if 9 <= n < 9 + len(curve) else 23
+            for out in (b"", GUARD * len(content)):
+                expect("%s cut at %d" % (name, n), r.read_pole_file(file[:n], out), ((number, 0, 0, 0), out))
+        for more in (b"\0", b"\3", X_1, bytes(60)):
+            expect(name + " grown", r.read_pole_file(file + more, b""), ((23, 0, 0, 0), b""))
+        for count in (*range(8), 256, 4095, 4096, 4097, 65535):
+            if count != len(records):
+                expect("%s with %d" % (name, count), r.read_pole_file(pole_file(pole, curve, records, count=count), b""), ((23, 0, 0, 0), b""))
+    for name, file, number, place in BROKEN_FILES:
+        for out in (b"", GUARD * 300):
+            expect(name, r.read_pole_file(file, out), ((number, place, 0, 0), out))
+    full = [NEUTRAL] * 4095 + [X_1]
+    file, batch = pole_file(9, CURVE_A, full), b"".join(full)
+    expect_written("4,096", lambda out: r.write_pole_file(9, CURVE_A, batch, out), file)
+    expect_read("4,096", file, CURVE_A + batch, 9)
+    expect("4,097 written", r.write_pole_file(9, CURVE_A, batch + NEUTRAL, b""), ((14, 0, 0), b""))
+    expect("4,097 read", r.read_pole_file(pole_file(9, CURVE_A, full + [NEUTRAL]), b""), ((23, 0, 0, 0), b""))
+    expect("4,096 and one more", r.read_pole_file(file + NEUTRAL, b""), ((23, 0, 0, 0), b""))
+    expect("a fault in the last", r.read_pole_file(pole_file(9, CURVE_A, full[:-1] + [X_2]), b""), ((11, 4096, 0, 0), b""))
+
+
+def expect_read(name, file, content, pole):
+    short = GUARD * (len(content) - 1)
+    expect(name + ", short", r.read_pole_file(file, short), ((13, 0, 0, 0), short))
+    for extra in (0, 1, 40):
+        out = GUARD * (len(content) + extra)
+        expect(name, r.read_pole_file(file, out), ((0, 0, len(content), pole), content + GUARD * extra))
 
 
 def check_program():
@@ -666,6 +731,7 @@ def main():
         check_census,
         check_batches,
         check_running_totals,
+        check_pole_files,
         check_program,
         check_signed_digits,
         check_small_curves,
