@@ -16,14 +16,14 @@ import sys
 import ideals
 import reference as r
 from corner_table import (
-    BY_LARGEST, CASE_P, CASE_P_COUNT, CASE_P_REPEAT, CASE_P_TOTAL, CURVE_A, CURVES, DIVISORS, FLIPPED, KEYS, LARGEST, NEUTRAL, NEXT, ORDERS, SCALARS,
+    BROKEN_FILES, BY_LARGEST, CASE_P, CASE_P_COUNT, CASE_P_REPEAT, CASE_P_TOTAL, CURVE_A, CURVES, DIVISORS, FLIPPED, KEYS, LARGEST, NEUTRAL, NEXT, ORDERS, POLE, POLE_FILES, POLE_SCANS, SCALARS,
     SPLITS, WITNESSED, X6_3, X_1, X_6, XX6X, XX_1, XX_6, each_example, power_and_1,
 )  # fmt: skip
 from frames import (
-    ADD, CHECK_CURVE, CHECK_DIVISOR, CHECK_ORDER, DOUBLE, FIRST_REPEAT, GUARD, MULTIPLY, NEXT_DIVISOR, OPPOSITE, REWRITE_CURVE, REWRITE_DIVISOR, SCAN,
-    SPLIT, TOTAL_BATCH, WITH_OUTPUT, Frame, answer, in_parts, label, part_paths, read_parts, text_of,
+    ADD, CHECK_CURVE, CHECK_DIVISOR, CHECK_ORDER, DOUBLE, FIRST_REPEAT, GUARD, MULTIPLY, NEXT_DIVISOR, OPPOSITE, READ_POLE_FILE, REWRITE_CURVE, REWRITE_DIVISOR, SCAN,
+    SPLIT, TOTAL_BATCH, WITH_OUTPUT, WRITE_POLE_FILE, Frame, answer, in_parts, label, part_paths, read_parts, text_of,
 )  # fmt: skip
-from records import curve_record, divisor_record
+from records import curve_record, divisor_record, pole_file, scan_record
 
 frames = []
 labels = set()
@@ -56,13 +56,13 @@ def times(name, curve, a, n, result, counts):
     else:
         corner(name + "-multiply", multiply, 0, 0, result, counts)
     corner(name + "-batch", Frame(TOTAL_BATCH, curve, a * n, b"", len(result) + 1), 0, 0, result, (n,))
-    total = r.fresh_total()
+    total = r.fresh_total(n)
     for k in range(n):
-        frame = Frame(SCAN, curve, a, b"", 0, total)
+        frame = Frame(SCAN, curve, scan_record(n, a), b"", 0, total)
         total = answer(frame)[0][3:]
         corner("%s-scan-%d" % (name, k + 1), frame, 0, 0, b"", total)
     w = total[0]
-    assert divisor_record(total[1 : 1 + w], total[4 : 4 + w]) == result and total[7] == n
+    assert divisor_record(total[1 : 1 + w], total[4 : 4 + w]) == result and total[7:] == (n, n)
 
 
 def doubled(name, curve, a, result):
@@ -73,7 +73,7 @@ def doubled(name, curve, a, result):
 
 def every_call(name, curve, a, number, place=0, second=X_1):
     """A refusal through every call. A divisor at fault stands first, then second, then as the batch's second."""
-    total = r.flat_total(r.NEUTRAL, 3)
+    total = r.flat_total(r.NEUTRAL, 3, POLE)
     if place == 0:
         corner(name + "-check-curve", Frame(CHECK_CURVE, curve), number)
         corner(name + "-rewrite-curve", Frame(REWRITE_CURVE, curve, b"", b"", 72), number)
@@ -88,7 +88,9 @@ def every_call(name, curve, a, number, place=0, second=X_1):
     corner(name + "-multiply", Frame(MULTIPLY, curve, a, b"\3", 49), number, place, more=(0, 0))
     corner(name + "-total", Frame(TOTAL_BATCH, curve, second + a, b"", 49), number, 2 * place, more=(0,))
     corner(name + "-repeat", Frame(FIRST_REPEAT, curve, second + second + a), number, 3 * place, more=(0, 0))
-    corner(name + "-scan", Frame(SCAN, curve, a, b"", 0, total), number, place, more=total)
+    corner(name + "-scan", Frame(SCAN, curve, scan_record(POLE, a), b"", 0, total), number, place, more=total)
+    corner(name + "-write-file", Frame(WRITE_POLE_FILE, curve, second + a, b"", 200, pole=POLE), number, 2 * place)
+    corner(name + "-read-file", Frame(READ_POLE_FILE, b"", pole_file(POLE, curve, (second, a)), b"", 200), number, 2 * place, more=(0,))
 
 
 def taken_curve(name, curve):
@@ -165,10 +167,10 @@ def put_case_p():
     batch = b"".join(CASE_P)
     corner("P-total", Frame(TOTAL_BATCH, CURVE_A, batch, b"", 34), 0, 0, CASE_P_TOTAL, (CASE_P_COUNT,))
     corner("P-repeat", Frame(FIRST_REPEAT, CURVE_A, batch), 0, more=CASE_P_REPEAT)
-    total = r.fresh_total()
-    totals = ((1, 0, 0, 0, 1, 0, 0, 1), (2, 0, 6, 0, 1, 2, 0, 2), (2, 4, 4, 0, 0, 1, 0, 3))
+    total = r.fresh_total(POLE)
+    totals = ((1, 0, 0, 0, 1, 0, 0, 1, POLE), (2, 0, 6, 0, 1, 2, 0, 2, POLE), (2, 4, 4, 0, 0, 1, 0, 3, POLE))
     for k, (record, after) in enumerate(zip(CASE_P, totals), start=1):
-        corner("P-scan-%d" % k, Frame(SCAN, CURVE_A, record, b"", 0, total), 0, more=after)
+        corner("P-scan-%d" % k, Frame(SCAN, CURVE_A, scan_record(POLE, record), b"", 0, total), 0, more=after)
         total = after
     corner("empty-batch-total", Frame(TOTAL_BATCH, CURVE_A, b"", b"", 4), 0, 0, NEUTRAL, (0,))
     corner("empty-batch-repeat", Frame(FIRST_REPEAT, CURVE_A, b""), 0, more=(0, 0))
@@ -207,6 +209,22 @@ def put_next():
             corner(name + "-no-room", Frame(NEXT_DIVISOR, curve, a, b"", len(after) - 1), 13)
 
 
+def put_poles():
+    """W-209: scans for one pole among others, pole files written, read and refused."""
+    for name, total, record, number, place, after in POLE_SCANS:
+        corner(name, Frame(SCAN, CURVE_A, record, b"", 0, total), number, place, more=after or total)
+    for name, pole, curve, records in POLE_FILES:
+        batch, file = b"".join(records), pole_file(pole, curve, records)
+        content = curve + batch
+        write = Frame(WRITE_POLE_FILE, curve, batch, pole=pole)
+        corner(name + "-written", write._replace(output=len(file) + 3), 0, 0, file)
+        corner(name + "-written-no-room", write._replace(output=len(file) - 1), 13)
+        corner(name, Frame(READ_POLE_FILE, b"", file, b"", len(content)), 0, 0, content, (pole,))
+        corner(name + "-no-room", Frame(READ_POLE_FILE, b"", file, b"", len(content) - 1), 13, more=(0,))
+    for name, file, number, place in BROKEN_FILES:
+        corner(name, Frame(READ_POLE_FILE, b"", file, b"", 4), number, place, more=(0,))
+
+
 def put_slips():
     """ "Slips a fitter would make", those that the corners above don't show: two reductions in genus 3, f_6 ≠ 0 with
     p = 7. The sums' results come from ideals.py."""
@@ -239,7 +257,7 @@ MOST_PARTS = 2  # that the program reads
 def made():
     """The data in parts, and the text that the corners are answered by."""
     if not frames:
-        for put in (put_sums, put_curves, put_witnessed, put_bounds, put_case_p, put_flipped, put_orders, put_slips, put_splits, put_next):
+        for put in (put_sums, put_curves, put_witnessed, put_bounds, put_case_p, put_flipped, put_orders, put_slips, put_splits, put_next, put_poles):
             put()
     lines = list(map(text_of, frames))
     parts = in_parts(frames, lines)

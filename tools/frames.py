@@ -7,8 +7,9 @@ A file is a sequence of frames. A frame is
     bytes     of the curve, the first, the second and the running total, in this order
 
 The output is only a length: the program lends a buffer of that many bytes, each 0xA5. The running total is
-64 bytes of a scan, eight big-endian 64-bit numbers weight, u0, u1, u2, v0, v1, v2, count; a check of an order has its
-primes there, any number of bytes; every other frame has none.
+68 bytes of a scan, eight big-endian 64-bit numbers weight, u0, u1, u2, v0, v1, v2, count and the pole in 32 bits; a check of an order has its
+primes there, any number of bytes; a pole file to be written has its pole there, 4 bytes; every other frame has none. A pole file to be read
+stands in the place of the first.
 
 Each frame is answered by one line: the answer's fields in decimal with one space between; a scan's total after
 number, place and length; for a call with an output one space and the whole buffer in lower-case hexadecimal, `-` for an
@@ -20,28 +21,30 @@ import os
 from collections import namedtuple
 
 import reference
+from records import in_4_bytes, in_8_bytes
 
 LABEL, CHECK_CURVE, CHECK_DIVISOR, REWRITE_CURVE, REWRITE_DIVISOR, ADD = 0, 1, 2, 3, 4, 5
 DOUBLE, OPPOSITE, MULTIPLY, TOTAL_BATCH, FIRST_REPEAT, SCAN = 6, 7, 8, 9, 10, 11
-CHECK_ORDER, SPLIT, NEXT_DIVISOR = 15, 16, 17  # 12 to 14 are the program's own
+CHECK_ORDER, SPLIT, NEXT_DIVISOR, WRITE_POLE_FILE, READ_POLE_FILE = 15, 16, 17, 18, 19  # 12 to 14 are the program's own
 
 NAMES = {
     LABEL: "label", CHECK_CURVE: "check_curve", CHECK_DIVISOR: "check_divisor", REWRITE_CURVE: "rewrite_curve",
     REWRITE_DIVISOR: "rewrite_divisor", ADD: "add", DOUBLE: "double", OPPOSITE: "opposite", MULTIPLY: "multiply",
     TOTAL_BATCH: "total_batch", FIRST_REPEAT: "first_repeat", SCAN: "scan", CHECK_ORDER: "check_order",
-    SPLIT: "split", NEXT_DIVISOR: "next_divisor",
+    SPLIT: "split", NEXT_DIVISOR: "next_divisor", WRITE_POLE_FILE: "write_pole_file", READ_POLE_FILE: "read_pole_file",
 }  # fmt: skip
 CALLS = tuple(operation for operation in NAMES if operation != LABEL)
-WITH_OUTPUT = {REWRITE_CURVE, REWRITE_DIVISOR, ADD, DOUBLE, OPPOSITE, MULTIPLY, TOTAL_BATCH, SPLIT, NEXT_DIVISOR}
+WITH_OUTPUT = {REWRITE_CURVE, REWRITE_DIVISOR, ADD, DOUBLE, OPPOSITE, MULTIPLY, TOTAL_BATCH, SPLIT, NEXT_DIVISOR, WRITE_POLE_FILE, READ_POLE_FILE}
 WITH_FIRST = set(CALLS) - {CHECK_CURVE, REWRITE_CURVE}
 WITH_SECOND = {ADD, MULTIPLY, CHECK_ORDER}
 
 GUARD = 0xA5
 MOST_PAYLOAD = 65515
 MOST_OUTPUT = 208  # a curve record has at most 199
+MOST_FILE_OUTPUT = 512  # of a pole file written or read
 
-# output: a length; total: None or a tuple of eight numbers; primes: bytes
-Frame = namedtuple("Frame", "operation curve first second output total primes", defaults=(b"", b"", 0, None, b""))
+# output: a length; total: None or a tuple of nine numbers; primes: bytes; pole: None or a number
+Frame = namedtuple("Frame", "operation curve first second output total primes pole", defaults=(b"", b"", b"", 0, None, b"", None))
 
 
 def label(text):
@@ -49,7 +52,11 @@ def label(text):
 
 
 def running_total_bytes(total):
-    return b"" if total is None else b"".join(number.to_bytes(8, "big") for number in total)
+    return b"" if total is None else in_8_bytes(total[:8]) + in_4_bytes(total[8:])
+
+
+def most_output(operation):
+    return MOST_FILE_OUTPUT if operation in (WRITE_POLE_FILE, READ_POLE_FILE) else MOST_OUTPUT
 
 
 def encoded(frame):
@@ -59,9 +66,11 @@ def encoded(frame):
     assert frame.output == 0 or frame.operation in WITH_OUTPUT
     assert (frame.total is not None) == (frame.operation == SCAN)
     assert frame.primes == b"" or frame.operation == CHECK_ORDER
-    last = running_total_bytes(frame.total) + frame.primes
+    assert (frame.pole is not None) == (frame.operation == WRITE_POLE_FILE)
+    assert frame.curve == b"" or frame.operation != READ_POLE_FILE
+    last = running_total_bytes(frame.total) + frame.primes + (b"" if frame.pole is None else in_4_bytes([frame.pole]))
     payload = frame.curve + frame.first + frame.second + last
-    assert len(payload) <= MOST_PAYLOAD and frame.output <= MOST_OUTPUT
+    assert len(payload) <= MOST_PAYLOAD and frame.output <= most_output(frame.operation)
     lengths = (len(frame.curve), len(frame.first), len(frame.second), frame.output, len(last))
     return bytes([frame.operation]) + b"".join(n.to_bytes(4, "big") for n in lengths) + payload
 
@@ -83,22 +92,26 @@ def decoded(data):
             parts.append(part)
             at += lengths[k]
         operation, last = head[0], parts.pop()
-        if operation != CHECK_ORDER and len(last) != (64 if operation == SCAN else 0):
+        if operation != CHECK_ORDER and len(last) != {SCAN: 68, WRITE_POLE_FILE: 4}.get(operation, 0):
             raise ValueError("a running total of %d bytes" % len(last))
-        total = tuple(reference.number_at(last, 8 * i) for i in range(8)) if operation == SCAN else None
-        frames.append(Frame(operation, *parts, lengths[3], total, last if operation == CHECK_ORDER else b""))
+        total, pole = None, int.from_bytes(last[-4:], "big")
+        if operation == SCAN:
+            total = (*(reference.number_at(last, 8 * i) for i in range(8)), pole)
+        primes = last if operation == CHECK_ORDER else b""
+        frames.append(Frame(operation, *parts, lengths[3], total, primes, pole if operation == WRITE_POLE_FILE else None))
     return frames
 
 
 def answer(frame):
     """The fields and the output as it returns, or None. reference.py's functions have the calls' names, and take what
-    the frame has in its order, a scan its total first."""
+    the frame has in its order, a scan its total first, a pole file to be written its pole."""
     operation = frame.operation
     if operation not in CALLS:
         raise ValueError("operation %d" % operation)
     given = (
         (operation == SCAN, frame.total),
-        (True, frame.curve),
+        (operation == WRITE_POLE_FILE, frame.pole),
+        (operation != READ_POLE_FILE, frame.curve),
         (operation in WITH_FIRST, frame.first),
         (operation in WITH_SECOND, frame.second),
         (operation in WITH_OUTPUT, bytes([GUARD]) * frame.output),

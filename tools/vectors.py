@@ -30,19 +30,20 @@ from corner_table import (
     BY_VERSION_1S_LARGEST, FIFTEEN, LARGEST, LARGEST_LISTED, LISTS_MORE, LONG_2, LONG_3, MANY, ORDERS, OVER, SAFE, TWOS, power_and_1,
 )  # fmt: skip
 from frames import (
-    ADD, CALLS, CHECK_CURVE, CHECK_DIVISOR, CHECK_ORDER, DOUBLE, FIRST_REPEAT, GUARD, MOST_OUTPUT, MULTIPLY, NAMES, NEXT_DIVISOR, OPPOSITE, REWRITE_CURVE,
-    REWRITE_DIVISOR, SCAN, SPLIT, TOTAL_BATCH, WITH_OUTPUT, Frame, answer, decoded, encoded, in_parts, part_paths, read_parts, text_of,
+    ADD, CALLS, CHECK_CURVE, CHECK_DIVISOR, CHECK_ORDER, DOUBLE, FIRST_REPEAT, GUARD, MOST_OUTPUT, MULTIPLY, NAMES, NEXT_DIVISOR, OPPOSITE,
+    READ_POLE_FILE, REWRITE_CURVE, REWRITE_DIVISOR, SCAN, SPLIT, TOTAL_BATCH, WITH_OUTPUT, WRITE_POLE_FILE, Frame, answer, decoded, encoded,
+    in_parts, most_output, part_paths, read_parts, text_of,
 )  # fmt: skip
-from records import curve_record, divisor_record, in_4_bytes
+from records import curve_record, divisor_record, in_4_bytes, pole_file, scan_record
 
 PRIMES = classes.PRIMES
 GENERA = (2, 3)
-# Of input, which stands in the repository, with the expected text and some 100,000 of the corners: a bound to keep the program quick. W-201's
-# composite numbers are 112,000 of it, W-213's splits 245,000, W-211's steps 102,000.
-MOST_BYTES = 1385000
+# Of input, which stands in the repository, with the expected text and some 122,000 of the corners: a bound to keep the program quick, and to stay
+# within 26 parts. W-201's composite numbers are 112,000 of it, W-213's splits 245,000, W-211's steps 102,000, W-209's mixed scans and pole files 190,000.
+MOST_BYTES = 1600000
 ENOUGH = 20  # of each main kind of sum, per genus and prime
 NEUTRAL_RECORD = r.write_divisor(r.NEUTRAL)
-NUMBERS = tuple(range(16)) + (18, 19, 24, 25, 26, 27)  # that the calls answer
+NUMBERS = tuple(range(16)) + tuple(range(18, 28))  # that the calls answer
 # Primes of version 2, with witnesses
 LARGE = {2147483647: BY_VERSION_1S_LARGEST, LARGEST: BY_LARGEST, TWOS: BY_TWOS, FIFTEEN: BY_FIFTEEN}
 
@@ -51,12 +52,20 @@ class Dice:
     """Numbers drawn from SHA-256 of the seed and a counter: no library's generator, so always the same."""
 
     def __init__(self, seed):
-        self.seed, self.counter = seed, 0
+        self.seed, self.counter, self.poles = seed, 0, 0
+
+    def drawn(self, what):
+        return int.from_bytes(hashlib.sha256(b"%s %s" % (self.seed.encode(), what)).digest(), "big")
 
     def below(self, n):
         self.counter += 1
-        digest = hashlib.sha256(b"%s %d" % (self.seed.encode(), self.counter)).digest()
-        return int.from_bytes(digest, "big") % n
+        return self.drawn(b"%d" % self.counter) % n
+
+    def pole(self):
+        """A pole's number, by a counter of its own."""
+        self.poles += 1
+        number = self.drawn(b"pole %d" % self.poles)
+        return (0, 1, 2**31, 2**32 - 1, number // 8 % 1000, number // 8 % 2**32, number // 8 % 2**32, number // 8 % 2**16)[number % 8]
 
     def pick(self, things):
         return things[self.below(len(things))]
@@ -383,7 +392,7 @@ def any_output(dice, need):
 
 def need_of(frame):
     """The length of the result, for a frame that a large output lets succeed; 0 where none does (19)."""
-    fields, _ = answer(frame._replace(output=MOST_OUTPUT))
+    fields, _ = answer(frame._replace(output=most_output(frame.operation)))
     return fields[2]
 
 
@@ -575,11 +584,16 @@ def put_batches(dice, collection, pools):
         collection.put(Frame(TOTAL_BATCH, pool.record, cut, b"", 3) if n % 2 else Frame(FIRST_REPEAT, pool.record, cut))
 
 
+def scan_of(pool, record, total, pole=None):
+    """A scan into the total, for its own pole where nothing else is said."""
+    return Frame(SCAN, pool.record, scan_record(total[8] if pole is None else pole, record), b"", 0, total)
+
+
 def put_scans(dice, collection, pools):
     for n in range(2):
-        pool, total = pools[n % len(pools)], r.fresh_total()
+        pool, total = pools[n % len(pools)], r.fresh_total(dice.pole())
         for a in drawn_batch(dice, pool, 4):
-            frame = Frame(SCAN, pool.record, r.write_divisor(a), b"", 0, total)
+            frame = scan_of(pool, r.write_divisor(a), total)
             collection.put(frame)
             total = answer(frame)[0][3:]
     for count in (0, 1, 4095, 4096, 4097, 2 + dice.below(4000)):
@@ -587,7 +601,20 @@ def put_scans(dice, collection, pools):
         pool = dice.pick(pools)
         held = pool.anything()
         a = pool.anything() if dice.below(3) else pool.opposite(held)
-        collection.put(Frame(SCAN, pool.record, r.write_divisor(a), b"", 0, r.flat_total(held, count)))
+        collection.put(scan_of(pool, r.write_divisor(a), r.flat_total(held, count, dice.pole())))
+
+
+def put_mixed_scans(dice, collection, pools):
+    """A list of meters on three poles, scanned whole into the totals of two of them."""
+    for pool in pools:
+        one, other, third = poles = [dice.pole() for _ in range(2)] + [dice.pole() // 2 + 7]
+        other = poles[1] = other if other != one else one ^ 1 << dice.below(32)
+        totals = [r.fresh_total(one), r.fresh_total(other)]
+        for n, a in enumerate(drawn_batch(dice, pool, 7)):
+            for k, total in enumerate(totals):
+                frame = scan_of(pool, r.write_divisor(a), total, (one, other, one, third, other, one, other)[n])
+                collection.put(frame)
+                totals[k] = answer(frame)[0][3:]
 
 
 # ---------------------------------------------------------------------------------------------------------
@@ -613,7 +640,7 @@ WRONG_PRIMES = (
 
 
 def number_of(fault):
-    return int(fault.rstrip("abk"))
+    return int(fault.rstrip("abcekprs"))
 
 
 # Even, or out of version 2's range
@@ -712,6 +739,9 @@ def faulty_divisor(dice, curve, a, faults, in_batch=False):
     return record
 
 
+BATCHES = (TOTAL_BATCH, FIRST_REPEAT, WRITE_POLE_FILE)
+
+
 class Base:
     """One good call of an operation and its stages: where a fault may stand, in document 01's order."""
 
@@ -724,10 +754,10 @@ class Base:
             stages += first
         elif operation == NEXT_DIVISOR:
             stages += [("training", "25")] + first + [("last", "24")]
-        elif operation in (ADD, TOTAL_BATCH, FIRST_REPEAT):
+        elif operation in (ADD, *BATCHES):
             stages += first + second
         elif operation == SCAN:
-            stages += [("total", "15"), ("total", "14")] + first
+            stages += [("total", "15"), ("total", "14"), ("pole", "8p"), ("pole", "20")] + first
         if operation == MULTIPLY:
             stages += [("scalar", "12"), ("key", "19")]
         if operation == CHECK_ORDER:
@@ -770,24 +800,13 @@ class Base:
             if (pool.curve.p > r.GREATEST_FOR_TRAINING) != bool(by_part["training"]):
                 return None
             known = pool.to_follow(by_part["last"])
-        total, places = None, {"first": 1, "second": 2}
-        if operation in (TOTAL_BATCH, FIRST_REPEAT):
-            # good records, the first fault, good records, the second fault; 8 can stand only at the end
-            if "8b" in by_part["first"] and by_part["second"]:
+        total, places, pole = None, {"pole": 1, "first": 1, "second": 2}, None
+        if operation in BATCHES:
+            batch = self.batch(by_part, places)
+            if batch is None:
                 return None
-            batch, count = [], 0
-            for part in ("first", "second"):
-                good = [r.write_divisor(self.pool.anything()) for _ in range(dice.below(4))]
-                batch, count = batch + good, count + len(good)
-                if by_part[part]:
-                    record = self.divisor(by_part[part], in_batch=True)
-                    if record is None:
-                        return None
-                    batch, count = batch + [record], count + 1
-                    places[part] = count
-                    if "8b" in by_part[part]:
-                        break
             first = b"".join(batch)
+            pole = dice.pole() if operation == WRITE_POLE_FILE else None
         else:
             if any(part == "first" for part, _ in self.stages):
                 first = self.divisor(by_part["first"], of=known)
@@ -813,24 +832,42 @@ class Base:
             second, primes = self.order(known, by_part["scalar"], by_part["order"])
         if operation == SCAN:
             total = self.running_total(by_part["total"])
-            if total is None:
+            if total is None or "8p" in by_part["pole"] and by_part["first"]:
                 return None
+            first = scan_record(total[8] ^ 1 << dice.below(32) if "20" in by_part["pole"] else total[8], first)
+            first = first[: dice.below(4)] if "8p" in by_part["pole"] else first
         output = 0
         if operation in WITH_OUTPUT:
             # one that would fit or, mostly, one that wouldn't: the earlier fault wins over that too
-            fits = {REWRITE_CURVE: 199, SPLIT: 50}.get(operation, 49)
+            fits = {REWRITE_CURVE: 199, SPLIT: 50, WRITE_POLE_FILE: 300}.get(operation, 49)
             output = 0 if by_part.get("output") else dice.pick([fits, 2, 4, 8])
             if by_part.get("output") and len(faults) == 1:
                 # the only fault: one byte short of the need, or shorter
-                good = Frame(operation, curve, first, second, MOST_OUTPUT)
+                good = Frame(operation, curve, first, second, pole=pole)
                 output = dice.pick([need_of(good) - 1, dice.below(need_of(good)), 0])
-        return Frame(operation, curve, first, second, output, total, primes), places.get(faults[0][0], 0)
+        return Frame(operation, curve, first, second, output, total, primes, pole), places.get(faults[0][0], 0)
+
+    def batch(self, by_part, places):
+        """Good records, the first fault, good records, the second fault; 8 can stand only at the end. None where they can't go together."""
+        if "8b" in by_part["first"] and by_part["second"]:
+            return None
+        batch = []
+        for part in ("first", "second"):
+            batch += [r.write_divisor(self.pool.anything()) for _ in range(self.dice.below(4))]
+            if by_part[part]:
+                batch.append(self.divisor(by_part[part], in_batch=True))
+                places[part] = len(batch)
+                if batch[-1] is None:
+                    return None
+                if "8b" in by_part[part]:
+                    break
+        return batch
 
     def running_total(self, faults):
         dice, curve = self.dice, self.pool.curve
         a = self.pool.heavy()
         count = 4096 if "14" in faults else dice.pick([0, 7, 4095])
-        total = list(r.flat_total(a, count))
+        total = list(r.flat_total(a, count, dice.pole()))
         if "15" in faults:
             w = r.weight(a)
             kinds = ["weight", "number", "valid"] + (["unused"] if w < 3 else []) + ([] if "14" in faults else ["count"])
@@ -855,12 +892,78 @@ class Base:
         return tuple(total)
 
 
+class FileBase(Base):
+    """The same of reading a pole file. 23 stands for a file that is short (s), its count (c), a record cut short or missing (8b here, as in a batch)
+    and bytes left over (e)."""
+
+    def __init__(self, dice, operation, pool, version):
+        self.dice, self.operation, self.pool = dice, operation, pool
+        self.stages = [("head", "23s"), ("head", "21"), ("head", "22")] + [("curve", fault) for fault in CURVE_FAULTS[version]] + [("count", "23c")]
+        self.stages += [(part, fault) for part in ("first", "second") for fault in ("9", "8b", "10", "11")] + [("end", "23e"), ("output", "13")]
+
+    def frame(self, faults):
+        dice, places = self.dice, {}
+        by_part = {part: [f for where, f in faults if where == part] for part, _ in self.stages}
+        curve = self.curve(by_part["curve"])
+        batch = self.batch(by_part, places)
+        cut = {"8b"} & {*by_part["first"], *by_part["second"]}
+        behind_cut = {"1a", "1k", "1b"} & set(by_part["curve"]) and [f for f in faults if f[0] in ("count", "first", "second", "end")]
+        if curve is None or batch is None or behind_cut or cut and by_part["end"]:
+            return None
+        mark = dice.pick([b"HJC", b"HJQ", b"hjp", b"\0\0\0", b"IJP"]) if "21" in by_part["head"] else b"HJP"
+        version = dice.pick([0, 2, 3, 256, 257, 65535]) if "22" in by_part["head"] else 1
+        count = dice.pick([4097, 5000, 65535]) if by_part["count"] else len(batch)
+        if cut and dice.below(2) and len(faults) == 1:
+            batch = batch[:-1]  # not there at all
+        file = pole_file(dice.pole(), curve, batch, mark, version, count)
+        if {"1a", "1k", "1b"} & set(by_part["curve"]):
+            file = file[: 9 + len(curve)]
+        elif by_part["count"] and dice.below(2) and not [f for f in faults if f[0] in ("first", "second", "end")]:
+            file = file[: 9 + len(curve) + dice.below(2)]
+        elif by_part["end"]:
+            file += dice.pick([b"\0", b"\xff", r.write_divisor(self.pool.heavy()), bytes(17)])
+        if "23s" in by_part["head"]:
+            if {part for part, _ in faults} - {"head", "output"}:
+                return None
+            least = 5 if "22" in by_part["head"] else 3 if "21" in by_part["head"] else 0
+            file = file[: least + dice.below(9 - least)]
+        output = 0 if by_part["output"] else dice.pick([300, 2, 4, 8])
+        if by_part["output"] and len(faults) == 1:
+            need = need_of(Frame(READ_POLE_FILE, b"", file))
+            output = dice.pick([need - 1, dice.below(need), 0])
+        return Frame(READ_POLE_FILE, b"", file, b"", output), places.get(faults[0][0], 0)
+
+    def curve(self, faults):
+        """In a file a wrong length can only be a cut."""
+        record = faulty_curve(self.dice, self.pool.curve, [fault for fault in faults if fault != "1b"]) if faults else self.pool.record
+        return record[: -1 - self.dice.below(8)] if record and "1b" in faults else record
+
+
+def base_of(dice, operation, pool, version):
+    return (FileBase if operation == READ_POLE_FILE else Base)(dice, operation, pool, version)
+
+
+def is_asked_of_file(version, stages, faults):
+    """In reading a pole file: every stage with the next; the head's with the first of the curve, the curve's with the first record's weight, and all
+    with the count and the output; of the records all pairs. In version 2 what is its own."""
+    count = stages.index(("count", "23c"))
+    at = [stages.index(fault) for fault in faults]
+    own = faults[0] in [("curve", fault) for fault in ("1k", "18k", "18")]
+    if version == 2 and not own:
+        return len(at) == 2 and at[1] == at[0] + 1 and at[0] < count <= at[1]
+    if len(at) == 1 or at[0] > count:
+        return True
+    return at[1] in (at[0] + 1, count, len(stages) - 1) or at[1] == 3 > at[0] or at[1] == count + 1 and at[0] > 2
+
+
 def is_asked(operation, version, stages, faults):
     """All stages and pairs of them in the two calls of a curve alone. In the others those of a curve that stand next to each other, since they
     read it by the same function; and in version 2 what is its own, with the first and the last of the other stages. An order's check has a
     curve's stages with these two in both versions."""
     if operation in (CHECK_CURVE, REWRITE_CURVE):
         return True
+    if operation == READ_POLE_FILE:
+        return is_asked_of_file(version, stages, faults)
     curve_stages = len(CURVE_FAULTS[version])
     at = [stages.index(fault) for fault in faults]
     if len(at) == 2 and at[1] < curve_stages:
@@ -875,16 +978,18 @@ def is_asked(operation, version, stages, faults):
 def put_refusals(dice, collection, operations, pools_by_version):
     """Every stage of these calls by itself, and every pair of stages that is asked for and can go together: the earlier must win."""
     for operation, (version, pools) in itertools.product(operations, pools_by_version.items()):
-        stages = Base(dice, operation, pools[0], version).stages
+        stages = base_of(dice, operation, pools[0], version).stages
         for faults in itertools.chain(((stage,) for stage in stages), itertools.combinations(stages, 2)):
             for _ in range(12 if is_asked(operation, version, stages, faults) else 0):
-                made = Base(dice, operation, dice.pick(pools), version).frame(faults)
+                made = base_of(dice, operation, dice.pick(pools), version).frame(faults)
                 if made is None:
                     continue
                 frame, place = made
                 if collection.put(frame):
                     fields = answer(frame)[0]
                     number = number_of(faults[0][1])
+                    if operation == READ_POLE_FILE and number == 8:
+                        number = 23
                     wanted = (number, place if 8 <= number <= 11 else 0)
                     if fields[:2] != wanted:
                         raise AssertionError("%s %s: %s" % (NAMES[operation], faults, fields))
@@ -992,8 +1097,8 @@ def put_on_witnessed(dice, collection, pools, recipes):
         collection.put(Frame(FIRST_REPEAT, pool.record, batch + r.write_divisor(pool.opposite(a)) + one))
         collection.put(Frame(CHECK_DIVISOR, pool.record, one))
         put_with_outputs(dice, collection, Frame(REWRITE_DIVISOR, pool.record, other), [enough_output])
-        collection.put(Frame(SCAN, pool.record, one, b"", 0, r.fresh_total()))
-        collection.put(Frame(SCAN, pool.record, other, b"", 0, r.flat_total(a, dice.pick([1, 4095]))))
+        collection.put(scan_of(pool, one, r.fresh_total(dice.pole())))
+        collection.put(scan_of(pool, other, r.flat_total(a, dice.pick([1, 4095]), dice.pole())))
 
 
 def order_and_primes(curve, a):
@@ -1064,9 +1169,11 @@ def put_splits(dice, collection):
     """Every divisor of weight 2 or 3 on a curve of each genus and small prime, in both versions by turns, in genus 3 at p = 11 and 13 some of them;
     then each shape of u in both versions, and weights that can't be split."""
     for n, (g, p) in enumerate(itertools.product(GENERA, SPLIT_PRIMES)):
-        curve = drawn_curve(dice, g, p, dice.below(3), bool(dice.below(2)))[0]
+        heavy = None
+        while heavy is None or p <= 7 and len(heavy) > MOST_OF_A_CURVE:
+            curve = drawn_curve(dice, g, p, dice.below(3), bool(dice.below(2)))[0]
+            heavy = [a for a in splits.all_divisors(curve) if r.weight(a) >= 2]
         curve = witnessed_curve(curve) if n % 2 else curve
-        heavy = [a for a in splits.all_divisors(curve) if r.weight(a) >= 2]
         for a in heavy if len(heavy) <= MOST_OF_A_CURVE else dice.turned(heavy)[: MOST_OF_A_CURVE // 4]:
             put_split(dice, collection, curve, a)
     for g, p in itertools.product(GENERA, SPLIT_PRIMES + (1009, 65537, *LARGE)):
@@ -1117,6 +1224,42 @@ def put_walks(dice, collection):
             collection.put(Frame(NEXT_DIVISOR, r.write_curve(curve), record, b"", output))
 
 
+def put_pole_file(dice, collection, curve, divisors):
+    """A pole file written and read, with room and mostly also without."""
+    record, records, pole = r.write_curve(curve), list(map(r.write_divisor, divisors)), dice.pole()
+    write = Frame(WRITE_POLE_FILE, record, b"".join(records), pole=pole)
+    read = Frame(READ_POLE_FILE, b"", pole_file(pole, record, records))
+    for frame in (write, read):
+        need = need_of(frame)
+        for output in (dice.pick([need, need, need + 1, need + 5]), dice.pick([need - 1, need - 1, need - 9, dice.below(need), 0])):
+            collection.put(frame._replace(output=output))
+
+
+def put_pole_files(dice, collection, pools, to_cut):
+    """Files of some records in both versions; some cut at every byte, grown, and with wrong counts, marks and versions; files of 4,096 records, and
+    of one more."""
+    for n, pool in enumerate(pools):
+        put_pole_file(dice, collection, pool.curve, drawn_batch(dice, pool, n % 5))
+    for pool in to_cut:
+        records = [r.write_divisor(a) for a in (pool.sum(*pool.signed_points(1)), r.NEUTRAL, pool.heavy())]
+        pole = dice.pole()
+        file = pole_file(pole, pool.record, records)
+        files = [file[:n] for n in range(len(file))] + [file + more for more in (b"\0", b"\xff", records[0], bytes(40))]
+        files += [pole_file(pole, pool.record, records, count=count) for count in (0, 1, 2, 4, 5, 256 + 3, 4096, 4097, 32768 + 3, 65535)]
+        files += [pole_file(pole, pool.record, records, mark=mark) for mark in (b"HJC", b"IJP", b"HKP", b"hjp", b"PJH", b"\0\0\0")]
+        files += [pole_file(pole, pool.record, records, version=version) for version in (0, 2, 3, 256, 257, 65535)]
+        collection.put(Frame(READ_POLE_FILE, b"", file, b"", 300))
+        for other in files:
+            collection.put(Frame(READ_POLE_FILE, b"", other, b"", 300 if dice.below(32) == 0 else dice.below(8)))
+    pool = to_cut[0]
+    full = [NEUTRAL_RECORD] * 4095 + [r.write_divisor(pool.heavy())]
+    wrong = [NEUTRAL_RECORD] * 4095 + [b"\xff"]
+    for records, output in ((full, 300), (full + [b"\xff"], 0), (wrong, 0)):
+        collection.put(Frame(WRITE_POLE_FILE, pool.record, b"".join(records), b"", output, pole=dice.pole()))
+        collection.put(Frame(READ_POLE_FILE, b"", pole_file(dice.pole(), pool.record, records), b"", output))
+    collection.put(Frame(READ_POLE_FILE, b"", pole_file(dice.pole(), pool.record, full) + NEUTRAL_RECORD, b"", 300))
+
+
 def put_every_divisor_fault(dice, collection, pools):
     """Every coefficient by itself, every length, every weight byte; scalars over 32 bytes."""
     for pool in pools:
@@ -1150,8 +1293,7 @@ def put_every_divisor_fault(dice, collection, pools):
                     elif operation == MULTIPLY:
                         collection.put(Frame(MULTIPLY, pool.record, record, dice.some_bytes(dice.pick([1, 33])), output))
                     elif operation == SCAN:
-                        total = r.flat_total(pool.anything(), dice.below(4096))
-                        collection.put(Frame(SCAN, pool.record, record, b"", 0, total))
+                        collection.put(scan_of(pool, record, r.flat_total(pool.anything(), dice.below(4096), dice.pole())))
                     else:
                         collection.put(Frame(operation, pool.record, record, b"", output))
             for scalar in (b"\0" * 32, b"\0" * 33, b"\0" * 32 + b"\1", dice.some_bytes(34), dice.some_bytes(64)):
@@ -1168,7 +1310,7 @@ def put_every_total_fault(dice, collection, pools):
             a = pool.anything()
             by_weight.setdefault(r.weight(a), a)
         for w, a in sorted(by_weight.items()):
-            good = r.flat_total(a, 0)[:7]
+            good = r.flat_total(a, 0, 0)[:7]
             totals = [good] + [(n,) + good[1:] for n in (0, 1, 2, 3, 4, 256 + w, 2**32 + w, 2**64 - 1)]
             for i in range(1, 7):
                 for c in (1, p, good[i] + p, 2**64 - 1):
@@ -1176,7 +1318,7 @@ def put_every_total_fault(dice, collection, pools):
             for total in totals:
                 count = dice.pick([0, 1, 4095, 4096, 4096, 4097, 2**32, 2**64 - 1])
                 record = dice.pick([r.write_divisor(pool.anything())] * 3 + [b"", b"\xff", divisor_record([p], [0])])
-                collection.put(Frame(SCAN, pool.record, record, b"", 0, total + (count,)))
+                collection.put(scan_of(pool, record, total + (count, dice.pole())))
 
 
 def put_long_batches(dice, collection, pools_of):
@@ -1273,6 +1415,10 @@ def made(seed):
     small[2] += [witnessed[g, LARGEST] for g in GENERA]
     put_refusals(dice, collection, [NEXT_DIVISOR], small)
     put_walks(dice, collection)
+    put_mixed_scans(dice, collection, [pools_of[g, p][k] for g in GENERA for p, k in ((7, 1), (2147483647, 2))] + [witnessed[g, LARGEST] for g in GENERA])
+    put_refusals(dice, collection, [WRITE_POLE_FILE, READ_POLE_FILE], {1: faulty, 2: [witnessed[g, p] for g in GENERA for p in (7, 11)]})
+    several = [pools_of[g, p][k] for g in GENERA for p in PRIMES[::2] for k in (0, 3)] + list(witnessed.values())
+    put_pole_files(dice, collection, several, [pools_of[2, 7][1], pools_of[3, 2147483647][0], witnessed[2, 7], witnessed[3, 11]])
     return collection
 
 
@@ -1291,6 +1437,11 @@ def kinds_of_repeat(curve, divisors, i, j):
     yield curve.g, "%s, weight %d" % (kind, len(a.u) - 1)
     if kind == REPEATS[1] and len(set(divisors)) < len(divisors):
         yield curve.g, "a repeat by sign, an equal pair behind it"
+
+
+def curve_of(frame):
+    """The curve record, which a pole file has in it."""
+    return r.front_curve(frame.first[9:]) if frame.operation == READ_POLE_FILE else frame.curve
 
 
 class Census:
@@ -1314,6 +1465,8 @@ class Census:
         self.split_on = defaultdict(set)  # by curve, the divisors of weight 2 or 3
         self.steps = Counter()
         self.walked = defaultdict(dict)  # by curve, what follows a divisor, None after the last
+        self.scanned = defaultdict(set)  # by curve and scan, the numbers that it's answered
+        self.files = defaultdict(set)  # that are written, read, or refused to be read
         self.text = []
         for frame in frames:
             self.take(frame)
@@ -1355,12 +1508,13 @@ class Census:
         self.take_order(frame, number)
         self.take_split(frame, number)
         self.take_step(frame, fields, out)
+        self.take_pole(frame, fields, out)
         if operation == MULTIPLY and number in (0, 19):
             self.multiples[r.read_curve(frame.curve).g, frame.second] += 1  # 0 as a scalar is 19
         if number != 0:
             return
         self.done[operation] += 1
-        curve = r.read_curve(frame.curve)
+        curve = r.read_curve(curve_of(frame))
         key = curve.g, curve.p
         self.done_per_curve[key, operation] += 1
         if operation == ADD and key in self.kinds:
@@ -1382,7 +1536,7 @@ class Census:
 
     def take_witness(self, frame, number):
         """What a curve record of version 2 has: its witness's faults where that is what is answered, the calls that are done."""
-        curve = frame.curve
+        curve = curve_of(frame)
         if curve[:5] != b"HJC\0\2" or number not in (0, 18):
             return
         g, p = curve[5], r.number_at(curve, 6)
@@ -1466,6 +1620,23 @@ class Census:
         self.walked[curve][a] = after = None if number == 24 else r.read_divisor(curve, out[:length], 1)
         self.steps[(*kind, r.weight(a), after and r.weight(after))] += 1
         self.steps["24 without an output"] += number == 24 and frame.output == 0
+
+    def take_pole(self, frame, fields, out):
+        """Scans by what they are answered, and pole files."""
+        number, _, length = fields[:3]
+        if frame.operation == SCAN and number in (0, 20):
+            self.scanned[frame.curve, frame.first].add(number)
+        if frame.operation == WRITE_POLE_FILE and number == 0:
+            self.files["written"].add(out[:length])
+        if frame.operation == READ_POLE_FILE:
+            self.files["read" if number == 0 else "refused"].add(frame.first)
+
+    def files_cut(self):
+        """Version and genus of the files that are read, and refused where they are cut at any byte or have one more."""
+        for file in self.files["read"]:
+            refused = [file[:n] for n in range(len(file))] + [file + b"\0"]
+            if self.files["refused"].issuperset(refused):
+                yield file[13], file[14]
 
     def by_weights(self):
         return [(kind, n) for kind, n in self.steps.items() if not isinstance(kind, str)]
@@ -1561,12 +1732,20 @@ class Census:
             need("steps: 25, p = %d" % p, self.steps["25, p = %d" % p], 4)
         for what in ("a byte short", "24 without an output", "25 without an output"):
             need("steps: " + what, self.steps[what], 10)
+        for g in GENERA:
+            mixed = sum(1 for (curve, _), answers in self.scanned.items() if curve[5] == g and answers == {0, 20})
+            need("scans, g = %d: taken for one total and refused 20 for another" % g, mixed, 10)
+        need("pole files that are written and read", len(self.files["written"] & self.files["read"]), 20)
+        for kind in itertools.product((1, 2), GENERA):
+            need("pole files of version %d, g = %d that are cut at every byte" % kind, kind in set(self.files_cut()), 1)
+        for number in (*range(1, 8), 9, 10, 11, 13, 18, 21, 22, 23):
+            need("reading a pole file: number %d" % number, self.numbers[READ_POLE_FILE, number], 4)
         # Neighbours in the order: each two stages that follow each other and can go together, in every call and version.
         for operation, version in itertools.product(CALLS, CURVE_FAULTS):
-            stages = Base(None, operation, None, version).stages
+            stages = base_of(None, operation, None, version).stages
             for one, other in zip(stages, stages[1:]):
                 cut_with_more = one[1] in ("8a", "1k")  # an empty record has no other fault, nor has one that ends before k
-                in_batch = operation in (TOTAL_BATCH, FIRST_REPEAT) and "8a" in (one[1], other[1])
+                in_batch = operation in BATCHES and "8a" in (one[1], other[1])
                 if not cut_with_more and not in_batch and is_asked(operation, version, stages, (one, other)):
                     names = tuple("%s %s" % stage for stage in (one, other))
                     need("%s, version %d: %s before %s" % (NAMES[operation], version, *names), self.orders[(NAMES[operation], version) + names], 1)
@@ -1630,6 +1809,12 @@ class Census:
             yield "steps, g = %d, version %d, weights: " % (g, version) + ", ".join("from %d to %d %d" % step if step[1] != 24 else "24 %d" % step[2] for step in done)
         yield "steps: " + ", ".join("%s %d" % (what, n) for what, n in sorted((k, n) for k, n in self.steps.items() if isinstance(k, str)))
         yield "walks from neutral to the last: " + ", ".join("g = %d, p = %d, version %d" % walk for walk in sorted(self.walks()))
+        mixed = sum(1 for answers in self.scanned.values() if answers == {0, 20})
+        yield "scans that are taken for one total and refused 20 for another: %d" % mixed
+        yield "pole files: %d written, %d read, %d of them both; %d refused" % (
+            len(self.files["written"]), len(self.files["read"]), len(self.files["written"] & self.files["read"]), len(self.files["refused"]),
+        )  # fmt: skip
+        yield "pole files cut at every byte: " + ", ".join("version %d, g = %d" % kind for kind in sorted(self.files_cut()))
         singles = sum(1 for order in self.orders if len(order) == 3)
         yield "refusals: %d stages by themselves, %d pairs of faults where the earlier must win" % (
             singles,

@@ -1,8 +1,10 @@
-// Each of C's answers as the line that tools/README.md says, and a running total by its 68 bytes. For tests: the contracts say no more than safety asks.
+// Each of C's answers as the line that tools/README.md says, a running total by its 68 bytes and a pole's number by its 4. For tests: the contracts
+// say no more than safety asks.
 ghost use mathlib.Core.Path.{_≡_};
 ghost use lib.ListN.{length};
 use c_answers::YubiAnswer;
 use c_answers::YubiMultiple;
+use c_answers::YubiPole;
 use c_answers::YubiRepeat;
 use c_answers::YubiTotal;
 use scan_flat::YubiRunning;
@@ -31,6 +33,11 @@ pub fn totalled(text: &mut [u8], a: YubiTotal, out: &[u8]) -> usize {
 pub fn repeated(text: &mut [u8], a: YubiRepeat) -> usize {
     let values = [a.number, a.place, a.length, a.first, a.second];
     prints::plain(text, &values)
+}
+
+pub fn pole_read(text: &mut [u8], a: YubiPole, out: &[u8]) -> usize {
+    let values = [a.number, a.place, a.length, a.pole as u64];
+    prints::with_output(text, &values, out)
 }
 
 pub fn scanned(text: &mut [u8], a: YubiScanned) -> usize {
@@ -66,6 +73,12 @@ pub fn running(s: &[u8]) -> YubiRunning
         count: big_endian::read64(s, 56),
         pole: big_endian::read32(s, 64) as u32,
     }
+}
+
+pub fn pole(s: &[u8]) -> u32
+    requires { ⌜ length (now s) ≡ 4 ⌝ }
+{
+    big_endian::read32(s, 0) as u32
 }
 
 pub fn is_fresh(t: YubiRunning) -> bool {

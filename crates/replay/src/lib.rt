@@ -1,6 +1,7 @@
 // A frame's call, run through the exported calls, and its line of text: what tools/README.md says of both. For tests: the contracts
 // say no more than safety asks.
 use c_answers::YubiAnswer;
+use c_answers::YubiMultiple;
 use scan_flat::YubiScanned;
 use scan_total::Running;
 
@@ -69,7 +70,31 @@ fn write(operation: u8, curve: &[u8], first: &[u8], second: &[u8], out: &mut [u8
     }
 }
 
-// The frame's line at the front of the text; answers its length, 0 where there is no such operation or a scan's total isn't 68 bytes.
+// Both multiply calls: 8 and 12.
+fn multiply(
+    operation: u8,
+    curve: &[u8],
+    first: &[u8],
+    second: &[u8],
+    out: &mut [u8],
+) -> YubiMultiple {
+    match operation {
+        8 => tablet::yubi_multiply(curve, first, second, out),
+        _ => tablet::yubi_multiply_inversion_free(curve, first, second, out),
+    }
+}
+
+// The pole's number stands where a scan has its total.
+fn write_file(text: &mut [u8], curve: &[u8], batch: &[u8], out: &mut [u8], pole: &[u8]) -> usize {
+    if pole.len() != 4 {
+        return 0;
+    }
+    let a = tablet::yubi_write_pole_file(answer_lines::pole(pole), curve, batch, out);
+    answer_lines::written(text, a, out)
+}
+
+// The frame's line at the front of the text; answers its length, 0 where there is no such operation, a scan's total isn't 68 bytes or a written
+// file's pole 4.
 pub fn line(
     operation: u8,
     curve: &[u8],
@@ -87,8 +112,8 @@ pub fn line(
             let a = write(operation, curve, first, second, out);
             answer_lines::written(text, a, out)
         }
-        8 => {
-            let a = tablet::yubi_multiply(curve, first, second, out);
+        8 | 12 => {
+            let a = multiply(operation, curve, first, second, out);
             answer_lines::multiplied(text, a, out)
         }
         9 => {
@@ -97,13 +122,14 @@ pub fn line(
         }
         10 => answer_lines::repeated(text, tablet::yubi_first_repeat(curve, first)),
         11 => scan(text, curve, first, total),
-        12 => {
-            let a = tablet::yubi_multiply_inversion_free(curve, first, second, out);
-            answer_lines::multiplied(text, a, out)
-        }
         13 => scan_lent(text, curve, first, total),
         14 => scan_inside(text, curve, first, total),
         15 => answer_lines::checked(text, tablet::yubi_check_order(curve, first, second, total)),
+        18 => write_file(text, curve, first, out, total),
+        19 => {
+            let a = tablet::yubi_read_pole_file(first, out);
+            answer_lines::pole_read(text, a, out)
+        }
         _ => 0,
     }
 }

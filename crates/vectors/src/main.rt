@@ -11,7 +11,7 @@ use libc::STDOUT_FILENO;
 // What each byte of an output holds before a call, and the longest output.
 const GUARD: u8 = 165;
 
-const MOST_OUTPUT: usize = 208;
+const MOST_OUTPUT: usize = 512;
 
 // The operations that are run through more than one call, whose lines must be the same; no frame has the others. A multiple has two, a scan three.
 const MULTIPLY: u8 = 8;
@@ -29,7 +29,7 @@ const MOST_LINE: usize = 512;
 
 // The line of the frame at the front of s by a call, put at the front of the text; answers its length, 0 where there is no such call.
 fn line_by(operation: u8, s: &[u8], f: Frame, text: &mut [u8]) -> usize
-    requires { ⌜ InOrder f × ((f .end ≤ length (now s)) × (f .output ≤ 208)) ⌝ }
+    requires { ⌜ InOrder f × ((f .end ≤ length (now s)) × (f .output ≤ 512)) ⌝ }
 {
     let a = f.first;
     let b = f.second;
@@ -50,7 +50,7 @@ fn line_by(operation: u8, s: &[u8], f: Frame, text: &mut [u8]) -> usize
 
 // Whether another call has this line for the frame.
 fn agrees(operation: u8, s: &[u8], f: Frame, wanted: &[u8]) -> bool
-    requires { ⌜ InOrder f × ((f .end ≤ length (now s)) × (f .output ≤ 208)) ⌝ }
+    requires { ⌜ InOrder f × ((f .end ≤ length (now s)) × (f .output ≤ 512)) ⌝ }
 {
     let mut again = [0; MOST_LINE];
     let n = line_by(operation, s, f, &mut again);
