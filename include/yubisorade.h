@@ -23,6 +23,9 @@
  *   scalar    0 to 32 bytes, unsigned. No bytes mean 0; leading zeros are allowed.
  *   primes    of an order: 0 to 32 primes below 2^31 in 4 bytes each, rising. The order itself is 0 to 32 bytes, as a scalar.
  *   batch     0 to 4096 divisor records, one behind the other, nothing between them.
+ *   scan      the number of a pole in 4 bytes, then one divisor record: 5 + 16w bytes.
+ *   pole file 'H' 'J' 'P', version 1 in 2 bytes, the number of a pole in 4 bytes, a curve record of either version, in 2 bytes how
+ *             many divisor records follow, 0 to 4096, and these: a batch.
  *
  * ARGUMENTS
  *   Bytes pass as a pointer and then a length. With length 0 any pointer but NULL will do; it isn't read. Each call checks
@@ -34,6 +37,8 @@
  *   a divisor  33 bytes for g = 2, 49 for g = 3 (YUBI_DIVISOR_ROOM)
  *   a curve    54 bytes for g = 2, 70 for g = 3 in version 1; 183 and 199 in version 2 (YUBI_CURVE_ROOM)
  *   a split    34 bytes for weight 2, 50 for weight 3 (YUBI_SPLIT_ROOM)
+ *   a pole file, written: 9 + 199 + 2 + 4096 * 49 bytes (YUBI_POLE_FILE_ROOM), or 11 more than curve and batch have
+ *   a pole file, read: 11 bytes less than the file has
  *   A smaller output does where the result is shorter: 1 + 16w bytes for weight w, a curve as long as it was given.
  *
  * STACK
@@ -43,8 +48,8 @@
  * ANSWERS
  *   Each call answers a number, a place and a length. On number 0 the result stands in the first `length` bytes of the
  *   output and the rest of the output keeps its bytes. On any other number no byte of an output changes, a running total
- *   comes back or stays as it was given, and length, counts, first and second are 0. The place says which divisor record is at
- *   fault, counted from 1, for the numbers 8 to 11 (1 where a call has one divisor); otherwise it is 0.
+ *   comes back or stays as it was given, and length, counts, first, second and a file's pole are 0. The place says which
+ *   divisor record is at fault, counted from 1, for the numbers 8 to 11 (1 where a call has one divisor); otherwise it is 0.
  *
  *   no.  given exactly when                                     what a crew should do
  *    0   done                                                   go on
@@ -59,14 +64,14 @@
  *    6   some f_i is p or more                                  report the curve to the office: damaged or wrongly made
  *    7   f has a repeated factor                                report the curve to the office: unfit for meters
  *    8   a divisor record is empty, or not 1 + 16w bytes (in a  scan that meter again: the record is cut, or too long
- *        batch: fewer bytes remain)
+ *        batch: fewer bytes remain); a scan has under 4 bytes
  *    9   the weight w is above g                                check that meter and curve belong together; scan again
  *   10   some u_i or v_i is p or more                           check that meter and curve belong together; scan again
  *   11   u doesn't divide f - v^2                               scan again; if it stays, the meter isn't on this curve:
  *                                                               leave it out and report it
  *   12   the scalar or the order has more than 32 bytes         mend the caller: a scalar has at most 256 bits
- *   13   the output is shorter than the result                  mend the caller: lend YUBI_DIVISOR_ROOM, YUBI_CURVE_ROOM or
- *                                                               YUBI_SPLIT_ROOM bytes
+ *   13   the output is shorter than the result                  mend the caller: lend YUBI_DIVISOR_ROOM, YUBI_CURVE_ROOM,
+ *                                                               YUBI_SPLIT_ROOM or YUBI_POLE_FILE_ROOM bytes
  *   14   a batch goes on after 4096 good records, or a running  close this list and begin a new one
  *        total already holds 4096
  *   15   a running total's divisor has a number of p or more,   begin the list again with yubi_fresh_total: the total is
@@ -78,6 +83,13 @@
  *                                                               with a right witness
  *   19   the divisor given or its multiple is neutral, in       don't commission the meter: its key would be empty. Ask
  *        yubi_multiply or yubi_multiply_inversion_free          the office for a new key
+ *   20   in a scan: it is for another pole than the total       scan it again for its own pole: the total stays as it was
+ *   21   in a pole file: the mark isn't HJP                     load the right file: this one isn't a pole's
+ *   22   in a pole file: the version isn't 1                    ask for a pole file in version 1, or a newer tablet
+ *   23   in a pole file: it is shorter than 9 bytes, ends       load the pole file again: it is cut, or something was added to
+ *        before the count or before the last record that the    it
+ *        count says, goes on behind that one, or the count is
+ *        over 4096
  *   24   in yubi_next_divisor: the divisor given is the last    go on: the census is complete
  *   25   in yubi_next_divisor: p is above 13                    take a training curve, with p of 13 or less
  *   26   in yubi_split: the divisor's weight is below 2, or u   keep that divisor whole: it can't be split, and nothing is
@@ -90,8 +102,10 @@
  *        no prime below 2^31 or doesn't divide the order
  *
  *   Where several would fit, the first in this order is given: the curve's 1 (under 6 bytes), 2, 3, 4, then in version 1 1, 5,
- *   and in version 2 1 (ends before k), 18 (k), 1, 5, 18, then in both 6, 7; for a scan 15, 14; for a census 25; then the
- *   divisors from first to last, each 8 (empty), 9, 8 (length), 10, 11; then 12; then 19, 24, 26 or 27; then 13.
+ *   and in version 2 1 (ends before k), 18 (k), 1, 5, 18, then in both 6, 7; for a scan 15, 14, 8 (under 4 bytes), 20; for a census
+ *   25; then the divisors from first to last, each 8 (empty), 9, 8 (length), 10, 11; then 12; then 19, 24, 26 or 27; then 13.
+ *   A pole file that is read has 23 (under 9 bytes), 21, 22, then the curve's, 1 where it is cut short, then 23 (the count), then
+ *   its records from first to last, each 23 (missing), 9, 23 (cut short), 10, 11, then 23 (bytes left over), then 13.
  */
 #ifndef YUBISORADE_H
 #define YUBISORADE_H
@@ -103,10 +117,12 @@
 extern "C" {
 #endif
 
-/* Bytes that hold any divisor record, any curve record, the two records of any split, the longest scalar or order. */
+/* Bytes that hold any divisor record, any curve record, the two records of any split, any pole file, the longest scalar or
+ * order. */
 #define YUBI_DIVISOR_ROOM 49
 #define YUBI_CURVE_ROOM 199
 #define YUBI_SPLIT_ROOM 50
+#define YUBI_POLE_FILE_ROOM 200914
 #define YUBI_SCALAR_ROOM 32
 
 /* The largest p of a training curve. */
@@ -152,7 +168,8 @@ typedef struct YubiRepeat {
     uint64_t second; /* place of the later one; 0 for none */
 } YubiRepeat;
 
-/* A running total: a divisor and a count. Begin with yubi_fresh_total. Coefficients from u_w and v_w on are 0. */
+/* A running total of one pole: a divisor, a count and the pole's number. Begin with yubi_fresh_total. Coefficients from u_w and v_w
+ * on are 0. */
 typedef struct YubiRunning {
     uint64_t weight;
     uint64_t u0;
@@ -162,6 +179,7 @@ typedef struct YubiRunning {
     uint64_t v1;
     uint64_t v2;
     uint64_t count; /* scans taken */
+    uint32_t pole;  /* the only pole whose scans it takes */
 } YubiRunning;
 
 /* What yubi_scan answers. */
@@ -171,6 +189,14 @@ typedef struct YubiScanned {
     uint64_t length;   /* always 0: a scan writes no output */
     YubiRunning total; /* the total after the scan; as it was given where the number isn't 0 */
 } YubiScanned;
+
+/* What yubi_read_pole_file answers. */
+typedef struct YubiPole {
+    uint64_t number;
+    uint64_t place;
+    uint64_t length;
+    uint32_t pole; /* the pole's number; 0 where the number isn't 0 */
+} YubiPole;
 
 /* Checks a curve record: 0 to 7, 18. Writes nothing. The calls below check their curve too, and may answer 18 for it. */
 YubiAnswer yubi_check_curve(const uint8_t *curve, size_t curve_length);
@@ -238,17 +264,27 @@ YubiTotal yubi_total_batch(const uint8_t *curve, size_t curve_length, const uint
  * second, then the least first before it; both 0 where no two are: 0 to 11, 14. Mind the stack. */
 YubiRepeat yubi_first_repeat(const uint8_t *curve, size_t curve_length, const uint8_t *batch, size_t batch_length);
 
-/* A running total that has taken no scan: neutral, count 0. */
-YubiRunning yubi_fresh_total(void);
+/* A pole's running total that has taken no scan: neutral, count 0. Every number is a pole's. */
+YubiRunning yubi_fresh_total(uint32_t pole);
 
-/* Adds one divisor record to a running total, and 1 to its count: 0 to 11, 14, 15. From a fresh total, after each scan the
- * total is the batch total of the records taken so far under the same curve. */
-YubiScanned yubi_scan(YubiRunning total, const uint8_t *curve, size_t curve_length, const uint8_t *record,
-                      size_t record_length);
+/* Adds the divisor of one scan to a running total, and 1 to its count: 0 to 11, 14, 15, 20. A scan begins with the number of its
+ * pole, and one for another pole gives 20, whatever record follows. From a fresh total, after each scan the total is the batch total
+ * of the pole's own records taken so far under the same curve, whatever was scanned for others between them. */
+YubiScanned yubi_scan(YubiRunning total, const uint8_t *curve, size_t curve_length, const uint8_t *scan, size_t scan_length);
 
-/* The same scan into a running total that is lent, not NULL, and changed in place: 0 to 11, 14, 15. */
-YubiAnswer yubi_scan_lent(YubiRunning *total, const uint8_t *curve, size_t curve_length, const uint8_t *record,
-                          size_t record_length);
+/* The same scan into a running total that is lent, not NULL, and changed in place: 0 to 11, 14, 15, 20. */
+YubiAnswer yubi_scan_lent(YubiRunning *total, const uint8_t *curve, size_t curve_length, const uint8_t *scan,
+                          size_t scan_length);
+
+/* Checks a curve record and a batch, and writes the file of a pole that has them to out: 0 to 11, 13, 14. */
+YubiAnswer yubi_write_pole_file(uint32_t pole, const uint8_t *curve, size_t curve_length, const uint8_t *batch,
+                                size_t batch_length, uint8_t *out, size_t out_length);
+
+/* Checks a pole file, answers the pole's number, and writes the file's curve record to out and its divisor records behind it: 0 to
+ * 7, 9 to 11, 13, 21 to 23. The curve record is the first 22 + 16g bytes of what was written in version 1, the first 31 + 16g + 8k
+ * in version 2: its version stands in the bytes 3 and 4, g in byte 5, k in byte 30 + 16g, counted from 0. What follows, up to
+ * `length`, is a batch. Written again, pole, curve and batch make the same file, byte for byte. */
+YubiPole yubi_read_pole_file(const uint8_t *file, size_t file_length, uint8_t *out, size_t out_length);
 
 #ifdef __cplusplus
 }

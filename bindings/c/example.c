@@ -7,6 +7,7 @@
 
 #include <inttypes.h>
 #include <stdio.h>
+#include <string.h>
 
 static const uint8_t curve[54] = {
     'H', 'J', 'C', 0, 1, 2,
@@ -15,7 +16,7 @@ static const uint8_t curve[54] = {
     /* f_1 to f_4 are 0 */
 };
 
-enum { RECORD = 17, RECORDS = 3 };
+enum { RECORD = 17, RECORDS = 3, POLE = 7 };
 
 static const uint8_t batch[RECORDS * RECORD] = {
     1, 0, 0, 0, 0, 0, 0, 0, 0, 0, 0, 0, 0, 0, 0, 0, 1, /* u_0 = 0, v_0 = 1 */
@@ -67,14 +68,16 @@ int main(void)
         printf("repeat %" PRIu64 " %" PRIu64 "\n", repeat.first, repeat.second);
     print_total(out, total.length);
 
-    /* One by one. */
-    YubiRunning t = yubi_fresh_total();
+    /* One by one, as scans for pole 7, each with the pole's number before its record. */
+    YubiRunning t = yubi_fresh_total(POLE);
     for (int i = 0; i < RECORDS; i++) {
-        YubiAnswer scanned = yubi_scan_lent(&t, curve, sizeof curve, batch + i * RECORD, RECORD);
+        uint8_t scan[4 + RECORD] = {0, 0, 0, POLE};
+        memcpy(scan + 4, batch + i * RECORD, RECORD);
+        YubiAnswer scanned = yubi_scan_lent(&t, curve, sizeof curve, scan, sizeof scan);
         if (scanned.number != 0)
             return refused(scanned.number, scanned.place);
     }
-    if (t.count != total.count || t.weight != 2 || out[0] != 2 || t.u0 != number_at(out + 1)
+    if (t.count != total.count || t.pole != POLE || t.weight != 2 || out[0] != 2 || t.u0 != number_at(out + 1)
         || t.u1 != number_at(out + 9) || t.v0 != number_at(out + 17) || t.v1 != number_at(out + 25) || t.u2 != 0
         || t.v2 != 0) {
         fprintf(stderr, "the running total differs from the batch total\n");

@@ -19,9 +19,11 @@ pub enum Call<'a> {
     NextDivisor { curve: &'a [u8], divisor: &'a [u8] },
     TotalBatch { curve: &'a [u8], batch: &'a [u8] },
     FirstRepeat { curve: &'a [u8], batch: &'a [u8] },
-    FreshTotal,
-    Scan { total: Running, curve: &'a [u8], record: &'a [u8] },
-    ScanLent { total: Running, curve: &'a [u8], record: &'a [u8] },
+    FreshTotal { pole: u32 },
+    Scan { total: Running, curve: &'a [u8], scan: &'a [u8] },
+    ScanLent { total: Running, curve: &'a [u8], scan: &'a [u8] },
+    WritePoleFile { pole: u32, curve: &'a [u8], batch: &'a [u8] },
+    ReadPoleFile { file: &'a [u8] },
 }
 
 /// What came back.
@@ -31,7 +33,7 @@ pub struct Reply {
     pub number: u64,
     pub place: u64,
     pub length: u64,
-    /// The other numbers of the answer in their order: doublings and additions, the count, or first and second.
+    /// The other numbers of the answer in their order: doublings and additions, the count, first and second, or the pole.
     pub counts: [u64; 2],
     /// The running total as it stands after the call.
     pub total: Running,
@@ -47,7 +49,7 @@ impl Call<'_> {
                 | CheckDivisor { .. }
                 | CheckOrder { .. }
                 | FirstRepeat { .. }
-                | FreshTotal
+                | FreshTotal { .. }
                 | Scan { .. }
                 | ScanLent { .. }
         )
@@ -84,7 +86,7 @@ macro_rules! reply {
     ($answer:expr, [$($count:ident),*]) => {{
         let answer = $answer;
         let mut counts = [0; 2];
-        for (to, from) in counts.iter_mut().zip(&[$(answer.$count),*] as &[u64]) {
+        for (to, from) in counts.iter_mut().zip(&[$(u64::from(answer.$count)),*] as &[u64]) {
             *to = *from;
         }
         Reply { number: answer.number, place: answer.place, length: answer.length, counts, total: Running::default() }
@@ -117,16 +119,18 @@ macro_rules! answer_through {
             Call::NextDivisor { curve, divisor } => reply!(calls::next_divisor(curve, divisor, $out)),
             Call::TotalBatch { curve, batch } => reply!(calls::total_batch(curve, batch, $out), [count]),
             Call::FirstRepeat { curve, batch } => reply!(calls::first_repeat(curve, batch), [first, second]),
-            Call::FreshTotal => Reply { total: $flat(calls::fresh_total()), ..Reply::default() },
-            Call::Scan { total, curve, record } => {
-                let answer = calls::scan($back(total), curve, record);
+            Call::FreshTotal { pole } => Reply { total: $flat(calls::fresh_total(pole)), ..Reply::default() },
+            Call::Scan { total, curve, scan } => {
+                let answer = calls::scan($back(total), curve, scan);
                 Reply { total: $flat(answer.total), ..reply!(answer) }
             }
-            Call::ScanLent { total, curve, record } => {
+            Call::ScanLent { total, curve, scan } => {
                 let mut lent = $back(total);
-                let answer = calls::scan_lent(&mut lent, curve, record);
+                let answer = calls::scan_lent(&mut lent, curve, scan);
                 Reply { total: $flat(lent), ..reply!(answer) }
             }
+            Call::WritePoleFile { pole, curve, batch } => reply!(calls::write_pole_file(pole, curve, batch, $out)),
+            Call::ReadPoleFile { file } => reply!(calls::read_pole_file(file, $out), [pole]),
         }
     }};
 }
@@ -158,12 +162,12 @@ impl Engine for Proved {
     fn answer(&self, call: &Call, out: &mut [u8]) -> Reply {
         use yubisorade::raw::YubiRunning;
         let flat = |t: YubiRunning| {
-            let YubiRunning { weight, u0, u1, u2, v0, v1, v2, count } = t;
-            Running { weight, u0, u1, u2, v0, v1, v2, count }
+            let YubiRunning { weight, u0, u1, u2, v0, v1, v2, count, pole } = t;
+            Running { weight, u0, u1, u2, v0, v1, v2, count, pole }
         };
         let back = |t: Running| {
-            let Running { weight, u0, u1, u2, v0, v1, v2, count } = t;
-            YubiRunning { weight, u0, u1, u2, v0, v1, v2, count }
+            let Running { weight, u0, u1, u2, v0, v1, v2, count, pole } = t;
+            YubiRunning { weight, u0, u1, u2, v0, v1, v2, count, pole }
         };
         answer_through!(yubisorade::raw, call, out, flat, back)
     }

@@ -2,6 +2,7 @@
 
 use crate::engine::{Call, Engine, Reply};
 use crate::inputs::{Class, Pair, Rng};
+use crate::laws::broken_law;
 use crate::splits::Shape;
 use std::collections::BTreeMap;
 
@@ -49,11 +50,38 @@ pub struct Tally {
     pub walks: BTreeMap<(usize, u64), Walks>,
     /// Steps of a census that were done, those of whole curves among them.
     pub steps: u64,
+    /// Pole files that were written, and read back by each engine; and those that were read, and written again.
+    pub files_written: u64,
+    pub files_read: u64,
     /// Calls by the number answered.
     pub numbers: BTreeMap<u64, u64>,
     pub census: BTreeMap<(usize, u64), Census>,
     /// Sums and doubles of [`crate::plan::sums_by_class`]: by genus, whether f_2g isn't 0, whether it is a double, and class.
     pub classes: BTreeMap<(usize, bool, bool, Class), u64>,
+}
+
+impl Tally {
+    /// Counts what a call was answered.
+    fn count(&mut self, call: &Call, reply: &Reply) {
+        *self.numbers.entry(reply.number).or_default() += 1;
+        if reply.number != 0 {
+            return;
+        }
+        match call {
+            Call::CheckOrder { .. } => self.orders += 1,
+            Call::Split { .. } => self.added_back += 1,
+            Call::NextDivisor { .. } => self.steps += 1,
+            Call::WritePoleFile { .. } => self.files_written += 1,
+            Call::ReadPoleFile { .. } => self.files_read += 1,
+            _ => (),
+        }
+        let not_neutral = match call {
+            Call::RewriteCurve { .. } | Call::WritePoleFile { .. } | Call::ReadPoleFile { .. } => false,
+            Call::Scan { .. } | Call::ScanLent { .. } => reply.total.weight > 0,
+            _ => reply.length > 1,
+        };
+        self.not_neutral += u64::from(not_neutral);
+    }
 }
 
 pub struct Judge<'e> {
@@ -107,28 +135,7 @@ impl<'e> Judge<'e> {
         });
 
         self.tally.calls += 1;
-        let [first, second] = &outcomes;
-        let mut faults = Vec::new();
-        for (outcome, engine) in outcomes.iter().zip(self.engines) {
-            let broken = broken_rule(call, outcome, before, guard, room);
-            if let Some(fault) = broken.or_else(|| broken_split(engine, call, &outcome.reply, &outcome.buffer[guard..]))
-            {
-                faults.push(format!("{}: {}", engine.name(), fault));
-            }
-        }
-        if first.reply != second.reply {
-            faults.push("the answers differ".to_string());
-        }
-        if first.buffer != second.buffer {
-            faults.push("the outputs differ".to_string());
-        }
-        if let Some(twins) = twins {
-            for (k, engine) in self.engines.iter().enumerate() {
-                if outcomes[k] != twins[k] {
-                    faults.push(format!("{}: the two multiply calls differ", engine.name()));
-                }
-            }
-        }
+        let faults = self.faults(call, &outcomes, before, guard, room, twins);
         if !faults.is_empty() {
             self.tally.differences += 1;
             if self.tally.differences <= SHOWN && !self.quiet {
@@ -140,21 +147,41 @@ impl<'e> Judge<'e> {
                 }
             }
         }
-
-        let reply = second.reply;
-        *self.tally.numbers.entry(reply.number).or_default() += 1;
-        self.tally.orders += u64::from(matches!(call, Call::CheckOrder { .. }) && reply.number == 0);
-        self.tally.steps += u64::from(matches!(call, Call::NextDivisor { .. }) && reply.number == 0);
-        self.tally.added_back += u64::from(matches!(call, Call::Split { .. }) && reply.number == 0);
-        let moved = matches!(call, Call::Scan { .. } | Call::ScanLent { .. }) && reply.total.weight > 0;
-        let wrote = !matches!(call, Call::RewriteCurve { .. }) && reply.length > 1;
-        if reply.number == 0 && (moved || wrote) {
-            self.tally.not_neutral += 1;
-        }
+        self.tally.count(call, &outcomes[1].reply);
         if self.tally.calls % STEP == 0 && !self.quiet {
             println!("{} calls, {} differences", self.tally.calls, self.tally.differences);
         }
         outcomes
+    }
+
+    /// What is wrong with the outcomes of a call: of each alone, between the two, and with those of its twin.
+    fn faults(
+        &self,
+        call: &Call,
+        outcomes: &[Outcome; 2],
+        before: &[u8],
+        guard: usize,
+        room: usize,
+        twins: Option<[Outcome; 2]>,
+    ) -> Vec<String> {
+        let mut faults = Vec::new();
+        for (k, engine) in self.engines.into_iter().enumerate() {
+            let Outcome { reply, buffer } = &outcomes[k];
+            let broken = broken_rule(call, &outcomes[k], before, guard, room)
+                .or_else(|| broken_law(engine, call, reply, &buffer[guard..guard + reply.length as usize]));
+            faults.extend(broken.map(|fault| format!("{}: {}", engine.name(), fault)));
+            if twins.as_ref().map_or(false, |twins| outcomes[k] != twins[k]) {
+                faults.push(format!("{}: the two multiply calls differ", engine.name()));
+            }
+        }
+        let [first, second] = outcomes;
+        if first.reply != second.reply {
+            faults.push("the answers differ".to_string());
+        }
+        if first.buffer != second.buffer {
+            faults.push("the outputs differ".to_string());
+        }
+        faults
     }
 
     /// Counts a pair of divisors that is about to be added.
@@ -189,9 +216,13 @@ fn broken_rule(call: &Call, outcome: &Outcome, before: &[u8], guard: usize, room
         Call::NextDivisor { .. } => &[24, 25],
         Call::Split { .. } => &[26],
         Call::CheckOrder { .. } => &[27],
+        Call::Scan { .. } | Call::ScanLent { .. } => &[20],
+        Call::ReadPoleFile { .. } => &[21, 22, 23],
         _ => &[],
     };
-    if !matches!(reply.number, 0..=15 | 18) && !own.contains(&reply.number) {
+    // A file that ends early is 23, and a count that is too large.
+    let not_own = matches!(call, Call::ReadPoleFile { .. }) && matches!(reply.number, 8 | 14);
+    if not_own || !matches!(reply.number, 0..=15 | 18) && !own.contains(&reply.number) {
         return Some("a number that isn't in the call's table");
     }
     if multiply && written == 1 {
@@ -221,22 +252,6 @@ fn broken_rule(call: &Call, outcome: &Outcome, before: &[u8], guard: usize, room
     None
 }
 
-/// A split that is done must come to the divisor again, by the same engine's sum of the two records it wrote.
-fn broken_split(engine: &dyn Engine, call: &Call, reply: &Reply, output: &[u8]) -> Option<&'static str> {
-    let (curve, divisor) = match *call {
-        Call::Split { curve, divisor } if reply.number == 0 => (curve, divisor),
-        _ => return None,
-    };
-    let written = &output[..reply.length as usize];
-    if written.len() != divisor.len() + 1 {
-        return Some("a length that the split can't have");
-    }
-    let (a, b) = written.split_at(17);
-    let mut sum = [0; 49];
-    let length = engine.answer(&Call::Add { curve, a, b }, &mut sum).length as usize;
-    Some("the parts don't add up").filter(|_| sum[..length] != *divisor)
-}
-
 fn hex(bytes: &[u8]) -> String {
     bytes.iter().map(|byte| format!("{:02x}", byte)).collect()
 }
@@ -262,8 +277,12 @@ fn shown(call: &Call) -> String {
         Call::NextDivisor { curve, divisor } => format!("next_divisor {} {}", hex(curve), hex(divisor)),
         Call::TotalBatch { curve, batch } => format!("total_batch {} {}", hex(curve), hex(batch)),
         Call::FirstRepeat { curve, batch } => format!("first_repeat {} {}", hex(curve), hex(batch)),
-        Call::FreshTotal => "fresh_total".to_string(),
-        Call::Scan { total, curve, record } => format!("scan {:?} {} {}", total, hex(curve), hex(record)),
-        Call::ScanLent { total, curve, record } => format!("scan_lent {:?} {} {}", total, hex(curve), hex(record)),
+        Call::FreshTotal { pole } => format!("fresh_total {}", pole),
+        Call::Scan { total, curve, scan } => format!("scan {:?} {} {}", total, hex(curve), hex(scan)),
+        Call::ScanLent { total, curve, scan } => format!("scan_lent {:?} {} {}", total, hex(curve), hex(scan)),
+        Call::WritePoleFile { pole, curve, batch } => {
+            format!("write_pole_file {} {} {}", pole, hex(curve), hex(batch))
+        }
+        Call::ReadPoleFile { file } => format!("read_pole_file {}", hex(file)),
     }
 }

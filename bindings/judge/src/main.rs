@@ -13,9 +13,11 @@ mod census;
 mod engine;
 mod inputs;
 mod judge;
+mod laws;
 mod multiples;
 mod orders;
 mod plan;
+mod poles;
 mod splits;
 
 use engine::{Engine, Plain};
@@ -153,4 +155,8 @@ fn report_pairs(tally: &Tally) {
         );
     }
     println!("{} steps of a census", tally.steps);
+    println!(
+        "{} pole files written and read back, {} read and written again, by both engines",
+        tally.files_written, tally.files_read
+    );
 }

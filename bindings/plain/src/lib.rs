@@ -31,6 +31,7 @@ mod field;
 mod full;
 mod large;
 mod order;
+mod pole;
 mod poly;
 mod record;
 mod split;
@@ -94,7 +95,7 @@ pub struct Repeat {
     pub second: u64,
 }
 
-/// A running total: a divisor and a count. Coefficients that the weight doesn't use are 0.
+/// A running total: a divisor, a count and a pole. Coefficients that the weight doesn't use are 0.
 #[derive(Clone, Copy, Debug, Default, PartialEq, Eq)]
 pub struct Running {
     pub weight: u64,
@@ -105,6 +106,7 @@ pub struct Running {
     pub v1: u64,
     pub v2: u64,
     pub count: u64,
+    pub pole: u32,
 }
 
 /// What [`scan`] answers.
@@ -115,6 +117,16 @@ pub struct Scanned {
     pub length: u64,
     /// The total after the scan; as it was lent on a refusal.
     pub total: Running,
+}
+
+/// What [`read_pole_file`] answers.
+#[derive(Clone, Copy, Debug, Default, PartialEq, Eq)]
+pub struct Pole {
+    pub number: u64,
+    pub place: u64,
+    pub length: u64,
+    /// The pole's number.
+    pub pole: u32,
 }
 
 impl From<Result<usize, Refused>> for Answer {
@@ -138,12 +150,7 @@ pub fn check_divisor(curve: &[u8], divisor: &[u8]) -> Answer {
 
 /// Writes a checked curve record anew. An accepted record has one form, so these are the bytes given.
 pub fn rewrite_curve(curve: &[u8], out: &mut [u8]) -> Answer {
-    read_curve(curve)
-        .and_then(|_| {
-            out.get_mut(..curve.len()).ok_or(Refused::new(13))?.copy_from_slice(curve);
-            Ok(curve.len())
-        })
-        .into()
+    read_curve(curve).and_then(|_| put(curve, out)).into()
 }
 
 /// Writes a checked divisor record anew.
@@ -181,8 +188,7 @@ pub fn split(curve: &[u8], divisor: &[u8], out: &mut [u8]) -> Answer {
             for part in &parts {
                 length += write_divisor(&curve, part, &mut both[length..])?;
             }
-            out.get_mut(..length).ok_or(Refused::new(13))?.copy_from_slice(&both[..length]);
-            Ok(length)
+            put(&both[..length], out)
         })
         .into()
 }
@@ -275,27 +281,56 @@ pub fn first_repeat(curve: &[u8], batch: &[u8]) -> Repeat {
     }
 }
 
-/// A running total that has seen no scan: neutral, with count 0.
-pub fn fresh_total() -> Running {
-    Running::default()
+/// A running total of a pole that has seen no scan: neutral, with count 0.
+pub fn fresh_total(pole: u32) -> Running {
+    Running { pole, ..Running::default() }
 }
 
-/// Adds one record to a running total.
-pub fn scan(total: Running, curve: &[u8], record: &[u8]) -> Scanned {
-    match scanned(&total, curve, record) {
+/// Adds one scan to a running total: 4 bytes with the pole's number, then a divisor record. A scan for another pole is refused.
+pub fn scan(total: Running, curve: &[u8], scan: &[u8]) -> Scanned {
+    match scanned(&total, curve, scan) {
         Ok(total) => Scanned { total, ..Scanned::default() },
         Err(Refused { number, place }) => Scanned { number, place, length: 0, total },
     }
 }
 
-/// Adds one record to a running total in place.
-pub fn scan_lent(total: &mut Running, curve: &[u8], record: &[u8]) -> Answer {
-    scanned(total, curve, record)
+/// Adds one scan to a running total in place.
+pub fn scan_lent(total: &mut Running, curve: &[u8], scan: &[u8]) -> Answer {
+    scanned(total, curve, scan)
         .map(|next| {
             *total = next;
             0
         })
         .into()
+}
+
+/// Writes a pole file: its head, the curve record, how many records the batch has, and the batch.
+pub fn write_pole_file(pole: u32, curve: &[u8], batch: &[u8], out: &mut [u8]) -> Answer {
+    pole::write(pole, curve, batch).and_then(|file| put(&file, out)).into()
+}
+
+/// Reads a pole file: writes its curve record, then its divisor records, and answers the pole.
+pub fn read_pole_file(file: &[u8], out: &mut [u8]) -> Pole {
+    let read = pole::read(file).and_then(|pole::Contents { pole, curve, records }| {
+        let length = put(&[curve, records].concat(), out)?;
+        Ok((length, pole))
+    });
+    let pole = read.map_or(0, |(_, pole)| pole);
+    let Answer { number, place, length } = read.map(|(length, _)| length).into();
+    Pole { number, place, length, pole }
+}
+
+/// Writes bytes to the front of an output that has room for them, and gives how many.
+fn put(bytes: &[u8], out: &mut [u8]) -> Result<usize, Refused> {
+    out.get_mut(..bytes.len()).ok_or(Refused::new(13))?.copy_from_slice(bytes);
+    Ok(bytes.len())
+}
+
+/// How many records a batch has, all of them good on a good curve.
+fn checked_batch(curve: &[u8], batch: &[u8]) -> Result<u64, Refused> {
+    let mut count = 0;
+    each_record(&read_curve(curve)?, batch, |_| count += 1)?;
+    Ok(count)
 }
 
 /// The curve, and the one divisor of a call.
@@ -328,15 +363,19 @@ fn steps(scalar: &[u8]) -> (u64, u64) {
 }
 
 /// The running total after a scan.
-fn scanned(total: &Running, curve: &[u8], record: &[u8]) -> Result<Running, Refused> {
+fn scanned(total: &Running, curve: &[u8], scan: &[u8]) -> Result<Running, Refused> {
     let curve = read_curve(curve)?;
     let divisor = held(&curve, total).ok_or(Refused::new(15))?;
     if total.count == MOST_RECORDS {
         return Err(Refused::new(14));
     }
-    let record = read_divisor(&curve, record, 1)?;
+    let pole = scan.get(..4).ok_or(Refused::at(8, 1))?;
+    if pole != total.pole.to_be_bytes() {
+        return Err(Refused::new(20));
+    }
+    let record = read_divisor(&curve, &scan[4..], 1)?;
     let Divisor { weight, u: [u0, u1, u2], v: [v0, v1, v2] } = curve.numbers(&curve.add(&divisor, &record));
-    Ok(Running { weight: weight as u64, u0, u1, u2, v0, v1, v2, count: total.count + 1 })
+    Ok(Running { weight: weight as u64, u0, u1, u2, v0, v1, v2, count: total.count + 1, pole: total.pole })
 }
 
 /// The divisor that a running total holds, or `None` where the total isn't one of this curve.

@@ -21,7 +21,7 @@ impl Refused {
         Refused { number, place: 0 }
     }
 
-    const fn at(number: u64, place: u64) -> Refused {
+    pub const fn at(number: u64, place: u64) -> Refused {
         Refused { number, place }
     }
 }

@@ -320,14 +320,15 @@ fn the_pole_of_the_contract() {
     assert_eq!(first_repeat(&c, &batch), Repeat { first: 1, second: 3, ..Repeat::default() });
     assert_eq!(first_repeat(&c, &batch[..34]), Repeat::default());
 
-    let mut total = fresh_total();
+    let mut total = fresh_total(0x0102_0304);
     for (n, record) in batch.chunks(17).enumerate() {
-        let by_value = scan(total, &c, record);
-        assert_eq!(scan_lent(&mut total, &c, record), Answer::default());
+        let for_pole = [&[1, 2, 3, 4], record].concat();
+        let by_value = scan(total, &c, &for_pole);
+        assert_eq!(scan_lent(&mut total, &c, &for_pole), Answer::default());
         assert_eq!(by_value, Scanned { total, ..Scanned::default() });
         assert_eq!(total.count, n as u64 + 1);
     }
-    assert_eq!(total, Running { weight: 2, u0: 4, u1: 4, u2: 0, v0: 0, v1: 1, v2: 0, count: 3 });
+    assert_eq!(total, Running { weight: 2, u0: 4, u1: 4, v1: 1, count: 3, pole: 0x0102_0304, ..Running::default() });
 }
 
 #[test]
@@ -386,8 +387,10 @@ fn repeats_by_sign() {
 
 #[test]
 fn running_totals_refused() {
-    let (c, a) = (curve_a(), divisor(&[0], &[1]));
-    let good = Running { weight: 1, u0: 6, v0: 3, count: 7, ..Running::default() };
+    let c = curve_a();
+    let for_pole = |record: &[u8]| [&[0, 1, 0, 9], record].concat();
+    let a = for_pole(&divisor(&[0], &[1]));
+    let good = Running { weight: 1, u0: 6, v0: 3, count: 7, pole: 0x10009, ..Running::default() };
     let number = |total: Running, curve: &[u8], record: &[u8]| {
         let answer = scan(total, curve, record);
         if answer.number != 0 {
@@ -425,11 +428,184 @@ fn running_totals_refused() {
     }
     assert_eq!(number(full, &c, &[]), (14, 0));
     assert_eq!(number(Running { count: 4095, ..good }, &c, &a), (0, 0));
-    assert_eq!(number(good, &c, &[]), (8, 1));
-    assert_eq!(number(good, &c, &[0, 0]), (8, 1));
-    assert_eq!(number(good, &c, &[3]), (9, 1));
-    assert_eq!(number(good, &c, &divisor(&[7], &[0])), (10, 1));
-    assert_eq!(number(good, &c, &divisor(&[0], &[2])), (11, 1));
+    for short in 0..4 {
+        assert_eq!((number(good, &c, &a[..short]), number(good, &c, &[0; 4][..short])), ((8, 1), (8, 1)));
+        assert_eq!(number(full, &c, &a[..short]), (14, 0));
+    }
+    // Another pole, by every bit of its number, comes before any fault of the record and after a full total.
+    for bit in 0..32 {
+        let other = Running { pole: good.pole ^ 1 << bit, ..good };
+        for scan in [&a[..], &a[..4], &for_pole(&[3]), &for_pole(&divisor(&[0], &[2]))] {
+            assert_eq!(number(other, &c, scan), (20, 0));
+        }
+        assert_eq!(number(Running { count: 4096, ..other }, &c, &a), (14, 0));
+        assert_eq!(number(Running { v0: 2, ..other }, &c, &a), (15, 0));
+    }
+    assert_eq!(number(good, &c, &a[..4]), (8, 1));
+    assert_eq!(number(good, &c, &for_pole(&[0, 0])), (8, 1));
+    assert_eq!(number(good, &c, &for_pole(&[3])), (9, 1));
+    assert_eq!(number(good, &c, &for_pole(&divisor(&[7], &[0]))), (10, 1));
+    assert_eq!(number(good, &c, &for_pole(&divisor(&[0], &[2]))), (11, 1));
+}
+
+/// A list for three poles: each total is the batch total of its own records, and 20 leaves it as it was.
+#[test]
+fn mixed_scans() {
+    let c = curve_b();
+    let (point, own) = (divisor(&[0], &[1]), divisor(&[1], &[0]));
+    let list = [(1, &point), (2, &own), (1, &point), (0x8000_0001, &point), (2, &point), (1, &own), (2, &own)];
+    for pole in [1, 2, 0x8000_0001, 3] {
+        let (mut total, mut batch) = (fresh_total(pole), Vec::new());
+        for (of, record) in list {
+            let before = total;
+            let number = scan_lent(&mut total, &c, &[&u32::to_be_bytes(of), &record[..]].concat()).number;
+            assert_eq!(number, if of == pole { 0 } else { 20 });
+            assert!(of == pole || total == before);
+            batch.extend_from_slice(if of == pole { record } else { &[] });
+        }
+        let mut out = [0; 49];
+        let answer = total_batch(&c, &batch, &mut out);
+        let all: Vec<u64> = numbers(&out[..answer.length as usize]);
+        assert_eq!((total.weight as usize, total.count, total.pole), (all.len() / 2, answer.count, pole));
+        assert_eq!([total.u0, total.u1, total.u2][..all.len() / 2], all[..all.len() / 2]);
+        assert_eq!([total.v0, total.v1, total.v2][..all.len() / 2], all[all.len() / 2..]);
+    }
+}
+
+/// A file as the ticket lays it out.
+fn pole_file(pole: u32, c: &[u8], count: u16, batch: &[u8]) -> Vec<u8> {
+    [b"HJP\x00\x01", &pole.to_be_bytes()[..], c, &count.to_be_bytes(), batch].concat()
+}
+
+/// What reading a file answers, with what it wrote.
+fn read_file(file: &[u8]) -> (Pole, Vec<u8>) {
+    let mut out = vec![0x55; file.len() + 3];
+    let answer = read_pole_file(file, &mut out);
+    let length = answer.length as usize;
+    assert!(out[length..].iter().all(|&byte| byte == 0x55));
+    assert!(answer.number == 0 || (answer.length, answer.pole) == (0, 0));
+    (answer, out[..length].to_vec())
+}
+
+/// Good files of both genera and versions: written and read back, cut at every byte, grown, and with outputs that are too short.
+#[test]
+fn pole_files() {
+    let (a, own) = (divisor(&[0], &[1]), divisor(&[1], &[0]));
+    let batches: [(u16, Vec<u8>); 4] = [
+        (0, vec![]),
+        (1, a.clone()),
+        (3, [&a[..], &[0], &own].concat()),
+        (4, [&own[..], &a, &divisor(&[0, 1], &[1, 1]), &[0]].concat()),
+    ];
+    let curves = [
+        curve_a(),
+        curve_b(),
+        witnessed(2, 7, &[1, 0, 0, 0, 0], 3, 2, &[2, 3]),
+        largest(2, &[1, 0, 0, 0, 0]),
+        largest(3, &[1, 0, 0, 0, 0, 0, 0]),
+    ];
+    for ((c, (count, batch)), pole) in curves
+        .iter()
+        .flat_map(|c| batches.iter().map(move |batch| (c, batch)))
+        .zip([0, 1, 0x0102_0304, u32::MAX].into_iter().cycle())
+    {
+        let file = pole_file(pole, c, *count, batch);
+        let mut out = vec![0x55; file.len() + 5];
+        let done = Answer { length: file.len() as u64, ..Answer::default() };
+        assert_eq!(write_pole_file(pole, c, batch, &mut out), done);
+        assert_eq!((&out[..file.len()], &out[file.len()..]), (&file[..], &[0x55; 5][..]));
+        assert_eq!(write_pole_file(pole, c, batch, &mut vec![0; file.len()]), done);
+        assert_eq!(write_pole_file(pole, c, batch, &mut vec![0; file.len() - 1]).number, 13);
+
+        let both = [&c[..], batch].concat();
+        assert_eq!(read_file(&file), (Pole { length: both.len() as u64, pole, ..Pole::default() }, both.clone()));
+        assert_eq!(read_pole_file(&file, &mut vec![0; both.len() - 1]), Pole { number: 13, ..Pole::default() });
+        for cut in 0..file.len() {
+            let wanted = if (9..9 + c.len()).contains(&cut) { 1 } else { 23 };
+            assert_eq!(read_file(&file[..cut]).0, Pole { number: wanted, ..Pole::default() }, "{} {}", cut, file.len());
+        }
+        for more in [&[0][..], &a, &[0; 100]] {
+            assert_eq!(read_file(&[&file[..], more].concat()).0.number, 23);
+        }
+    }
+}
+
+#[test]
+fn pole_files_refused_in_order() {
+    let (c, a, off) = (curve_a(), divisor(&[0], &[1]), divisor(&[0], &[2]));
+    let answer = |file: &[u8]| {
+        let Pole { number, place, .. } = read_file(file).0;
+        (number, place)
+    };
+    let with = |file: &[u8], at: usize, byte: u8| {
+        let mut changed = file.to_vec();
+        changed[at] = byte;
+        changed
+    };
+    let batch = |records: &[&[u8]]| records.concat();
+    assert_eq!(answer(&pole_file(7, &c, 2, &batch(&[&a, &a]))), (0, 0));
+    // Each fault added to the one behind it wins: left over, the records' from last to first, the count, the curve's, 22, 21, under 9 bytes.
+    let over = pole_file(7, &c, 2, &batch(&[&a, &a, &[9]]));
+    assert_eq!(answer(&over), (23, 0));
+    for (wanted, wrong) in
+        [((11, 2), &off[..]), ((10, 2), &divisor(&[7], &[2])), ((9, 2), &[3]), ((23, 0), &a[..16]), ((23, 0), &[])]
+    {
+        let file = pole_file(7, &c, 2, &batch(&[&a, wrong]));
+        assert_eq!(answer(&file), wanted);
+        assert_eq!(answer(&pole_file(7, &c, 2, &batch(&[&off, wrong]))), (11, 1));
+        // The bytes behind the last record that the count has are no record.
+        assert_eq!(answer(&pole_file(7, &c, 1, &batch(&[&a, wrong]))).0, if wrong.is_empty() { 0 } else { 23 });
+        for count in [4097, 0xffff] {
+            assert_eq!(answer(&pole_file(7, &c, count, &batch(&[&off, wrong]))), (23, 0));
+            let bad_curve = curve(2, 9, &[1, 0, 0, 0, 0]);
+            assert_eq!(answer(&pole_file(7, &bad_curve, count, &batch(&[&off, wrong]))), (5, 0));
+        }
+    }
+    let bad_curve = pole_file(7, &curve(2, 9, &[1, 0, 0, 0, 0]), 1, &off);
+    for version in [[0, 0], [0, 2], [1, 1], [1, 0]] {
+        let bad_version = with(&with(&bad_curve, 3, version[0]), 4, version[1]);
+        assert_eq!(answer(&bad_version), (22, 0));
+        for (at, byte) in [(0, b'h'), (1, b'P'), (2, b'C')] {
+            let bad_mark = with(&bad_version, at, byte);
+            assert_eq!(
+                (answer(&bad_mark), answer(&bad_mark[..9]), answer(&bad_mark[..8])),
+                ((21, 0), (21, 0), (23, 0))
+            );
+        }
+    }
+    // A curve's mark, version and genus; one of version 2 that ends before its count, has a wrong one, or is cut.
+    for (at, byte, wanted) in [(9, b'J', 2), (13, 3, 3), (14, 1, 4), (14, 255, 4), (14, 3, 1)] {
+        assert_eq!(answer(&with(&pole_file(7, &c, 0, &[]), at, byte)), (wanted, 0));
+    }
+    let second = pole_file(7, &witnessed(2, 7, &[1, 0, 0, 0, 0], 3, 2, &[2, 3]), 0, &[]);
+    assert_eq!((answer(&with(&second, 9 + 62, 0)), answer(&with(&second, 9 + 62, 16))), ((18, 0), (18, 0)));
+    assert_eq!((answer(&with(&second, 9 + 62, 3)), answer(&second[..9 + 62])), ((1, 0), (1, 0)));
+
+    // The writer checks curve and batch as every call does, then the output.
+    let mut out = [0x55; 300];
+    let mut written = |c: &[u8], batch: &[u8], room: usize| {
+        let Answer { number, place, length } = write_pole_file(7, c, batch, &mut out[..room]);
+        assert!(number == 0 || length == 0 && out.iter().all(|&byte| byte == 0x55));
+        (number, place)
+    };
+    assert_eq!((written(&c[..53], &off, 0), written(&c, &[&a[..], &off].concat(), 0)), ((1, 0), (11, 2)));
+    assert_eq!((written(&c, &a[..16], 0), written(&c, &a, 0), written(&c, &a, 81)), ((8, 1), (13, 0), (13, 0)));
+    assert_eq!((written(&c, &[0; 4097], 0), written(&c, &a, 82)), ((14, 0), (0, 0)));
+}
+
+/// 4,096 records are taken, and the count is theirs.
+#[test]
+fn full_pole_files() {
+    let c = curve_a();
+    let batch = divisor(&[0], &[1]).repeat(4096);
+    let file = pole_file(9, &c, 4096, &batch);
+    let mut out = vec![0; 200_914];
+    assert_eq!(write_pole_file(9, &c, &batch, &mut out), Answer { length: file.len() as u64, ..Answer::default() });
+    assert_eq!(out[..file.len()], file[..]);
+    assert_eq!(read_file(&file).0, Pole { length: file.len() as u64 - 11, pole: 9, ..Pole::default() });
+    assert_eq!(read_file(&pole_file(9, &c, 4097, &[&batch[..], &[0]].concat())).0.number, 23);
+    assert_eq!(read_file(&pole_file(9, &c, 4096, &[&batch[..], &[0]].concat())).0.number, 23);
+    assert_eq!(read_file(&pole_file(9, &c, 4095, &batch)).0.number, 23);
 }
 
 /// All divisors of a curve, as records.
@@ -773,7 +949,8 @@ fn censuses_of_small_curves() {
     }
 }
 
-/// How many divisors a curve of genus 2 has goes by its points over the field of p elements and that of p²: (n² + m) / 2 - p, with the one at infinity.
+/// How many divisors a curve of genus 2 has goes by its points over the fields of p and of p² elements, n and m with the one at infinity:
+/// (n² + m) / 2 - p.
 #[test]
 fn the_tally_goes_by_points() {
     for p in [3, 7, 11] {

@@ -28,9 +28,11 @@
 //! # }
 //! ```
 
+mod pole;
 pub mod raw;
 mod refusal;
 
+pub use pole::PoleFile;
 pub use refusal::Refusal;
 
 /// Bytes that hold any divisor record.
@@ -41,6 +43,9 @@ pub const CURVE_ROOM: usize = 199;
 
 /// Bytes that hold the two records of any split.
 pub const SPLIT_ROOM: usize = 50;
+
+/// Bytes that hold any pole file.
+pub const POLE_FILE_ROOM: usize = 200_914;
 
 /// Bytes of the longest scalar or order.
 pub const SCALAR_ROOM: usize = 32;
@@ -285,9 +290,10 @@ pub fn first_repeat(curve: &[u8], batch: &[u8]) -> Result<Option<Repeat>, Refusa
     }
 }
 
-/// The total of a list of meters that are scanned one by one: a divisor and a count.
+/// The total of a pole's meters that are scanned one by one: a divisor, a count and the pole's number.
 ///
-/// After each scan it is the batch total of the records taken so far, as long as the curve stays the same.
+/// A scan is the number of its pole in 4 bytes and a divisor record. After each scan the total is the batch total of the pole's own records taken
+/// so far, whatever was scanned for other poles, as long as the curve stays the same.
 ///
 /// ```
 /// # fn main() -> Result<(), yubisorade::Refusal> {
@@ -299,14 +305,15 @@ pub fn first_repeat(curve: &[u8], batch: &[u8]) -> Result<Option<Repeat>, Refusa
 /// # for number in [0u64, 1] {
 /// #     meter.extend_from_slice(&number.to_be_bytes());
 /// # }
-/// use yubisorade::{Refusal, RunningTotal};
-/// let mut total = RunningTotal::fresh();
-/// total.scan(&curve, &meter)?;
+/// use yubisorade::{scan_of, Refusal, RunningTotal};
+/// let mut total = RunningTotal::fresh(31);
+/// total.scan(&curve, &scan_of(31, &meter))?;
 /// assert_eq!(total.record(), meter);
 ///
 /// // A refused scan changes nothing.
-/// assert_eq!(total.scan(&curve, b"\x03"), Err(Refusal::Weight { place: 1 }));
-/// assert_eq!((total.count(), total.record()), (1, meter));
+/// assert_eq!(total.scan(&curve, &scan_of(32, &meter)), Err(Refusal::OtherPole));
+/// assert_eq!(total.scan(&curve, &scan_of(31, b"\x03")), Err(Refusal::Weight { place: 1 }));
+/// assert_eq!((total.pole(), total.count(), total.record()), (31, 1, meter));
 /// # Ok(())
 /// # }
 /// ```
@@ -314,14 +321,19 @@ pub fn first_repeat(curve: &[u8], batch: &[u8]) -> Result<Option<Repeat>, Refusa
 pub struct RunningTotal(raw::YubiRunning);
 
 impl RunningTotal {
-    /// The total of no scan: neutral, with count 0.
-    pub fn fresh() -> RunningTotal {
-        RunningTotal(raw::fresh_total())
+    /// A pole's total of no scan: neutral, with count 0.
+    pub fn fresh(pole: u32) -> RunningTotal {
+        RunningTotal(raw::fresh_total(pole))
     }
 
-    /// Adds a record's divisor to the total, and 1 to its count.
-    pub fn scan(&mut self, curve: &[u8], record: &[u8]) -> Result<(), Refusal> {
-        length_of(raw::scan_lent(&mut self.0, curve, record)).map(|_| ())
+    /// Adds a scan's divisor to the total, and 1 to its count. Where the scan is for another pole, [`Refusal::OtherPole`].
+    pub fn scan(&mut self, curve: &[u8], scan: &[u8]) -> Result<(), Refusal> {
+        length_of(raw::scan_lent(&mut self.0, curve, scan)).map(|_| ())
+    }
+
+    /// The pole's number.
+    pub fn pole(&self) -> u32 {
+        self.0.pole
     }
 
     /// Scans taken so far.
@@ -358,8 +370,7 @@ impl RunningTotal {
     }
 }
 
-impl Default for RunningTotal {
-    fn default() -> RunningTotal {
-        RunningTotal::fresh()
-    }
+/// The bytes of a scan: the pole's number, then the record.
+pub fn scan_of(pole: u32, record: &[u8]) -> Vec<u8> {
+    [&pole.to_be_bytes(), record].concat()
 }

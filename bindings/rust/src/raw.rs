@@ -53,7 +53,7 @@ pub struct YubiRepeat {
     pub second: u64,
 }
 
-/// A running total: a divisor and a count. Coefficients that the weight doesn't use are 0.
+/// A running total: a divisor, a count and a pole. Coefficients that the weight doesn't use are 0.
 #[repr(C)]
 #[derive(Clone, Copy, Debug, Default, PartialEq, Eq)]
 pub struct YubiRunning {
@@ -65,6 +65,8 @@ pub struct YubiRunning {
     pub v1: u64,
     pub v2: u64,
     pub count: u64,
+    /// The only pole whose scans it takes.
+    pub pole: u32,
 }
 
 /// What [`scan`] answers.
@@ -76,6 +78,17 @@ pub struct YubiScanned {
     pub length: u64,
     /// The total after the scan; as it was given on a refusal.
     pub total: YubiRunning,
+}
+
+/// What [`read_pole_file`] answers.
+#[repr(C)]
+#[derive(Clone, Copy, Debug, Default, PartialEq, Eq)]
+pub struct YubiPole {
+    pub number: u64,
+    pub place: u64,
+    pub length: u64,
+    /// The pole's number; 0 on a refusal.
+    pub pole: u32,
 }
 
 #[link(name = "tablet", kind = "static")]
@@ -177,21 +190,31 @@ extern "C" {
         out_length: usize,
     ) -> YubiTotal;
     fn yubi_first_repeat(curve: *const u8, curve_length: usize, batch: *const u8, batch_length: usize) -> YubiRepeat;
-    fn yubi_fresh_total() -> YubiRunning;
+    fn yubi_fresh_total(pole: u32) -> YubiRunning;
     fn yubi_scan(
         total: YubiRunning,
         curve: *const u8,
         curve_length: usize,
-        record: *const u8,
-        record_length: usize,
+        scan: *const u8,
+        scan_length: usize,
     ) -> YubiScanned;
     fn yubi_scan_lent(
         total: *mut YubiRunning,
         curve: *const u8,
         curve_length: usize,
-        record: *const u8,
-        record_length: usize,
+        scan: *const u8,
+        scan_length: usize,
     ) -> YubiAnswer;
+    fn yubi_write_pole_file(
+        pole: u32,
+        curve: *const u8,
+        curve_length: usize,
+        batch: *const u8,
+        batch_length: usize,
+        out: *mut u8,
+        out_length: usize,
+    ) -> YubiAnswer;
+    fn yubi_read_pole_file(file: *const u8, file_length: usize, out: *mut u8, out_length: usize) -> YubiPole;
 }
 
 // SAFETY, of every call below: the library reads its inputs and writes its output within the lengths given, keeps no
@@ -307,17 +330,37 @@ pub fn first_repeat(curve: &[u8], batch: &[u8]) -> YubiRepeat {
     unsafe { yubi_first_repeat(curve.as_ptr(), curve.len(), batch.as_ptr(), batch.len()) }
 }
 
-/// A running total that has taken no scan.
-pub fn fresh_total() -> YubiRunning {
-    unsafe { yubi_fresh_total() }
+/// A pole's running total that has taken no scan.
+pub fn fresh_total(pole: u32) -> YubiRunning {
+    unsafe { yubi_fresh_total(pole) }
 }
 
-/// Adds a record to a running total, by value.
-pub fn scan(total: YubiRunning, curve: &[u8], record: &[u8]) -> YubiScanned {
-    unsafe { yubi_scan(total, curve.as_ptr(), curve.len(), record.as_ptr(), record.len()) }
+/// Adds a scan to a running total, by value.
+pub fn scan(total: YubiRunning, curve: &[u8], scan: &[u8]) -> YubiScanned {
+    unsafe { yubi_scan(total, curve.as_ptr(), curve.len(), scan.as_ptr(), scan.len()) }
 }
 
-/// Adds a record to a running total, in place; a refused scan leaves it as it was.
-pub fn scan_lent(total: &mut YubiRunning, curve: &[u8], record: &[u8]) -> YubiAnswer {
-    unsafe { yubi_scan_lent(total, curve.as_ptr(), curve.len(), record.as_ptr(), record.len()) }
+/// Adds a scan to a running total, in place; a refused scan leaves it as it was.
+pub fn scan_lent(total: &mut YubiRunning, curve: &[u8], scan: &[u8]) -> YubiAnswer {
+    unsafe { yubi_scan_lent(total, curve.as_ptr(), curve.len(), scan.as_ptr(), scan.len()) }
+}
+
+/// Writes a pole file to `out`.
+pub fn write_pole_file(pole: u32, curve: &[u8], batch: &[u8], out: &mut [u8]) -> YubiAnswer {
+    unsafe {
+        yubi_write_pole_file(
+            pole,
+            curve.as_ptr(),
+            curve.len(),
+            batch.as_ptr(),
+            batch.len(),
+            out.as_mut_ptr(),
+            out.len(),
+        )
+    }
+}
+
+/// Writes a pole file's curve record to `out`, and its divisor records behind it.
+pub fn read_pole_file(file: &[u8], out: &mut [u8]) -> YubiPole {
+    unsafe { yubi_read_pole_file(file.as_ptr(), file.len(), out.as_mut_ptr(), out.len()) }
 }

@@ -20,7 +20,7 @@ pub enum Refusal {
     CurveCoefficient,
     /// 7: f has a repeated factor.
     RepeatedFactor,
-    /// 8: divisor record empty, or not 1 + 16w bytes (in a batch: fewer bytes remain).
+    /// 8: divisor record empty, or not 1 + 16w bytes (in a batch: fewer bytes remain); scan under 4 bytes.
     DivisorLength { place: u64 },
     /// 9: w > g.
     Weight { place: u64 },
@@ -41,6 +41,14 @@ pub enum Refusal {
     Witness,
     /// 19: the divisor given or its multiple is neutral.
     EmptyKey,
+    /// 20: a scan is for another pole than the running total.
+    OtherPole,
+    /// 21: a pole file's mark isn't `HJP`.
+    PoleFileMark,
+    /// 22: a pole file's version isn't 1.
+    PoleFileVersion,
+    /// 23: a pole file has fewer or more bytes than it says, or a count over 4,096.
+    PoleFileLength,
     /// 24: the divisor given is the last of the curve.
     LastDivisor,
     /// 25: p is above 13, too large for a census.
@@ -76,6 +84,10 @@ impl Refusal {
             15 => Refusal::RunningTotal,
             18 => Refusal::Witness,
             19 => Refusal::EmptyKey,
+            20 => Refusal::OtherPole,
+            21 => Refusal::PoleFileMark,
+            22 => Refusal::PoleFileVersion,
+            23 => Refusal::PoleFileLength,
             24 => Refusal::LastDivisor,
             25 => Refusal::NotForTraining,
             26 => Refusal::NoRoot,
@@ -84,7 +96,7 @@ impl Refusal {
         })
     }
 
-    /// The contract's number, 1 to 15, 18, 19 or 24 to 27.
+    /// The contract's number, 1 to 15 or 18 to 27.
     pub fn number(self) -> u64 {
         match self {
             Refusal::CurveLength => 1,
@@ -104,6 +116,10 @@ impl Refusal {
             Refusal::RunningTotal => 15,
             Refusal::Witness => 18,
             Refusal::EmptyKey => 19,
+            Refusal::OtherPole => 20,
+            Refusal::PoleFileMark => 21,
+            Refusal::PoleFileVersion => 22,
+            Refusal::PoleFileLength => 23,
             Refusal::LastDivisor => 24,
             Refusal::NotForTraining => 25,
             Refusal::NoRoot => 26,
@@ -138,7 +154,7 @@ impl Refusal {
                 "f has a repeated factor: f and its derivative share a factor of degree 1 or more"
             }
             Refusal::DivisorLength { .. } => {
-                "divisor record empty, or not 1 + 16w bytes (in a batch: fewer bytes remain)"
+                "divisor record empty, or not 1 + 16w bytes (in a batch: fewer bytes remain); scan under 4 bytes"
             }
             Refusal::Weight { .. } => "w > g",
             Refusal::DivisorCoefficient { .. } => "some u_i or v_i ≥ p",
@@ -152,6 +168,10 @@ impl Refusal {
             }
             Refusal::Witness => "in version 2, k isn't 1 to 15 or the witness doesn't show p prime",
             Refusal::EmptyKey => "the divisor given or its multiple is neutral",
+            Refusal::OtherPole => "a scan for another pole",
+            Refusal::PoleFileMark => "a pole file's mark isn't `HJP`",
+            Refusal::PoleFileVersion => "a pole file's version isn't 1",
+            Refusal::PoleFileLength => "a pole file has fewer or more bytes than it says, or a count over 4,096",
             Refusal::LastDivisor => "no valid divisor comes after the one given",
             Refusal::NotForTraining => "p > 13, in a census",
             Refusal::NoRoot => "the weight is below 2, or u has no root modulo p",
@@ -178,7 +198,7 @@ mod tests {
     #[test]
     fn numbers_and_places_come_back() {
         assert_eq!(Refusal::check(0, 0), Ok(()));
-        for number in (1..=15).chain([18, 19, 24, 25, 26, 27]) {
+        for number in (1..=15).chain(18..=27) {
             let place = if (8..=11).contains(&number) { 7 } else { 0 };
             let refusal = Refusal::check(number, place).unwrap_err();
             assert_eq!((refusal.number(), refusal.place()), (number, place));

@@ -227,13 +227,14 @@ fn the_pole_of_the_contract() {
     assert_eq!(first_repeat(&c, &[&own[..], &a].concat()), Ok(None));
     assert_eq!(first_repeat(&c, &[&own[..], &own].concat()), Ok(Some(Repeat { first: 1, second: 2 })));
 
-    let mut total = RunningTotal::fresh();
+    let mut total = RunningTotal::fresh(0x0102_0304);
     for record in batch.chunks(17) {
-        let by_value = raw::scan(total.into_raw(), &c, record);
-        total.scan(&c, record).unwrap();
+        let scan = scan_of(0x0102_0304, record);
+        let by_value = raw::scan(total.into_raw(), &c, &scan);
+        total.scan(&c, &scan).unwrap();
         assert_eq!((by_value.number, by_value.total), (0, total.into_raw()));
     }
-    assert_eq!((total.count(), &total.record()[..]), (3, &out[..33]));
+    assert_eq!((total.pole(), total.count(), &total.record()[..]), (0x0102_0304, 3, &out[..33]));
 }
 
 #[test]
@@ -257,8 +258,8 @@ fn refusals() {
 
 #[test]
 fn running_totals_from_their_flat_form() {
-    let (c, a) = (curve_a(), divisor(&[0], &[1]));
-    let flat = raw::YubiRunning { weight: 1, u0: 6, v0: 3, count: 4095, ..Default::default() };
+    let (c, a) = (curve_a(), scan_of(u32::MAX, &divisor(&[0], &[1])));
+    let flat = raw::YubiRunning { weight: 1, u0: 6, v0: 3, count: 4095, pole: u32::MAX, ..Default::default() };
     let mut total = RunningTotal::from_raw(flat).unwrap();
     assert_eq!(total.scan(&c, &a), Ok(()));
     assert_eq!(total.record(), divisor(&[0, 6], &[1, 2]));
@@ -278,4 +279,107 @@ fn running_totals_from_their_flat_form() {
         assert_eq!(RunningTotal::from_raw(bad), Err(Refusal::RunningTotal));
         assert_eq!(raw::scan(bad, &c, &a), raw::YubiScanned { number: 15, place: 0, length: 0, total: bad });
     }
+}
+
+/// W-209: a list for three poles; each total takes its own scans, is refused 20 for the others, and comes to the batch total of its own records.
+#[test]
+fn mixed_scans() {
+    let (c, a, b) = (curve_a(), divisor(&[0], &[1]), divisor(&[6], &[3]));
+    let list = [(7, &a), (0, &b), (7, &b), (u32::MAX, &a), (0, &b), (7, &a)];
+    for pole in [7, 0, u32::MAX, 8] {
+        let mut total = RunningTotal::fresh(pole);
+        let mut batch = Vec::new();
+        for (of, record) in list {
+            let (before, scan) = (total, scan_of(of, record));
+            let by_value = raw::scan(total.into_raw(), &c, &scan);
+            if of == pole {
+                assert_eq!((total.scan(&c, &scan), by_value.number), (Ok(()), 0));
+                batch.extend_from_slice(record);
+            } else {
+                assert_eq!((total.scan(&c, &scan), by_value.number), (Err(Refusal::OtherPole), 20));
+                assert_eq!(total, before);
+            }
+            assert_eq!(by_value.total, total.into_raw());
+        }
+        let mut out = [0; DIVISOR_ROOM];
+        let Total { length, count } = total_batch(&c, &batch, &mut out).unwrap();
+        assert_eq!((total.pole(), total.count(), &total.record()[..]), (pole, count, &out[..length]));
+    }
+    let mut total = RunningTotal::fresh(7);
+    for short in 0..4 {
+        assert_eq!(total.scan(&c, &[0, 0, 0, 7][..short]), Err(Refusal::DivisorLength { place: 1 }));
+    }
+    assert_eq!(total.scan(&c, &[0, 0, 0, 8]), Err(Refusal::OtherPole));
+    assert_eq!(total.scan(&c, &[0, 0, 0, 7]), Err(Refusal::DivisorLength { place: 1 }));
+}
+
+/// W-209: files of both genera and versions, written, read, cut and grown.
+#[test]
+fn pole_files() {
+    let (a, own, both) = (divisor(&[0], &[1]), divisor(&[1], &[0]), divisor(&[0, 1], &[1, 1]));
+    let primes = [2, 3, 5, 7, 11, 13, 31, 41, 61, 151, 331, 1321];
+    let (ones, seventh) = ([1, 0, 0, 0, 0], [1, 0, 0, 0, 0, 0, 0]);
+    for (pole, curve) in [
+        (0, curve_a()),
+        (31, curve(3, 11, &seventh)),
+        (0x0102_0304, witnessed(2, 7, &ones, 3, &[2, 3])),
+        (u32::MAX, witnessed(3, (1 << 61) - 1, &seventh, 37, &primes)),
+    ] {
+        let batch = [&a[..], &own, &[0], &both].concat();
+        let head = [b"HJP\x00\x01", &pole.to_be_bytes()[..]].concat();
+        for (count, end) in [(0, 0), (1, 17), (2, 34), (3, 35), (4, 68)] {
+            let good = PoleFile { pole, curve: curve.clone(), batch: batch[..end].to_vec() };
+            let file = [&head[..], &curve, &[0, count], &batch[..end]].concat();
+            assert_eq!(good.write().as_ref(), Ok(&file));
+            assert_eq!(PoleFile::read(&file).as_ref(), Ok(&good));
+            assert_eq!(good.records().count(), usize::from(count));
+            for cut in 0..file.len() {
+                let wanted =
+                    if (9..9 + curve.len()).contains(&cut) { Refusal::CurveLength } else { Refusal::PoleFileLength };
+                assert_eq!(PoleFile::read(&file[..cut]), Err(wanted));
+            }
+            assert_eq!(PoleFile::read(&[&file[..], &[0]].concat()), Err(Refusal::PoleFileLength));
+            // Outputs of one byte less.
+            let short = raw::read_pole_file(&file, &mut vec![0; file.len() - 12]);
+            assert_eq!(short, raw::YubiPole { number: 13, ..Default::default() });
+            let short = raw::write_pole_file(pole, &curve, &batch[..end], &mut vec![0; file.len() - 1]);
+            assert_eq!(short, raw::YubiAnswer { number: 13, ..Default::default() });
+        }
+    }
+}
+
+#[test]
+fn pole_files_refused() {
+    let (c, a, off) = (curve_a(), divisor(&[0], &[1]), divisor(&[0], &[2]));
+    let file = |count: u16, records: &[&[u8]]| {
+        [b"HJP\x00\x01\x00\x00\x00\x07", &c[..], &count.to_be_bytes(), &records.concat()].concat()
+    };
+    let with = |mut file: Vec<u8>, at: usize, byte: u8| {
+        file[at] = byte;
+        PoleFile::read(&file)
+    };
+    let good = file(2, &[&a, &a]);
+    assert!(PoleFile::read(&good).is_ok());
+    assert_eq!(with(good.clone(), 2, b'C'), Err(Refusal::PoleFileMark));
+    assert_eq!(with(good.clone(), 4, 2), Err(Refusal::PoleFileVersion));
+    assert_eq!(with(good.clone(), 3, 1), Err(Refusal::PoleFileVersion));
+    assert_eq!(with(good.clone(), 9, b'h'), Err(Refusal::Mark));
+    assert_eq!(with(good.clone(), 13, 3), Err(Refusal::Version));
+    assert_eq!(with(good.clone(), 14, 4), Err(Refusal::Genus));
+    assert_eq!(with(good.clone(), 22, 9), Err(Refusal::Prime));
+    assert_eq!(with(good, 63, 0x10), Err(Refusal::PoleFileLength));
+    assert_eq!(PoleFile::read(&file(1, &[&a, &a])), Err(Refusal::PoleFileLength));
+    assert_eq!(PoleFile::read(&file(3, &[&a, &a])), Err(Refusal::PoleFileLength));
+    assert_eq!(PoleFile::read(&file(4097, &[&[0; 4097]])), Err(Refusal::PoleFileLength));
+    assert_eq!(PoleFile::read(&file(2, &[&a, &[3]])), Err(Refusal::Weight { place: 2 }));
+    assert_eq!(PoleFile::read(&file(2, &[&a, &divisor(&[7], &[0])])), Err(Refusal::DivisorCoefficient { place: 2 }));
+    assert_eq!(PoleFile::read(&file(2, &[&off, &[3]])), Err(Refusal::NotOnCurve { place: 1 }));
+    assert_eq!(PoleFile::read(&file(1, &[&a, &[3]])), Err(Refusal::PoleFileLength));
+
+    let write = |curve: &[u8], batch: &[u8]| PoleFile { pole: 7, curve: curve.to_vec(), batch: batch.to_vec() }.write();
+    assert_eq!(write(&c[..53], &off), Err(Refusal::CurveLength));
+    assert_eq!(write(&c, &[&a[..], &off].concat()), Err(Refusal::NotOnCurve { place: 2 }));
+    assert_eq!(write(&c, &a[..16]), Err(Refusal::DivisorLength { place: 1 }));
+    assert_eq!(write(&c, &[0; 4097]), Err(Refusal::Full));
+    assert_eq!(write(&c, &[0; 4096]).map(|file| PoleFile::read(&file).map(|pole| pole.batch.len())), Ok(Ok(4096)));
 }

@@ -49,6 +49,7 @@ fn c_type(text: &str) -> String {
     let words: Vec<&str> = words.split_whitespace().collect();
     let plain = |word: &str| match word {
         "uint64_t" => "u64".to_string(),
+        "uint32_t" => "u32".to_string(),
         "uint8_t" => "u8".to_string(),
         "size_t" => "usize".to_string(),
         other => other.to_string(),
@@ -143,15 +144,17 @@ fn declarations_are_the_headers() {
         "yubi_multiply_inversion_free",
         "yubi_next_divisor",
         "yubi_opposite",
+        "yubi_read_pole_file",
         "yubi_rewrite_curve",
         "yubi_rewrite_divisor",
         "yubi_scan",
         "yubi_scan_lent",
         "yubi_split",
         "yubi_total_batch",
+        "yubi_write_pole_file",
     ];
     assert_eq!(calls, wanted);
-    assert_eq!(c.structs.len(), 6);
+    assert_eq!(c.structs.len(), 7);
     assert_eq!(c.calls["yubi_add"].0.len(), 8);
 }
 
@@ -165,7 +168,10 @@ fn a_changed_declaration_shows() {
         ("YubiTotal yubi_total_batch", "YubiAnswer yubi_total_batch"),
         ("yubi_scan(YubiRunning total,", "yubi_scan(YubiRunning *total,"),
         ("yubi_scan_lent(YubiRunning *total,", "yubi_scan_lent(const YubiRunning *total,"),
-        ("YubiRunning yubi_fresh_total(void);", ""),
+        ("YubiRunning yubi_fresh_total(uint32_t pole);", "YubiRunning yubi_fresh_total(void);"),
+        ("uint32_t pole;  /*", "uint64_t pole;  /*"),
+        ("YubiAnswer yubi_write_pole_file(uint32_t pole,", "YubiAnswer yubi_write_pole_file(uint64_t pole,"),
+        ("YubiPole yubi_read_pole_file(", "YubiAnswer yubi_read_pole_file("),
         ("size_t scalar_length, ", ""),
         ("const uint8_t *primes,", "const uint32_t *primes,"),
         ("const uint8_t *order, size_t order_length, ", ""),
@@ -191,19 +197,22 @@ fn constants_are_the_headers() {
     assert_eq!(defined("YUBI_DIVISOR_ROOM"), yubisorade::DIVISOR_ROOM as u64);
     assert_eq!(defined("YUBI_CURVE_ROOM"), yubisorade::CURVE_ROOM as u64);
     assert_eq!(defined("YUBI_SPLIT_ROOM"), yubisorade::SPLIT_ROOM as u64);
+    assert_eq!(defined("YUBI_POLE_FILE_ROOM"), yubisorade::POLE_FILE_ROOM as u64);
+    assert_eq!(yubisorade::POLE_FILE_ROOM, 9 + yubisorade::CURVE_ROOM + 2 + 4096 * yubisorade::DIVISOR_ROOM);
     assert_eq!(defined("YUBI_SCALAR_ROOM"), yubisorade::SCALAR_ROOM as u64);
     assert_eq!(defined("YUBI_LARGEST_TRAINING"), yubisorade::LARGEST_TRAINING);
     assert_eq!(defined("YUBI_MOST_PRIMES"), yubisorade::MOST_PRIMES as u64);
     assert_eq!(defined("YUBI_MOST_RECORDS"), yubisorade::MOST_RECORDS);
 }
 
-/// Every field is 8 bytes, without gaps.
+/// Every field but a pole is 8 bytes, without gaps; 4 unused bytes stand behind a pole.
 #[test]
 fn sizes() {
     assert_eq!(size_of::<YubiAnswer>(), 3 * 8);
     assert_eq!(size_of::<YubiMultiple>(), 5 * 8);
     assert_eq!(size_of::<YubiTotal>(), 4 * 8);
     assert_eq!(size_of::<YubiRepeat>(), 5 * 8);
-    assert_eq!(size_of::<YubiRunning>(), 8 * 8);
-    assert_eq!(size_of::<YubiScanned>(), 11 * 8);
+    assert_eq!(size_of::<YubiRunning>(), 9 * 8);
+    assert_eq!(size_of::<YubiScanned>(), 12 * 8);
+    assert_eq!(size_of::<YubiPole>(), 4 * 8);
 }
