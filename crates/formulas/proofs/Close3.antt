@@ -1,6 +1,6 @@
 -- Genus 3, after the division, in any ring. Gives, of the values that code keeps under these names: w·S = s'/r (`slope-is`), S·u (`stretch-is`), the
 -- first quotient, right from place 3 on (`quotient-is`, `quotient-twice`), v + w·S·u modulo it (`rest-is`), and the second step (`second-tops`,
--- `second-rest`). a0, a1, a2 and c0, c1, c2 are u and v of the base pair, b0, b1, b2 the other u; f has no x⁶.
+-- `second-rest`). a0, a1, a2 and c0, c1, c2 are u and v of the base pair, b0, b1, b2 the other u. Any f6.
 use mathlib.Core.Path.{_≡_, refl}
 use mathlib.Core.List.{[], _∷_}
 use Rattle.algebra.proofs.ring.CRing.{CRing}
@@ -69,32 +69,32 @@ module _ (F : CRing) where
       )
 
   -- (f - v²)/u from place 3 on
-  pub tops-f : (a0 a1 a2 f0 f1 f2 f3 f4 f5 : A)
-      → Below F 6 (coef F (mon F (f0 ∷ f1 ∷ f2 ∷ f3 ∷ f4 ∷ f5 ∷ 𝟘 ∷ []) ⊖ mon F (a0 ∷ a1 ∷ a2 ∷ []) ⊗ pol F (𝟘 ∷ 𝟘 ∷ 𝟘 ∷ (neg a2) ∷ 𝟙 ∷ [])))
+  pub tops-f : (a0 a1 a2 f0 f1 f2 f3 f4 f5 f6 : A)
+      → Below F 6 (coef F (mon F (f0 ∷ f1 ∷ f2 ∷ f3 ∷ f4 ∷ f5 ∷ f6 ∷ []) ⊖ mon F (a0 ∷ a1 ∷ a2 ∷ []) ⊗ pol F (𝟘 ∷ 𝟘 ∷ 𝟘 ∷ (f6 - a2) ∷ 𝟙 ∷ [])))
   unfolding addL mulL negL scaleL whole
-  tops-f a0 a1 a2 f0 f1 f2 f3 f4 f5 =
-      below-by F 6 (mo (f0 ∷ f1 ∷ f2 ∷ f3 ∷ f4 ∷ f5 ∷ 𝟘 ∷ [])) (ti (mo (a0 ∷ a1 ∷ a2 ∷ [])) (lo (𝟘 ∷ 𝟘 ∷ 𝟘 ∷ (neg a2) ∷ 𝟙 ∷ []))) (
-        ring F (a0 ∷ a1 ∷ a2 ∷ f0 ∷ f1 ∷ f2 ∷ f3 ∷ f4 ∷ f5 ∷ []) (search quote depth 40) refl,
+  tops-f a0 a1 a2 f0 f1 f2 f3 f4 f5 f6 =
+      below-by F 6 (mo (f0 ∷ f1 ∷ f2 ∷ f3 ∷ f4 ∷ f5 ∷ f6 ∷ [])) (ti (mo (a0 ∷ a1 ∷ a2 ∷ [])) (lo (𝟘 ∷ 𝟘 ∷ 𝟘 ∷ (f6 - a2) ∷ 𝟙 ∷ []))) (
+        ring F (a0 ∷ a1 ∷ a2 ∷ f0 ∷ f1 ∷ f2 ∷ f3 ∷ f4 ∷ f5 ∷ f6 ∷ []) (search quote depth 40) refl,
         (
-          ring F (a0 ∷ a1 ∷ a2 ∷ f0 ∷ f1 ∷ f2 ∷ f3 ∷ f4 ∷ f5 ∷ []) (search quote depth 40) refl,
+          ring F (a0 ∷ a1 ∷ a2 ∷ f0 ∷ f1 ∷ f2 ∷ f3 ∷ f4 ∷ f5 ∷ f6 ∷ []) (search quote depth 40) refl,
           tt,
         ),
       )
 
-  pub quotient-is : (a2 c0 c1 c2 b0 b1 b2 s0 s1 wi z0 z1 z2 z3 z4 n3 t5 n2 d n1 q n0 : A) → n3 ≡ z4 + s1 - b2 → t5 ≡ s1 * z4 - b2 * n3 → n2 ≡ z3 + s0 + t5 - b1 → d ≡ c2 + c2 → n1 ≡ z2 - b0 + (s0 * z4 + s1 * z3) - (b2 * n2 + b1 * n3) + wi * (d - wi) → q ≡ d * s1 + wi * a2 + (c1 + c1) → n0 ≡ z1 + (s0 * z3 - b1 * n2) + (s1 * z2 + wi * q) - (b2 * n1 + b0 * n3)
-      → Below F 3 (coef F (mon F (s0 ∷ s1 ∷ []) ⊗ (mon F (z0 ∷ z1 ∷ z2 ∷ z3 ∷ z4 ∷ []) ⊕ C F wi ⊗ (pol F (c0 ∷ c1 ∷ c2 ∷ []) ⊕ pol F (c0 ∷ c1 ∷ c2 ∷ []))) ⊖ C F wi ⊗ (C F wi ⊗ pol F (𝟘 ∷ 𝟘 ∷ 𝟘 ∷ (neg a2) ∷ 𝟙 ∷ [])) ⊖ mon F (b0 ∷ b1 ∷ b2 ∷ []) ⊗ mon F (n0 ∷ n1 ∷ n2 ∷ n3 ∷ [])))
+  pub quotient-is : (f6 a2 c0 c1 c2 b0 b1 b2 s0 s1 wi z0 z1 z2 z3 z4 n3 t5 n2 d n1 q n0 : A) → n3 ≡ z4 + s1 - b2 → t5 ≡ s1 * z4 - b2 * n3 → n2 ≡ z3 + s0 + t5 - b1 → d ≡ c2 + c2 → n1 ≡ z2 - b0 + (s0 * z4 + s1 * z3) - (b2 * n2 + b1 * n3) + wi * (d - wi) → q ≡ d * s1 + wi * (a2 - f6) + (c1 + c1) → n0 ≡ z1 + (s0 * z3 - b1 * n2) + (s1 * z2 + wi * q) - (b2 * n1 + b0 * n3)
+      → Below F 3 (coef F (mon F (s0 ∷ s1 ∷ []) ⊗ (mon F (z0 ∷ z1 ∷ z2 ∷ z3 ∷ z4 ∷ []) ⊕ C F wi ⊗ (pol F (c0 ∷ c1 ∷ c2 ∷ []) ⊕ pol F (c0 ∷ c1 ∷ c2 ∷ []))) ⊖ C F wi ⊗ (C F wi ⊗ pol F (𝟘 ∷ 𝟘 ∷ 𝟘 ∷ (f6 - a2) ∷ 𝟙 ∷ [])) ⊖ mon F (b0 ∷ b1 ∷ b2 ∷ []) ⊗ mon F (n0 ∷ n1 ∷ n2 ∷ n3 ∷ [])))
   unfolding addL mulL negL scaleL whole
-  quotient-is a2 c0 c1 c2 b0 b1 b2 s0 s1 wi z0 z1 z2 z3 z4 n3 t5 n2 d n1 q n0 h-n3 h-t5 h-n2 h-d h-n1 h-q h-n0 =
-      below-by F 3 (pl (ti (mo (s0 ∷ s1 ∷ [])) (pl (mo (z0 ∷ z1 ∷ z2 ∷ z3 ∷ z4 ∷ [])) (ti (co wi) (pl (lo (c0 ∷ c1 ∷ c2 ∷ [])) (lo (c0 ∷ c1 ∷ c2 ∷ [])))))) (ne (ti (co wi) (ti (co wi) (lo (𝟘 ∷ 𝟘 ∷ 𝟘 ∷ (neg a2) ∷ 𝟙 ∷ [])))))) (ti (mo (b0 ∷ b1 ∷ b2 ∷ [])) (mo (n0 ∷ n1 ∷ n2 ∷ n3 ∷ []))) (
-        simp (h-d, h-q, h-n0) (ring F (a2 ∷ c0 ∷ c1 ∷ c2 ∷ b0 ∷ b1 ∷ b2 ∷ s0 ∷ s1 ∷ wi ∷ z0 ∷ z1 ∷ z2 ∷ z3 ∷ z4 ∷ n3 ∷ t5 ∷ n2 ∷ n1 ∷ []) (search quote depth 40) refl),
+  quotient-is f6 a2 c0 c1 c2 b0 b1 b2 s0 s1 wi z0 z1 z2 z3 z4 n3 t5 n2 d n1 q n0 h-n3 h-t5 h-n2 h-d h-n1 h-q h-n0 =
+      below-by F 3 (pl (ti (mo (s0 ∷ s1 ∷ [])) (pl (mo (z0 ∷ z1 ∷ z2 ∷ z3 ∷ z4 ∷ [])) (ti (co wi) (pl (lo (c0 ∷ c1 ∷ c2 ∷ [])) (lo (c0 ∷ c1 ∷ c2 ∷ [])))))) (ne (ti (co wi) (ti (co wi) (lo (𝟘 ∷ 𝟘 ∷ 𝟘 ∷ (f6 - a2) ∷ 𝟙 ∷ [])))))) (ti (mo (b0 ∷ b1 ∷ b2 ∷ [])) (mo (n0 ∷ n1 ∷ n2 ∷ n3 ∷ []))) (
+        simp (h-d, h-q, h-n0) (ring F (f6 ∷ a2 ∷ c0 ∷ c1 ∷ c2 ∷ b0 ∷ b1 ∷ b2 ∷ s0 ∷ s1 ∷ wi ∷ z0 ∷ z1 ∷ z2 ∷ z3 ∷ z4 ∷ n3 ∷ t5 ∷ n2 ∷ n1 ∷ []) (search quote depth 40) refl),
         (
-          simp (h-d, h-n1) (ring F (a2 ∷ c0 ∷ c1 ∷ c2 ∷ b0 ∷ b1 ∷ b2 ∷ s0 ∷ s1 ∷ wi ∷ z0 ∷ z1 ∷ z2 ∷ z3 ∷ z4 ∷ n3 ∷ t5 ∷ n2 ∷ q ∷ n0 ∷ []) (search quote depth 40) refl),
+          simp (h-d, h-n1) (ring F (f6 ∷ a2 ∷ c0 ∷ c1 ∷ c2 ∷ b0 ∷ b1 ∷ b2 ∷ s0 ∷ s1 ∷ wi ∷ z0 ∷ z1 ∷ z2 ∷ z3 ∷ z4 ∷ n3 ∷ t5 ∷ n2 ∷ q ∷ n0 ∷ []) (search quote depth 40) refl),
           (
-            simp (h-t5, h-n2) (ring F (a2 ∷ c0 ∷ c1 ∷ c2 ∷ b0 ∷ b1 ∷ b2 ∷ s0 ∷ s1 ∷ wi ∷ z0 ∷ z1 ∷ z2 ∷ z3 ∷ z4 ∷ n3 ∷ d ∷ n1 ∷ q ∷ n0 ∷ []) (search quote depth 40) refl),
+            simp (h-t5, h-n2) (ring F (f6 ∷ a2 ∷ c0 ∷ c1 ∷ c2 ∷ b0 ∷ b1 ∷ b2 ∷ s0 ∷ s1 ∷ wi ∷ z0 ∷ z1 ∷ z2 ∷ z3 ∷ z4 ∷ n3 ∷ d ∷ n1 ∷ q ∷ n0 ∷ []) (search quote depth 40) refl),
             (
-              simp (h-n3) (ring F (a2 ∷ c0 ∷ c1 ∷ c2 ∷ b0 ∷ b1 ∷ b2 ∷ s0 ∷ s1 ∷ wi ∷ z0 ∷ z1 ∷ z2 ∷ z3 ∷ z4 ∷ t5 ∷ n2 ∷ d ∷ n1 ∷ q ∷ n0 ∷ []) (search quote depth 40) refl),
+              simp (h-n3) (ring F (f6 ∷ a2 ∷ c0 ∷ c1 ∷ c2 ∷ b0 ∷ b1 ∷ b2 ∷ s0 ∷ s1 ∷ wi ∷ z0 ∷ z1 ∷ z2 ∷ z3 ∷ z4 ∷ t5 ∷ n2 ∷ d ∷ n1 ∷ q ∷ n0 ∷ []) (search quote depth 40) refl),
               (
-                ring F (a2 ∷ c0 ∷ c1 ∷ c2 ∷ b0 ∷ b1 ∷ b2 ∷ s0 ∷ s1 ∷ wi ∷ z0 ∷ z1 ∷ z2 ∷ z3 ∷ z4 ∷ n3 ∷ t5 ∷ n2 ∷ d ∷ n1 ∷ q ∷ n0 ∷ []) (search quote depth 40) refl,
+                ring F (f6 ∷ a2 ∷ c0 ∷ c1 ∷ c2 ∷ b0 ∷ b1 ∷ b2 ∷ s0 ∷ s1 ∷ wi ∷ z0 ∷ z1 ∷ z2 ∷ z3 ∷ z4 ∷ n3 ∷ t5 ∷ n2 ∷ d ∷ n1 ∷ q ∷ n0 ∷ []) (search quote depth 40) refl,
                 tt,
               ),
             ),
@@ -102,20 +102,20 @@ module _ (F : CRing) where
         ),
       )
 
-  pub quotient-twice : (a0 a1 a2 c0 c1 c2 s0 s1 wi n3 n2 n1 q n0 : A) → n3 ≡ s1 + s1 → n2 ≡ s1 * s1 + (s0 + s0) → n1 ≡ n3 * s0 + wi * (c2 + c2 - wi) → q ≡ (s1 - a2) * c2 + wi * a2 + c1 → n0 ≡ s0 * s0 + (wi + wi) * q
-      → Below F 3 (coef F (mon F (s0 ∷ s1 ∷ []) ⊗ (mon F (s0 ∷ s1 ∷ []) ⊗ mon F (a0 ∷ a1 ∷ a2 ∷ []) ⊕ C F wi ⊗ (pol F (c0 ∷ c1 ∷ c2 ∷ []) ⊕ pol F (c0 ∷ c1 ∷ c2 ∷ []))) ⊖ C F wi ⊗ (C F wi ⊗ pol F (𝟘 ∷ 𝟘 ∷ 𝟘 ∷ (neg a2) ∷ 𝟙 ∷ [])) ⊖ mon F (a0 ∷ a1 ∷ a2 ∷ []) ⊗ mon F (n0 ∷ n1 ∷ n2 ∷ n3 ∷ [])))
+  pub quotient-twice : (f6 a0 a1 a2 c0 c1 c2 s0 s1 wi n3 n2 d n1 q n0 : A) → n3 ≡ s1 + s1 → n2 ≡ s1 * s1 + (s0 + s0) → d ≡ c2 + c2 → n1 ≡ n3 * s0 + wi * (d - wi) → q ≡ (s1 - a2) * d + wi * (a2 + a2 - f6) + (c1 + c1) → n0 ≡ s0 * s0 + wi * q
+      → Below F 3 (coef F (mon F (s0 ∷ s1 ∷ []) ⊗ (mon F (s0 ∷ s1 ∷ []) ⊗ mon F (a0 ∷ a1 ∷ a2 ∷ []) ⊕ C F wi ⊗ (pol F (c0 ∷ c1 ∷ c2 ∷ []) ⊕ pol F (c0 ∷ c1 ∷ c2 ∷ []))) ⊖ C F wi ⊗ (C F wi ⊗ pol F (𝟘 ∷ 𝟘 ∷ 𝟘 ∷ (f6 - a2) ∷ 𝟙 ∷ [])) ⊖ mon F (a0 ∷ a1 ∷ a2 ∷ []) ⊗ mon F (n0 ∷ n1 ∷ n2 ∷ n3 ∷ [])))
   unfolding addL mulL negL scaleL whole
-  quotient-twice a0 a1 a2 c0 c1 c2 s0 s1 wi n3 n2 n1 q n0 h-n3 h-n2 h-n1 h-q h-n0 =
-      below-by F 3 (pl (ti (mo (s0 ∷ s1 ∷ [])) (pl (ti (mo (s0 ∷ s1 ∷ [])) (mo (a0 ∷ a1 ∷ a2 ∷ []))) (ti (co wi) (pl (lo (c0 ∷ c1 ∷ c2 ∷ [])) (lo (c0 ∷ c1 ∷ c2 ∷ [])))))) (ne (ti (co wi) (ti (co wi) (lo (𝟘 ∷ 𝟘 ∷ 𝟘 ∷ (neg a2) ∷ 𝟙 ∷ [])))))) (ti (mo (a0 ∷ a1 ∷ a2 ∷ [])) (mo (n0 ∷ n1 ∷ n2 ∷ n3 ∷ []))) (
-        simp (h-n0, h-q, h-n1, h-n2, h-n3) (ring F (a0 ∷ a1 ∷ a2 ∷ c0 ∷ c1 ∷ c2 ∷ s0 ∷ s1 ∷ wi ∷ []) (search quote depth 40) refl),
+  quotient-twice f6 a0 a1 a2 c0 c1 c2 s0 s1 wi n3 n2 d n1 q n0 h-n3 h-n2 h-d h-n1 h-q h-n0 =
+      below-by F 3 (pl (ti (mo (s0 ∷ s1 ∷ [])) (pl (ti (mo (s0 ∷ s1 ∷ [])) (mo (a0 ∷ a1 ∷ a2 ∷ []))) (ti (co wi) (pl (lo (c0 ∷ c1 ∷ c2 ∷ [])) (lo (c0 ∷ c1 ∷ c2 ∷ [])))))) (ne (ti (co wi) (ti (co wi) (lo (𝟘 ∷ 𝟘 ∷ 𝟘 ∷ (f6 - a2) ∷ 𝟙 ∷ [])))))) (ti (mo (a0 ∷ a1 ∷ a2 ∷ [])) (mo (n0 ∷ n1 ∷ n2 ∷ n3 ∷ []))) (
+        simp (h-n0, h-q, h-n1, h-d, h-n2, h-n3) (ring F (f6 ∷ a0 ∷ a1 ∷ a2 ∷ c0 ∷ c1 ∷ c2 ∷ s0 ∷ s1 ∷ wi ∷ []) (search quote depth 40) refl),
         (
-          simp (h-n1, h-n2, h-n3) (ring F (a0 ∷ a1 ∷ a2 ∷ c0 ∷ c1 ∷ c2 ∷ s0 ∷ s1 ∷ wi ∷ q ∷ n0 ∷ []) (search quote depth 40) refl),
+          simp (h-n1, h-d, h-n2, h-n3) (ring F (f6 ∷ a0 ∷ a1 ∷ a2 ∷ c0 ∷ c1 ∷ c2 ∷ s0 ∷ s1 ∷ wi ∷ q ∷ n0 ∷ []) (search quote depth 40) refl),
           (
-            simp (h-n2, h-n3) (ring F (a0 ∷ a1 ∷ a2 ∷ c0 ∷ c1 ∷ c2 ∷ s0 ∷ s1 ∷ wi ∷ n1 ∷ q ∷ n0 ∷ []) (search quote depth 40) refl),
+            simp (h-n2, h-n3) (ring F (f6 ∷ a0 ∷ a1 ∷ a2 ∷ c0 ∷ c1 ∷ c2 ∷ s0 ∷ s1 ∷ wi ∷ d ∷ n1 ∷ q ∷ n0 ∷ []) (search quote depth 40) refl),
             (
-              simp (h-n3) (ring F (a0 ∷ a1 ∷ a2 ∷ c0 ∷ c1 ∷ c2 ∷ s0 ∷ s1 ∷ wi ∷ n2 ∷ n1 ∷ q ∷ n0 ∷ []) (search quote depth 40) refl),
+              simp (h-n3) (ring F (f6 ∷ a0 ∷ a1 ∷ a2 ∷ c0 ∷ c1 ∷ c2 ∷ s0 ∷ s1 ∷ wi ∷ n2 ∷ d ∷ n1 ∷ q ∷ n0 ∷ []) (search quote depth 40) refl),
               (
-                ring F (a0 ∷ a1 ∷ a2 ∷ c0 ∷ c1 ∷ c2 ∷ s0 ∷ s1 ∷ wi ∷ n3 ∷ n2 ∷ n1 ∷ q ∷ n0 ∷ []) (search quote depth 40) refl,
+                ring F (f6 ∷ d ∷ a0 ∷ a1 ∷ a2 ∷ c0 ∷ c1 ∷ c2 ∷ s0 ∷ s1 ∷ wi ∷ n3 ∷ n2 ∷ n1 ∷ q ∷ n0 ∷ []) (search quote depth 40) refl,
                 tt,
               ),
             ),
@@ -147,18 +147,18 @@ module _ (F : CRing) where
         ),
       )
 
-  pub second-tops : (n0 n1 n2 n3 m0 m1 m2 m3 f0 f1 f2 f3 f4 f5 t1 e2 e1 e0 : A) → t1 ≡ m3 + m3 → e2 ≡ neg (n3 + m3 * m3) → e1 ≡ f5 - n2 - (e2 * n3 + t1 * m2) → e0 ≡ f4 - n1 - (m2 * m2 + e2 * n2) - (e1 * n3 + t1 * m1)
-      → Below F 4 (coef F (mon F (f0 ∷ f1 ∷ f2 ∷ f3 ∷ f4 ∷ f5 ∷ 𝟘 ∷ []) ⊖ pol F (m0 ∷ m1 ∷ m2 ∷ m3 ∷ []) ⊗ pol F (m0 ∷ m1 ∷ m2 ∷ m3 ∷ []) ⊖ mon F (n0 ∷ n1 ∷ n2 ∷ n3 ∷ []) ⊗ mon F (e0 ∷ e1 ∷ e2 ∷ [])))
+  pub second-tops : (n0 n1 n2 n3 m0 m1 m2 m3 f0 f1 f2 f3 f4 f5 f6 t1 e2 e1 e0 : A) → t1 ≡ m3 + m3 → e2 ≡ f6 - (n3 + m3 * m3) → e1 ≡ f5 - n2 - (e2 * n3 + t1 * m2) → e0 ≡ f4 - n1 - (m2 * m2 + e2 * n2) - (e1 * n3 + t1 * m1)
+      → Below F 4 (coef F (mon F (f0 ∷ f1 ∷ f2 ∷ f3 ∷ f4 ∷ f5 ∷ f6 ∷ []) ⊖ pol F (m0 ∷ m1 ∷ m2 ∷ m3 ∷ []) ⊗ pol F (m0 ∷ m1 ∷ m2 ∷ m3 ∷ []) ⊖ mon F (n0 ∷ n1 ∷ n2 ∷ n3 ∷ []) ⊗ mon F (e0 ∷ e1 ∷ e2 ∷ [])))
   unfolding addL mulL negL scaleL whole
-  second-tops n0 n1 n2 n3 m0 m1 m2 m3 f0 f1 f2 f3 f4 f5 t1 e2 e1 e0 h-t1 h-e2 h-e1 h-e0 =
-      below-by F 4 (pl (mo (f0 ∷ f1 ∷ f2 ∷ f3 ∷ f4 ∷ f5 ∷ 𝟘 ∷ [])) (ne (ti (lo (m0 ∷ m1 ∷ m2 ∷ m3 ∷ [])) (lo (m0 ∷ m1 ∷ m2 ∷ m3 ∷ []))))) (ti (mo (n0 ∷ n1 ∷ n2 ∷ n3 ∷ [])) (mo (e0 ∷ e1 ∷ e2 ∷ []))) (
-        simp (h-t1, h-e0) (ring F (n0 ∷ n1 ∷ n2 ∷ n3 ∷ m0 ∷ m1 ∷ m2 ∷ m3 ∷ f0 ∷ f1 ∷ f2 ∷ f3 ∷ f4 ∷ f5 ∷ e2 ∷ e1 ∷ []) (search quote depth 40) refl),
+  second-tops n0 n1 n2 n3 m0 m1 m2 m3 f0 f1 f2 f3 f4 f5 f6 t1 e2 e1 e0 h-t1 h-e2 h-e1 h-e0 =
+      below-by F 4 (pl (mo (f0 ∷ f1 ∷ f2 ∷ f3 ∷ f4 ∷ f5 ∷ f6 ∷ [])) (ne (ti (lo (m0 ∷ m1 ∷ m2 ∷ m3 ∷ [])) (lo (m0 ∷ m1 ∷ m2 ∷ m3 ∷ []))))) (ti (mo (n0 ∷ n1 ∷ n2 ∷ n3 ∷ [])) (mo (e0 ∷ e1 ∷ e2 ∷ []))) (
+        simp (h-t1, h-e0) (ring F (n0 ∷ n1 ∷ n2 ∷ n3 ∷ m0 ∷ m1 ∷ m2 ∷ m3 ∷ f0 ∷ f1 ∷ f2 ∷ f3 ∷ f4 ∷ f5 ∷ f6 ∷ e2 ∷ e1 ∷ []) (search quote depth 40) refl),
         (
-          simp (h-t1, h-e1) (ring F (n0 ∷ n1 ∷ n2 ∷ n3 ∷ m0 ∷ m1 ∷ m2 ∷ m3 ∷ f0 ∷ f1 ∷ f2 ∷ f3 ∷ f4 ∷ f5 ∷ e2 ∷ e0 ∷ []) (search quote depth 40) refl),
+          simp (h-t1, h-e1) (ring F (n0 ∷ n1 ∷ n2 ∷ n3 ∷ m0 ∷ m1 ∷ m2 ∷ m3 ∷ f0 ∷ f1 ∷ f2 ∷ f3 ∷ f4 ∷ f5 ∷ f6 ∷ e2 ∷ e0 ∷ []) (search quote depth 40) refl),
           (
-            simp (h-e2) (ring F (n0 ∷ n1 ∷ n2 ∷ n3 ∷ m0 ∷ m1 ∷ m2 ∷ m3 ∷ f0 ∷ f1 ∷ f2 ∷ f3 ∷ f4 ∷ f5 ∷ t1 ∷ e1 ∷ e0 ∷ []) (search quote depth 40) refl),
+            simp (h-e2) (ring F (n0 ∷ n1 ∷ n2 ∷ n3 ∷ m0 ∷ m1 ∷ m2 ∷ m3 ∷ f0 ∷ f1 ∷ f2 ∷ f3 ∷ f4 ∷ f5 ∷ f6 ∷ t1 ∷ e1 ∷ e0 ∷ []) (search quote depth 40) refl),
             (
-              ring F (n0 ∷ n1 ∷ n2 ∷ n3 ∷ m0 ∷ m1 ∷ m2 ∷ m3 ∷ f0 ∷ f1 ∷ f2 ∷ f3 ∷ f4 ∷ f5 ∷ t1 ∷ e2 ∷ e1 ∷ e0 ∷ []) (search quote depth 40) refl,
+              ring F (n0 ∷ n1 ∷ n2 ∷ n3 ∷ m0 ∷ m1 ∷ m2 ∷ m3 ∷ f0 ∷ f1 ∷ f2 ∷ f3 ∷ f4 ∷ f5 ∷ f6 ∷ t1 ∷ e2 ∷ e1 ∷ e0 ∷ []) (search quote depth 40) refl,
               tt,
             ),
           ),

@@ -110,21 +110,21 @@ module _ (F : CRing) where
         ),
       )
 
-  -- (f - v²)/u is (x - 2 a2)·u + k, as far as f is known
-  pub right-tops : (a0 a1 a2 c0 c1 c2 f0 f1 f2 f3 f4 f5 t1 t2 t3 t4 t5 k2 k1 k0 : A) → t1 ≡ a0 + a0 → t2 ≡ a1 + a1 → t3 ≡ a2 * a2 → t4 ≡ f4 - (t1 + c2 * c2) → t5 ≡ f5 + t3 - t2 → k2 ≡ t5 + (t3 + t3) → k1 ≡ a2 * (t2 - t5) + t4 → k0 ≡ a2 * (t1 - k1) + a1 * (t3 + a1 - f5) + f3 - (c2 + c2) * c1
-      → Below F 3 (coef F (mon F (f0 ∷ f1 ∷ f2 ∷ f3 ∷ f4 ∷ f5 ∷ 𝟘 ∷ []) ⊖ pol F (c0 ∷ c1 ∷ c2 ∷ []) ⊗ pol F (c0 ∷ c1 ∷ c2 ∷ []) ⊖ mon F (a0 ∷ a1 ∷ a2 ∷ []) ⊗ (pol F ((neg (a2 + a2)) ∷ 𝟙 ∷ []) ⊗ mon F (a0 ∷ a1 ∷ a2 ∷ []) ⊕ pol F (k0 ∷ k1 ∷ k2 ∷ []))))
+  -- (f - v²)/u is (x + f6 - 2 a2)·u + k, as far as f is known
+  pub right-tops : (a0 a1 a2 c0 c1 c2 f0 f1 f2 f3 f4 f5 f6 t1 t2 t3 t4 p t5 k2 k1 k0 : A) → t1 ≡ a0 + a0 → t2 ≡ a1 + a1 → t3 ≡ a2 * a2 → t4 ≡ f4 - (t1 + c2 * c2) → p ≡ a2 * f6 → t5 ≡ f5 + t3 - t2 - p → k2 ≡ t5 + (t3 + t3) - p → k1 ≡ a2 * (t2 - t5) - t2 * f6 + t4 → k0 ≡ a2 * (t1 - k1) + a1 * (t3 + a1 - f5) + f3 - ((c2 + c2) * c1 + t1 * f6)
+      → Below F 3 (coef F (mon F (f0 ∷ f1 ∷ f2 ∷ f3 ∷ f4 ∷ f5 ∷ f6 ∷ []) ⊖ pol F (c0 ∷ c1 ∷ c2 ∷ []) ⊗ pol F (c0 ∷ c1 ∷ c2 ∷ []) ⊖ mon F (a0 ∷ a1 ∷ a2 ∷ []) ⊗ (pol F ((f6 - (a2 + a2)) ∷ 𝟙 ∷ []) ⊗ mon F (a0 ∷ a1 ∷ a2 ∷ []) ⊕ pol F (k0 ∷ k1 ∷ k2 ∷ []))))
   unfolding addL mulL negL scaleL whole
-  right-tops a0 a1 a2 c0 c1 c2 f0 f1 f2 f3 f4 f5 t1 t2 t3 t4 t5 k2 k1 k0 h-t1 h-t2 h-t3 h-t4 h-t5 h-k2 h-k1 h-k0 =
-      below-by F 3 (pl (mo (f0 ∷ f1 ∷ f2 ∷ f3 ∷ f4 ∷ f5 ∷ 𝟘 ∷ [])) (ne (ti (lo (c0 ∷ c1 ∷ c2 ∷ [])) (lo (c0 ∷ c1 ∷ c2 ∷ []))))) (ti (mo (a0 ∷ a1 ∷ a2 ∷ [])) (pl (ti (lo ((neg (a2 + a2)) ∷ 𝟙 ∷ [])) (mo (a0 ∷ a1 ∷ a2 ∷ []))) (lo (k0 ∷ k1 ∷ k2 ∷ [])))) (
-        simp (h-k0, h-k1, h-k2, h-t5, h-t4, h-t3, h-t2, h-t1) (ring F (a0 ∷ a1 ∷ a2 ∷ c0 ∷ c1 ∷ c2 ∷ f0 ∷ f1 ∷ f2 ∷ f3 ∷ f4 ∷ f5 ∷ []) (search quote depth 40) refl),
+  right-tops a0 a1 a2 c0 c1 c2 f0 f1 f2 f3 f4 f5 f6 t1 t2 t3 t4 p t5 k2 k1 k0 h-t1 h-t2 h-t3 h-t4 h-p h-t5 h-k2 h-k1 h-k0 =
+      below-by F 3 (pl (mo (f0 ∷ f1 ∷ f2 ∷ f3 ∷ f4 ∷ f5 ∷ f6 ∷ [])) (ne (ti (lo (c0 ∷ c1 ∷ c2 ∷ [])) (lo (c0 ∷ c1 ∷ c2 ∷ []))))) (ti (mo (a0 ∷ a1 ∷ a2 ∷ [])) (pl (ti (lo ((f6 - (a2 + a2)) ∷ 𝟙 ∷ [])) (mo (a0 ∷ a1 ∷ a2 ∷ []))) (lo (k0 ∷ k1 ∷ k2 ∷ [])))) (
+        simp (h-k0, h-k2, h-t5, h-p, h-t3, h-t2, h-t1) (ring F (a0 ∷ a1 ∷ a2 ∷ c0 ∷ c1 ∷ c2 ∷ f0 ∷ f1 ∷ f2 ∷ f3 ∷ f4 ∷ f5 ∷ f6 ∷ t4 ∷ k1 ∷ []) (search quote depth 40) refl),
         (
-          simp (h-k1, h-k2, h-t5, h-t4, h-t3, h-t2, h-t1) (ring F (a0 ∷ a1 ∷ a2 ∷ c0 ∷ c1 ∷ c2 ∷ f0 ∷ f1 ∷ f2 ∷ f3 ∷ f4 ∷ f5 ∷ k0 ∷ []) (search quote depth 40) refl),
+          simp (h-k1, h-k2, h-t5, h-p, h-t4, h-t3, h-t2, h-t1) (ring F (a0 ∷ a1 ∷ a2 ∷ c0 ∷ c1 ∷ c2 ∷ f0 ∷ f1 ∷ f2 ∷ f3 ∷ f4 ∷ f5 ∷ f6 ∷ k0 ∷ []) (search quote depth 40) refl),
           (
-            simp (h-k2, h-t5, h-t3, h-t2) (ring F (a0 ∷ a1 ∷ a2 ∷ c0 ∷ c1 ∷ c2 ∷ f0 ∷ f1 ∷ f2 ∷ f3 ∷ f4 ∷ f5 ∷ t1 ∷ t4 ∷ k1 ∷ k0 ∷ []) (search quote depth 40) refl),
+            simp (h-k2, h-t5, h-p, h-t3, h-t2) (ring F (a0 ∷ a1 ∷ a2 ∷ c0 ∷ c1 ∷ c2 ∷ f0 ∷ f1 ∷ f2 ∷ f3 ∷ f4 ∷ f5 ∷ f6 ∷ t1 ∷ t4 ∷ k1 ∷ k0 ∷ []) (search quote depth 40) refl),
             (
-              ring F (a0 ∷ a1 ∷ a2 ∷ c0 ∷ c1 ∷ c2 ∷ f0 ∷ f1 ∷ f2 ∷ f3 ∷ f4 ∷ f5 ∷ t1 ∷ t2 ∷ t3 ∷ t4 ∷ t5 ∷ k2 ∷ k1 ∷ k0 ∷ []) (search quote depth 40) refl,
+              ring F (a0 ∷ a1 ∷ a2 ∷ c0 ∷ c1 ∷ c2 ∷ f0 ∷ f1 ∷ f2 ∷ f3 ∷ f4 ∷ f5 ∷ f6 ∷ t1 ∷ t2 ∷ t3 ∷ t4 ∷ p ∷ t5 ∷ k2 ∷ k1 ∷ k0 ∷ []) (search quote depth 40) refl,
               (
-                ring F (a0 ∷ a1 ∷ a2 ∷ c0 ∷ c1 ∷ c2 ∷ f0 ∷ f1 ∷ f2 ∷ f3 ∷ f4 ∷ f5 ∷ t1 ∷ t2 ∷ t3 ∷ t4 ∷ t5 ∷ k2 ∷ k1 ∷ k0 ∷ []) (search quote depth 40) refl,
+                ring F (a0 ∷ a1 ∷ a2 ∷ c0 ∷ c1 ∷ c2 ∷ f0 ∷ f1 ∷ f2 ∷ f3 ∷ f4 ∷ f5 ∷ f6 ∷ t1 ∷ t2 ∷ t3 ∷ t4 ∷ p ∷ t5 ∷ k2 ∷ k1 ∷ k0 ∷ []) (search quote depth 40) refl,
                 tt,
               ),
             ),

@@ -1,9 +1,8 @@
-// When a sum is made by formula, for every table of both genera. Four conditions, and nothing else goes by formula:
+// When a sum is made by formula, for every table of both genera. Three conditions, and nothing else goes by formula:
 // 1. both divisors have weight g (`Curve::quick_sum`, `quick_double`: the two cases of a divisor are matched there);
-// 2. in genus 3, f_6 = 0 (`Curve::quick_three`, `twice_three`);
-// 3. r isn't 0, so that u of the one has an inverse modulo u of the other (of a double: 2v modulo u);
-// 4. the top coefficient of s' isn't 0. Genus 2 also takes s' of lower degree, by formulae of its own.
-// 3 and 4 are looked at here, once. Whatever fails one of them goes to the plain sum.
+// 2. r isn't 0, so that u of the one has an inverse modulo u of the other (of a double: 2v modulo u);
+// 3. the top coefficient of s' isn't 0. Genus 2 also takes s' of lower degree, by formulae of its own.
+// 2 and 3 are looked at here, once. Whatever fails one of them goes to the plain sum. f_6 is any: source 004's tables have f_6 = 0, and what stands here isn't theirs in that.
 ghost use Rattle.field.specs.Residues.{Settled};
 ghost use Rattle.formulas.specs.Conditions.{Looked};
 use divisor::Divisor;

@@ -19,9 +19,10 @@ use Rattle.genus3.specs.declared.Five.{Five}
 use Rattle.genus3.specs.declared.Slope.{Slope}
 
 module _ (m : Modulus) where
-  open CRing (K m) using (El as A, mul as _*_, neg, zer as 𝟘, one as 𝟙)
+  open CRing (K m) using (El as A, add as _+_, mul as _*_, neg, zer as 𝟘, one as 𝟙)
   open CRing (poly (K m)) using (El as P, add as _⊕_, mul as _⊗_, neg as negP, one as 1P)
 
+  infixl 65 _+_
   infixl 70 _*_
   infixl 65 _⊕_
   infixl 65 _⊖_
@@ -68,8 +69,8 @@ module _ (m : Modulus) where
   slopeOf x = mon (K m) (el m (x .s0) ∷ el m (x .s1) ∷ [])
 
   -- (f - v²)/u from place 3 on
-  abbrev pub topOf : Cubic → P
-  topOf a = pol (K m) (𝟘 ∷ 𝟘 ∷ 𝟘 ∷ neg (el m (a .u2)) ∷ 𝟙 ∷ [])
+  abbrev pub topOf : Residue → Cubic → P
+  topOf f6 a = pol (K m) (𝟘 ∷ 𝟘 ∷ 𝟘 ∷ (el m f6 + neg (el m (a .u2))) ∷ 𝟙 ∷ [])
 
   -- i = 1/(r·s'2)
   pub record Divisible (o : Opened) (i : Residue) : Type 0 where
@@ -87,9 +88,9 @@ module _ (m : Modulus) where
     pub is : slopeOf x ⊗ uOf m a ≡ quinticOf z
 
   -- z is S·u: S·(S·u + 2v/w) - ((f - v²)/u)/w² is u'·n from place 3 on
-  pub record Quotient (a b : Cubic) (x : Slope) (z : P) (n : Four) : Type 0 where
+  pub record Quotient (f6 : Residue) (a b : Cubic) (x : Slope) (z : P) (n : Four) : Type 0 where
     pub kept : KeptFour n
-    pub tops : Below (K m) 3 (coef (K m) (slopeOf x ⊗ (z ⊕ cst (x .wi) ⊗ twice m a) ⊖ cst (x .wi) ⊗ (cst (x .wi) ⊗ topOf a) ⊖ uOf m b ⊗ quarticOf n))
+    pub tops : Below (K m) 3 (coef (K m) (slopeOf x ⊗ (z ⊕ cst (x .wi) ⊗ twice m a) ⊖ cst (x .wi) ⊗ (cst (x .wi) ⊗ topOf f6 a) ⊖ uOf m b ⊗ quarticOf n))
 
   -- v + s·u modulo n
   pub record Rest (a : Cubic) (x : Slope) (z : Five) (n t : Four) : Type 0 where
@@ -98,8 +99,8 @@ module _ (m : Modulus) where
     pub is : vOf m a ⊕ cst (x .w) ⊗ quinticOf z ≡ q ⊗ quarticOf n ⊕ fourOf t
 
   -- (f - t²)/n, and t modulo it
-  pub record Second (n t : Four) (f4 f5 : Residue) (d : Cubic) : Type 0 where
+  pub record Second (n t : Four) (f4 f5 f6 : Residue) (d : Cubic) : Type 0 where
     pub held : Held m (Three d)
-    pub tops : (g0 g1 g2 g3 : A) → Below (K m) 4 (coef (K m) (fWith m g0 g1 g2 g3 f4 f5 ⊖ fourOf t ⊗ fourOf t ⊖ quarticOf n ⊗ uOf m d))
+    pub tops : (g0 g1 g2 g3 : A) → Below (K m) 4 (coef (K m) (fWith m g0 g1 g2 g3 f4 f5 f6 ⊖ fourOf t ⊗ fourOf t ⊖ quarticOf n ⊗ uOf m d))
     pub q : P
     pub is : fourOf t ≡ q ⊗ uOf m d ⊕ vOf m d

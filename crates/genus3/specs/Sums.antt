@@ -22,25 +22,25 @@ module _ (m : Modulus) where
   A = zmod (m .p) .El
 
   -- wherever s'/r composes a and b
-  pub record Closes (f4 f5 : Residue) (a b : Cubic) (o : Opened) (d : Cubic) : Type 0 where
+  pub record Closes (f4 f5 f6 : Residue) (a b : Cubic) (o : Opened) (d : Cubic) : Type 0 where
     pub held : Held m (Three d)
-    pub is : (g0 g1 g2 g3 : A) → Accepted (curveWith m f4 f5 g0 g1 g2 g3) → Valid (curveWith m f4 f5 g0 g1 g2 g3) (pair m (Three a)) → Valid (curveWith m f4 f5 g0 g1 g2 g3) (pair m (Three b))
-        → Joins m (f (curveWith m f4 f5 g0 g1 g2 g3)) a b o → sum (curveWith m f4 f5 g0 g1 g2 g3) (pair m (Three a)) (pair m (Three b)) ≡ pair m (Three d)
+    pub is : (g0 g1 g2 g3 : A) → Accepted (curveWith m f4 f5 f6 g0 g1 g2 g3) → Valid (curveWith m f4 f5 f6 g0 g1 g2 g3) (pair m (Three a)) → Valid (curveWith m f4 f5 f6 g0 g1 g2 g3) (pair m (Three b))
+        → Joins m (f (curveWith m f4 f5 f6 g0 g1 g2 g3)) a b o → sum (curveWith m f4 f5 f6 g0 g1 g2 g3) (pair m (Three a)) (pair m (Three b)) ≡ pair m (Three d)
 
-  pub record Found3 (f4 f5 : Residue) (a b : Cubic) (d : Divisor) : Type 0 where
+  pub record Found3 (f4 f5 f6 : Residue) (a b : Cubic) (d : Divisor) : Type 0 where
     pub held : Held m d
-    pub is : (g0 g1 g2 g3 : A) → Accepted (curveWith m f4 f5 g0 g1 g2 g3) → Valid (curveWith m f4 f5 g0 g1 g2 g3) (pair m (Three a)) → Valid (curveWith m f4 f5 g0 g1 g2 g3) (pair m (Three b))
-        → sum (curveWith m f4 f5 g0 g1 g2 g3) (pair m (Three a)) (pair m (Three b)) ≡ pair m d
+    pub is : (g0 g1 g2 g3 : A) → Accepted (curveWith m f4 f5 f6 g0 g1 g2 g3) → Valid (curveWith m f4 f5 f6 g0 g1 g2 g3) (pair m (Three a)) → Valid (curveWith m f4 f5 f6 g0 g1 g2 g3) (pair m (Three b))
+        → sum (curveWith m f4 f5 f6 g0 g1 g2 g3) (pair m (Three a)) (pair m (Three b)) ≡ pair m d
 
-  abbrev pub Sum3 : Residue → Residue → Cubic → Cubic → Sought → Type 0
-  Sum3 f4 f5 a b (Found d) = Found3 f4 f5 a b d
-  Sum3 f4 f5 a b Special = Unit {0}
+  abbrev pub Sum3 : Residue → Residue → Residue → Cubic → Cubic → Sought → Type 0
+  Sum3 f4 f5 f6 a b (Found d) = Found3 f4 f5 f6 a b d
+  Sum3 f4 f5 f6 a b Special = Unit {0}
 
-  pub record Twice3 (f3 f4 f5 : Residue) (a : Cubic) (d : Divisor) : Type 0 where
+  pub record Twice3 (f3 f4 f5 f6 : Residue) (a : Cubic) (d : Divisor) : Type 0 where
     pub held : Held m d
-    pub is : (g0 g1 g2 : A) → Accepted (curveWith m f4 f5 g0 g1 g2 (el m f3)) → Valid (curveWith m f4 f5 g0 g1 g2 (el m f3)) (pair m (Three a))
-        → sum (curveWith m f4 f5 g0 g1 g2 (el m f3)) (pair m (Three a)) (pair m (Three a)) ≡ pair m d
+    pub is : (g0 g1 g2 : A) → Accepted (curveWith m f4 f5 f6 g0 g1 g2 (el m f3)) → Valid (curveWith m f4 f5 f6 g0 g1 g2 (el m f3)) (pair m (Three a))
+        → sum (curveWith m f4 f5 f6 g0 g1 g2 (el m f3)) (pair m (Three a)) (pair m (Three a)) ≡ pair m d
 
-  abbrev pub Double3 : Residue → Residue → Residue → Cubic → Sought → Type 0
-  Double3 f3 f4 f5 a (Found d) = Twice3 f3 f4 f5 a d
-  Double3 f3 f4 f5 a Special = Unit {0}
+  abbrev pub Double3 : Residue → Residue → Residue → Residue → Cubic → Sought → Type 0
+  Double3 f3 f4 f5 f6 a (Found d) = Twice3 f3 f4 f5 f6 a d
+  Double3 f3 f4 f5 f6 a Special = Unit {0}

@@ -1,5 +1,5 @@
 // Genus 3 by formula, from s' / r to the sum, above `opens3`: steps 5 to 11 of source 004's table 1 (addition) and 6 to 12 of its table 2 (doubling), for
-// curves with f_6 = 0; with another f_6 the answer's u_2 would be off by it. Each step promises an equation of K[x]; (u, v) is the pair a, the base; b is
+// any f_6, where the tables have 0: it enters the first quotient's last coefficient and the answer's u_2, and no other. Each step promises an equation of K[x]; (u, v) is the pair a, the base; b is
 // the other one. The two tables differ here only in the first quotient.
 // The letters w, s, z (table 2: g) and t are the tables'; n and m stand for their u and v with a tilde. Misprints mended: in step 8 of table 1, t2, t3 and
 // t4 stand before the coefficients 3 and 2 that they use; the headings of table 1's steps 9 and 11 and of table 2's 10 and 12 write u for v, and that of
@@ -83,9 +83,9 @@ pub fn stretch(a: Cubic, x: Slope, m: Modulus) -> Five
 }
 
 // The first quotient, from the top down, in the right order. What is divided is known to be a multiple, so its top coefficients are enough.
-pub fn quotient(a: Cubic, b: Cubic, x: Slope, z: Five, m: Modulus) -> Four
-    requires { ⌜ Held m (Divisor.Three a) × (Held m (Divisor.Three b) × (KeptSlope m x × KeptFive m z)) ⌝ }
-    ensures { λ n. ⌜ Quotient m a b x (quinticOf m z) n ⌝ }
+pub fn quotient(a: Cubic, b: Cubic, x: Slope, z: Five, f6: Residue, m: Modulus) -> Four
+    requires { ⌜ Held m (Divisor.Three a) × (Held m (Divisor.Three b) × (KeptSlope m x × (KeptFive m z × Kept m f6))) ⌝ }
+    ensures { λ n. ⌜ Quotient m f6 a b x (quinticOf m z) n ⌝ }
 {
     let n3 = z.c4.add(x.s1, m).sub(b.u2, m);
     let t5 = x.s1.cross(z.c4, b.u2, n3, m);
@@ -96,7 +96,7 @@ pub fn quotient(a: Cubic, b: Cubic, x: Slope, z: Five, m: Modulus) -> Four
         .add(x.s0.dot(z.c4, x.s1, z.c3, m), m)
         .sub(b.u2.dot(n2, b.u1, n3, m), m)
         .add(x.wi.mul_diff(d, x.wi, m), m);
-    let q = d.dot(x.s1, x.wi, a.u2, m).add(a.v1.dbl(m), m);
+    let q = d.dot(x.s1, x.wi, a.u2.sub(f6, m), m).add(a.v1.dbl(m), m);
     let n0 = z.c1
         .add(x.s0.cross(z.c3, b.u1, n2, m), m)
         .add(x.s1.dot(z.c2, x.wi, q, m), m)
@@ -110,15 +110,19 @@ pub fn quotient(a: Cubic, b: Cubic, x: Slope, z: Five, m: Modulus) -> Four
 }
 
 // The same of a pair with itself: S² is divided off.
-pub fn quotient_twice(a: Cubic, x: Slope, m: Modulus) -> Four
-    requires { ⌜ Held m (Divisor.Three a) × KeptSlope m x ⌝ }
-    ensures { λ n. ⌜ Quotient m a a x (poly (K m) .mul (slopeOf m x) (uOf m a)) n ⌝ }
+pub fn quotient_twice(a: Cubic, x: Slope, f6: Residue, m: Modulus) -> Four
+    requires { ⌜ Held m (Divisor.Three a) × (KeptSlope m x × Kept m f6) ⌝ }
+    ensures { λ n. ⌜ Quotient m f6 a a x (poly (K m) .mul (slopeOf m x) (uOf m a)) n ⌝ }
 {
     let n3 = x.s1.dbl(m);
     let n2 = x.s1.sqr(m).add(x.s0.dbl(m), m);
-    let n1 = n3.dot(x.s0, x.wi, a.v2.dbl(m).sub(x.wi, m), m);
-    let q = x.s1.sub(a.u2, m).dot(a.v2, x.wi, a.u2, m).add(a.v1, m);
-    let n0 = x.s0.dot(x.s0, x.wi.dbl(m), q, m);
+    let d = a.v2.dbl(m);
+    let n1 = n3.dot(x.s0, x.wi, d.sub(x.wi, m), m);
+    let q = x.s1
+        .sub(a.u2, m)
+        .dot(d, x.wi, a.u2.dbl(m).sub(f6, m), m)
+        .add(a.v1.dbl(m), m);
+    let n0 = x.s0.dot(x.s0, x.wi, q, m);
     Four {
         c0: n0,
         c1: n1,
@@ -146,12 +150,12 @@ pub fn rest(a: Cubic, x: Slope, z: Five, n: Four, m: Modulus) -> Four
 }
 
 // The second step, settled: u = (f - t²) / n, v = t modulo u.
-pub fn second(n: Four, t: Four, f4: Residue, f5: Residue, m: Modulus) -> Cubic
-    requires { ⌜ Good m × (KeptFour m n × (KeptFour m t × (Kept m f4 × Kept m f5))) ⌝ }
-    ensures { λ d. ⌜ Second m n t f4 f5 d ⌝ }
+pub fn second(n: Four, t: Four, f4: Residue, f5: Residue, f6: Residue, m: Modulus) -> Cubic
+    requires { ⌜ Good m × (KeptFour m n × (KeptFour m t × (Kept m f4 × (Kept m f5 × Kept m f6)))) ⌝ }
+    ensures { λ d. ⌜ Second m n t f4 f5 f6 d ⌝ }
 {
     let t1 = t.c3.dbl(m);
-    let e2 = n.c3.add(t.c3.sqr(m), m).neg(m).settle(m);
+    let e2 = f6.sub(n.c3.add(t.c3.sqr(m), m), m).settle(m);
     let e1 = f5.sub(n.c2, m).sub(e2.dot(n.c3, t1, t.c2, m), m).settle(m);
     let e0 = f4.sub(n.c1, m)
         .sub(t.c2.dot(t.c2, e2, n.c2, m), m)
@@ -178,34 +182,43 @@ pub fn close(
     i: Residue,
     f4: Residue,
     f5: Residue,
+    f6: Residue,
     m: Modulus,
 ) -> Cubic
-    requires { ⌜ Held m (Divisor.Three a) × (Held m (Divisor.Three b) × (Divisible m o i × (Kept m f4 × Kept m f5))) ⌝ }
-    ensures { λ d. ⌜ Closes m f4 f5 a b o d ⌝ }
+    requires { ⌜ Held m (Divisor.Three a) × (Held m (Divisor.Three b) × (Divisible m o i × (Kept m f4 × (Kept m f5 × Kept m f6)))) ⌝ }
+    ensures { λ d. ⌜ Closes m f4 f5 f6 a b o d ⌝ }
 {
     let y = divide(o, i, m);
     let z = stretch(a, y, m);
-    let n = quotient(a, b, y, z, m);
+    let n = quotient(a, b, y, z, f6, m);
     let t = rest(a, y, z, n, m);
-    second(n, t, f4, f5, m)
+    second(n, t, f4, f5, f6, m)
 }
 
 // The same of a with itself.
-pub fn close_twice(a: Cubic, o: Opened, i: Residue, f4: Residue, f5: Residue, m: Modulus) -> Cubic
-    requires { ⌜ Held m (Divisor.Three a) × (Divisible m o i × (Kept m f4 × Kept m f5)) ⌝ }
-    ensures { λ d. ⌜ Closes m f4 f5 a a o d ⌝ }
+pub fn close_twice(
+    a: Cubic,
+    o: Opened,
+    i: Residue,
+    f4: Residue,
+    f5: Residue,
+    f6: Residue,
+    m: Modulus,
+) -> Cubic
+    requires { ⌜ Held m (Divisor.Three a) × (Divisible m o i × (Kept m f4 × (Kept m f5 × Kept m f6))) ⌝ }
+    ensures { λ d. ⌜ Closes m f4 f5 f6 a a o d ⌝ }
 {
     let y = divide(o, i, m);
     let z = stretch(a, y, m);
-    let n = quotient_twice(a, y, m);
+    let n = quotient_twice(a, y, f6, m);
     let t = rest(a, y, z, n, m);
-    second(n, t, f4, f5, m)
+    second(n, t, f4, f5, f6, m)
 }
 
 // a + b, where r and s'2 aren't 0.
-pub fn add(a: Cubic, b: Cubic, f4: Residue, f5: Residue, m: Modulus) -> Sought
-    requires { ⌜ Held m (Divisor.Three a) × (Held m (Divisor.Three b) × (Kept m f4 × Kept m f5)) ⌝ }
-    ensures { λ r. ⌜ Sum3 m f4 f5 a b r ⌝ }
+pub fn add(a: Cubic, b: Cubic, f4: Residue, f5: Residue, f6: Residue, m: Modulus) -> Sought
+    requires { ⌜ Held m (Divisor.Three a) × (Held m (Divisor.Three b) × (Kept m f4 × (Kept m f5 × Kept m f6))) ⌝ }
+    ensures { λ r. ⌜ Sum3 m f4 f5 f6 a b r ⌝ }
 {
     let o = opens3::open(a, b, m);
     let k = formulas::look(o.r, o.s.c2, m);
@@ -215,18 +228,18 @@ pub fn add(a: Cubic, b: Cubic, f4: Residue, f5: Residue, m: Modulus) -> Sought
         Condition::Main => {
             let p = o.r.mul(o.s.c2, m);
             let i = p.inverse(m);
-            let d = close(a, b, o, i, f4, f5, m);
+            let d = close(a, b, o, i, f4, f5, f6, m);
             Sought::Found(Divisor::Three(d))
         }
     }
 }
 
 // a + a, where r and s'2 aren't 0.
-pub fn double(a: Cubic, f3: Residue, f4: Residue, f5: Residue, m: Modulus) -> Sought
-    requires { ⌜ Held m (Divisor.Three a) × (Kept m f3 × (Kept m f4 × Kept m f5)) ⌝ }
-    ensures { λ r. ⌜ Double3 m f3 f4 f5 a r ⌝ }
+pub fn double(a: Cubic, f3: Residue, f4: Residue, f5: Residue, f6: Residue, m: Modulus) -> Sought
+    requires { ⌜ Held m (Divisor.Three a) × (Kept m f3 × (Kept m f4 × (Kept m f5 × Kept m f6))) ⌝ }
+    ensures { λ r. ⌜ Double3 m f3 f4 f5 f6 a r ⌝ }
 {
-    let o = opens3::open_twice(a, f3, f4, f5, m);
+    let o = opens3::open_twice(a, f3, f4, f5, f6, m);
     let k = formulas::look(o.r, o.s.c2, m);
     match k {
         Condition::Special => Sought::Special,
@@ -234,7 +247,7 @@ pub fn double(a: Cubic, f3: Residue, f4: Residue, f5: Residue, m: Modulus) -> So
         Condition::Main => {
             let p = o.r.mul(o.s.c2, m);
             let i = p.inverse(m);
-            let d = close_twice(a, o, i, f4, f5, m);
+            let d = close_twice(a, o, i, f4, f5, f6, m);
             Sought::Found(Divisor::Three(d))
         }
     }

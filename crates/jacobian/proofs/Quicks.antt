@@ -2,7 +2,7 @@
 -- the like of a divisor with itself); where it finds none nothing is to be shown.
 use Prim.Native.Nat.{ℕ, _+_, _-_, _≤_}
 use mathlib.Core.Path.{_≡_, sym, subst}
-use mathlib.Core.List.{List, [], _∷_}
+use mathlib.Core.List.{List}
 use native.Mathlib.Omega.{arith}
 use Rattle.algebra.proofs.zmod.Zmod.{zmod}
 use Rattle.algebra.proofs.zmod.PrimeField.{modulo}
@@ -68,23 +68,16 @@ module _ (c : Curve) (h : Sound c) where
   unfolding pair
   three a ha = omega (arith, ha .valid .small, h .most)
 
-  -- f6 being 0
-  abbrev with-top : A → List A
-  with-top t = el m (c .f0) ∷ el m (c .f1) ∷ el m (c .f2) ∷ el m (c .f3) ∷ el m (c .f4) ∷ el m (c .f5) ∷ t ∷ []
-
-  cleared : (a b d : Divisor) → el m (c .f6) ≡ zmod (c .m .p) .zer → Says a b d 3 (with-top (zmod (c .m .p) .zer)) → Says a b d 3 (up-to c 2)
-  cleared a b d z x = subst (λ (t : A). Says a b d 3 (with-top t)) (sym z) x
-
-  pub tried-three : (a b : Cubic) → Holds c (Three a) → Holds c (Three b) → el m (c .f6) ≡ zmod (c .m .p) .zer → (r : Sought) → Sum3 m (c .f4) (c .f5) a b r
+  pub tried-three : (a b : Cubic) → Holds c (Three a) → Holds c (Three b) → (r : Sought) → Sum3 m (c .f4) (c .f5) (c .f6) a b r
       → Tried c (sum (curveOf c) (pair m (Three a)) (pair m (Three b))) r
-  tried-three a b ha hb z (Found d) x = gives (Three a) (Three b) d ha hb (x .held)
-      (moved (Three a) (Three b) d 3 (three a ha) (cleared (Three a) (Three b) d z (x .is (el m (c .f0)) (el m (c .f1)) (el m (c .f2)) (el m (c .f3)))) (accepted c h) (ha .valid) (hb .valid))
-  tried-three a b ha hb z Special x = tt
+  tried-three a b ha hb (Found d) x = gives (Three a) (Three b) d ha hb (x .held)
+      (moved (Three a) (Three b) d 3 (three a ha) (x .is (el m (c .f0)) (el m (c .f1)) (el m (c .f2)) (el m (c .f3))) (accepted c h) (ha .valid) (hb .valid))
+  tried-three a b ha hb Special x = tt
 
-  pub twice-three : (a : Cubic) → Holds c (Three a) → el m (c .f6) ≡ zmod (c .m .p) .zer → (r : Sought) → Double3 m (c .f3) (c .f4) (c .f5) a r → Tried c (sum (curveOf c) (pair m (Three a)) (pair m (Three a))) r
-  twice-three a ha z (Found d) x = gives (Three a) (Three a) d ha ha (x .held)
-      (moved (Three a) (Three a) d 3 (three a ha) (cleared (Three a) (Three a) d z (λ ok va vb. x .is (el m (c .f0)) (el m (c .f1)) (el m (c .f2)) ok va)) (accepted c h) (ha .valid) (ha .valid))
-  twice-three a ha z Special x = tt
+  pub twice-three : (a : Cubic) → Holds c (Three a) → (r : Sought) → Double3 m (c .f3) (c .f4) (c .f5) (c .f6) a r → Tried c (sum (curveOf c) (pair m (Three a)) (pair m (Three a))) r
+  twice-three a ha (Found d) x = gives (Three a) (Three a) d ha ha (x .held)
+      (moved (Three a) (Three a) d 3 (three a ha) (λ ok va vb. x .is (el m (c .f0)) (el m (c .f1)) (el m (c .f2)) ok va) (accepted c h) (ha .valid) (ha .valid))
+  twice-three a ha Special x = tt
 
 -- of divisors known by their cases
 pub known : (c : Curve) (a b : Divisor) {a' b' : Divisor} (r : Sought) → a ≡ a' → b ≡ b' → Tried c (sum (curveOf c) (pair (c .m) a') (pair (c .m) b')) r → Tried c (sum (curveOf c) (pair (c .m) a) (pair (c .m) b)) r

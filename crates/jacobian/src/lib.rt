@@ -36,28 +36,19 @@ fn twice_two(c: Curve, a: Quadratic) -> Sought
     Sought::Special
 }
 
-// By formula: weight 3, so genus 3, and f6 = 0.
+// By formula: weight 3, so genus 3.
 fn quick_three(c: Curve, a: Cubic, b: Cubic) -> Sought
     requires { ⌜ Sound c × (Holds c (Divisor.Three a) × Holds c (Divisor.Three b)) ⌝ }
     ensures { λ r. ⌜ Tried c (sum (curveOf c) (pair (c .m) (Divisor.Three a)) (pair (c .m) (Divisor.Three b))) r ⌝ }
 {
-    let m = c.m;
-    let f6 = c.f6;
-    if f6.is_zero(m) {
-        return genus3::add(a, b, c.f4, c.f5, m);
-    }
-    Sought::Special
+    genus3::add(a, b, c.f4, c.f5, c.f6, c.m)
 }
 
 fn twice_three(c: Curve, a: Cubic) -> Sought
     requires { ⌜ Sound c × Holds c (Divisor.Three a) ⌝ }
     ensures { λ r. ⌜ Tried c (sum (curveOf c) (pair (c .m) (Divisor.Three a)) (pair (c .m) (Divisor.Three a))) r ⌝ }
 {
-    let m = c.m;
-    if c.f6.is_zero(m) {
-        return genus3::double(a, c.f3, c.f4, c.f5, m);
-    }
-    Sought::Special
+    genus3::double(a, c.f3, c.f4, c.f5, c.f6, c.m)
 }
 
 // Both of one weight that a formula takes.

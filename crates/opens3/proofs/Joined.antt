@@ -32,9 +32,9 @@ module _ (m : Modulus) (good : Good m) where
       (residue-field m good .mul-inv (el m (x .r)) nz) (hx .is) (hc .is) (hs .is) σ e
 
   -- a pair with itself: c is (f - v²)/u modulo u
-  pub joins-twice : (f3 f4 f5 : Residue) (a : Cubic) (x : Bezout) → Inverts m (twice m a) a x → (c : Tri) → Right m a f3 f4 f5 c → (s : Tri) → Times m c x a s → el m (x .r) ≢ zmod (m .p) .zer
-      → (g0 g1 g2 : zmod (m .p) .El) → Valid (curveWith m f4 f5 g0 g1 g2 (el m f3)) (pair m (Three a)) → Joins m (f (curveWith m f4 f5 g0 g1 g2 (el m f3))) a a (record { r = x .r; s = s })
+  pub joins-twice : (f3 f4 f5 f6 : Residue) (a : Cubic) (x : Bezout) → Inverts m (twice m a) a x → (c : Tri) → Right m a f3 f4 f5 f6 c → (s : Tri) → Times m c x a s → el m (x .r) ≢ zmod (m .p) .zer
+      → (g0 g1 g2 : zmod (m .p) .El) → Valid (curveWith m f4 f5 f6 g0 g1 g2 (el m f3)) (pair m (Three a)) → Joins m (f (curveWith m f4 f5 f6 g0 g1 g2 (el m f3))) a a (record { r = x .r; s = s })
   unfolding pair
-  joins-twice f3 f4 f5 a x hx c hc s hs nz g0 g1 g2 va σ e =
-      opened-twice (curveWith m f4 f5 g0 g1 g2 (el m f3)) (pair m (Three a)) va (hc .q) (triOf m c) (inner m a x) (hx .j) (hs .q) (triOf m s) (el m (x .r)) (back x)
+  joins-twice f3 f4 f5 f6 a x hx c hc s hs nz g0 g1 g2 va σ e =
+      opened-twice (curveWith m f4 f5 f6 g0 g1 g2 (el m f3)) (pair m (Three a)) va (hc .q) (triOf m c) (inner m a x) (hx .j) (hs .q) (triOf m s) (el m (x .r)) (back x)
       (residue-field m good .mul-inv (el m (x .r)) nz) (hx .is) (hc .tops g0 g1 g2) (hs .is) σ e

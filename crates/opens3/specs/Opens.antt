@@ -50,13 +50,13 @@ module _ (m : Modulus) where
   abbrev pub twice : Cubic → P
   twice a = vOf a ⊕ vOf a
 
-  -- a curve of genus 3 with these f4 and f5, and f6 = 0
-  abbrev pub curveWith : Residue → Residue → A → A → A → A → Curve
-  curveWith f4 f5 g0 g1 g2 g3 = record { K = modulo (m .p); g = 3; low = g0 ∷ g1 ∷ g2 ∷ g3 ∷ el m f4 ∷ el m f5 ∷ 𝟘 ∷ [] }
+  -- a curve of genus 3 with these f4, f5 and f6
+  abbrev pub curveWith : Residue → Residue → Residue → A → A → A → A → Curve
+  curveWith f4 f5 f6 g0 g1 g2 g3 = record { K = modulo (m .p); g = 3; low = g0 ∷ g1 ∷ g2 ∷ g3 ∷ el m f4 ∷ el m f5 ∷ el m f6 ∷ [] }
 
   -- its f
-  abbrev pub fWith : A → A → A → A → Residue → Residue → P
-  fWith g0 g1 g2 g3 f4 f5 = mon K (g0 ∷ g1 ∷ g2 ∷ g3 ∷ el m f4 ∷ el m f5 ∷ 𝟘 ∷ [])
+  abbrev pub fWith : A → A → A → A → Residue → Residue → Residue → P
+  fWith g0 g1 g2 g3 f4 f5 f6 = mon K (g0 ∷ g1 ∷ g2 ∷ g3 ∷ el m f4 ∷ el m f5 ∷ el m f6 ∷ [])
 
   pub record KeptTri (d : Tri) : Type 0 where
     pub c0 : Kept m (d .c0)
@@ -86,10 +86,10 @@ module _ (m : Modulus) where
     pub is : triOf c ≡ vOf b ⊖ vOf a
 
   -- (f - v²)/u modulo u
-  pub record Right (a : Cubic) (f3 f4 f5 : Residue) (c : Tri) : Type 0 where
+  pub record Right (a : Cubic) (f3 f4 f5 f6 : Residue) (c : Tri) : Type 0 where
     pub kept : KeptTri c
     pub q : P
-    pub tops : (g0 g1 g2 : A) → Below K 3 (coef K (fWith g0 g1 g2 (el m f3) f4 f5 ⊖ vOf a ⊗ vOf a ⊖ uOf a ⊗ (q ⊗ uOf a ⊕ triOf c)))
+    pub tops : (g0 g1 g2 : A) → Below K 3 (coef K (fWith g0 g1 g2 (el m f3) f4 f5 f6 ⊖ vOf a ⊗ vOf a ⊖ uOf a ⊗ (q ⊗ uOf a ⊕ triOf c)))
 
   pub record SettledTri (d : Tri) : Type 0 where
     pub c0 : Settled m (d .c0)
@@ -114,7 +114,7 @@ module _ (m : Modulus) where
     pub settled : SettledOpened o
     pub joins : el m (o .r) ≢ 𝟘 → (f' : P) → Joins f' a b o
 
-  -- on every curve with these f3, f4, f5 that has a
-  pub record OpensTwice (f3 f4 f5 : Residue) (a : Cubic) (o : Opened) : Type 0 where
+  -- on every curve with these f3, f4, f5, f6 that has a
+  pub record OpensTwice (f3 f4 f5 f6 : Residue) (a : Cubic) (o : Opened) : Type 0 where
     pub settled : SettledOpened o
-    pub joins : el m (o .r) ≢ 𝟘 → (g0 g1 g2 : A) → Valid (curveWith f4 f5 g0 g1 g2 (el m f3)) (pair m (Three a)) → Joins (f (curveWith f4 f5 g0 g1 g2 (el m f3))) a a o
+    pub joins : el m (o .r) ≢ 𝟘 → (g0 g1 g2 : A) → Valid (curveWith f4 f5 f6 g0 g1 g2 (el m f3)) (pair m (Three a)) → Joins (f (curveWith f4 f5 f6 g0 g1 g2 (el m f3))) a a o

@@ -1,8 +1,9 @@
 // Genus 3 by formula, before the division: r and s', whose quotient s'/r is the slope by which two pairs compose. Steps 1 to 4 of source 004's table 1
-// (addition) and 1 to 5 of its table 2 (doubling), for curves with f_6 = 0, on residues: no polynomial is held as an array. Each step promises an
+// (addition) and 1 to 5 of its table 2 (doubling), on residues: no polynomial is held as an array. Each step promises an
 // equation of K[x]. (u, v) is the pair a, the base; b is the other one.
 // The letters t, i, r, k (table 2: z) and s' are the tables'. Products stand by twos under one reduction, schoolbook and not Toom. i isn't multiplied out:
 // with u of b it is e2 (x² + u2 x + u1) + e1 (x + u2) + e0 (table 1: i2, -t10, -t9; table 2: i2, t7, t6), which makes c · i modulo u cheaper.
+// The tables have f_6 = 0; here it is any. Only a double looks at it before the division, where (f - v²) / u is (x + f_6 - 2 u2) · u and a rest.
 ghost use Rattle.field.specs.Residues.{Kept};
 ghost use Rattle.divisor.specs.Divisors.{Held};
 ghost use Rattle.opens3.specs.Opens.{KeptTri, Inner, uOf, twice, Inverts, Gap, Right, Times, Opens, OpensTwice};
@@ -118,21 +119,22 @@ pub fn tangent(a: Cubic, m: Modulus) -> Bezout
 }
 
 // (f - v²) / u modulo u: f0, f1, f2 do not enter.
-pub fn right(a: Cubic, f3: Residue, f4: Residue, f5: Residue, m: Modulus) -> Tri
-    requires { ⌜ Held m (Divisor.Three a) × (Kept m f3 × (Kept m f4 × Kept m f5)) ⌝ }
-    ensures { λ c. ⌜ Right m a f3 f4 f5 c ⌝ }
+pub fn right(a: Cubic, f3: Residue, f4: Residue, f5: Residue, f6: Residue, m: Modulus) -> Tri
+    requires { ⌜ Held m (Divisor.Three a) × (Kept m f3 × (Kept m f4 × (Kept m f5 × Kept m f6))) ⌝ }
+    ensures { λ c. ⌜ Right m a f3 f4 f5 f6 c ⌝ }
 {
     let t1 = a.u0.dbl(m);
     let t2 = a.u1.dbl(m);
     let t3 = a.u2.sqr(m);
     let t4 = f4.sub(t1.add(a.v2.sqr(m), m), m);
-    let t5 = f5.add(t3, m).sub(t2, m);
-    let k2 = t5.add(t3.dbl(m), m);
-    let k1 = a.u2.mul_diff(t2, t5, m).add(t4, m);
+    let p = a.u2.mul(f6, m);
+    let t5 = f5.add(t3, m).sub(t2, m).sub(p, m);
+    let k2 = t5.add(t3.dbl(m), m).sub(p, m);
+    let k1 = a.u2.cross(t2.sub(t5, m), t2, f6, m).add(t4, m);
     let k0 = a.u2
         .dot(t1.sub(k1, m), a.u1, t3.add(a.u1, m).sub(f5, m), m)
         .add(f3, m)
-        .sub(a.v2.dbl(m).mul(a.v1, m), m);
+        .sub(a.v2.dbl(m).dot(a.v1, t1, f6, m), m);
     Tri {
         c0: k0,
         c1: k1,
@@ -153,12 +155,19 @@ pub fn open(a: Cubic, b: Cubic, m: Modulus) -> Opened
 }
 
 // r and s' of a divisor with itself. r is 0 where u and v have a common factor.
-pub fn open_twice(a: Cubic, f3: Residue, f4: Residue, f5: Residue, m: Modulus) -> Opened
-    requires { ⌜ Held m (Divisor.Three a) × (Kept m f3 × (Kept m f4 × Kept m f5)) ⌝ }
-    ensures { λ o. ⌜ OpensTwice m f3 f4 f5 a o ⌝ }
+pub fn open_twice(
+    a: Cubic,
+    f3: Residue,
+    f4: Residue,
+    f5: Residue,
+    f6: Residue,
+    m: Modulus,
+) -> Opened
+    requires { ⌜ Held m (Divisor.Three a) × (Kept m f3 × (Kept m f4 × (Kept m f5 × Kept m f6))) ⌝ }
+    ensures { λ o. ⌜ OpensTwice m f3 f4 f5 f6 a o ⌝ }
 {
     let x = tangent(a, m);
-    let c = right(a, f3, f4, f5, m);
+    let c = right(a, f3, f4, f5, f6, m);
     let s = times(c, x, a, m);
     let r = x.r;
     Opened { r: r, s: s }

@@ -57,7 +57,7 @@ returns-3 c =
     let u = taken (s .args .m) (s .pre .0 .good) (o .result) (o .ensures .settled) (k .result) (k .ensures) (c .before .before .before .enum-told3 .given .1) in
     record {
       held = c .close .ensures .held;
-      is = λ g0 g1 g2 g3 ok va vb. c .close .ensures .is g0 g1 g2 g3 ok va vb (o .ensures .joins (u .0 .nonzero) (f (curveWith (s .args .m) (s .args .f4) (s .args .f5) g0 g1 g2 g3)));
+      is = λ g0 g1 g2 g3 ok va vb. c .close .ensures .is g0 g1 g2 g3 ok va vb (o .ensures .joins (u .0 .nonzero) (f (curveWith (s .args .m) (s .args .f4) (s .args .f5) (s .args .f6) g0 g1 g2 g3)));
     }
 
 pub add-spec : {M : Type 1} → statement M

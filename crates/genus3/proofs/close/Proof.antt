@@ -14,7 +14,9 @@ stretch-requires : tie.Need-stretch-requires
 stretch-requires c κs = search needs
 
 quotient-requires : tie.Need-quotient-requires
-quotient-requires c κs = search needs
+quotient-requires c κs =
+    let s = c .before .before in
+    (s .pre .0, (s .pre .1 .0, (c .before .divide .ensures .kept, (c .stretch .ensures .kept, s .pre .1 .1 .1 .1 .1))))
 
 rest-requires : tie.Need-rest-requires
 rest-requires c κs = search needs
@@ -33,8 +35,8 @@ returns c =
     let t = c .before .rest in
     record {
       held = c .second .ensures .held;
-      is = ends (s .args .m) (s .args .f4) (s .args .f5) (s .args .a) (s .args .b) (s .args .o) (y .result) (y .ensures) (z .result) (z .ensures) (n .result)
-          (subst (λ (p : poly (K (s .args .m)) .El). Quotient (s .args .m) (s .args .a) (s .args .b) (y .result) p (n .result)) (sym (z .ensures .is)) (n .ensures))
+      is = ends (s .args .m) (s .args .f4) (s .args .f5) (s .args .f6) (s .args .a) (s .args .b) (s .args .o) (y .result) (y .ensures) (z .result) (z .ensures) (n .result)
+          (subst (λ (p : poly (K (s .args .m)) .El). Quotient (s .args .m) (s .args .f6) (s .args .a) (s .args .b) (y .result) p (n .result)) (sym (z .ensures .is)) (n .ensures))
           (t .result) (t .ensures) (c .second .result) (c .second .ensures);
     }
 

@@ -27,7 +27,7 @@ returns c =
     let t = c .before .rest in
     record {
       held = c .second .ensures .held;
-      is = ends (s .args .m) (s .args .f4) (s .args .f5) (s .args .a) (s .args .a) (s .args .o) (y .result) (y .ensures) (z .result) (z .ensures) (n .result) (n .ensures)
+      is = ends (s .args .m) (s .args .f4) (s .args .f5) (s .args .f6) (s .args .a) (s .args .a) (s .args .o) (y .result) (y .ensures) (z .result) (z .ensures) (n .result) (n .ensures)
           (t .result) (t .ensures) (c .second .result) (c .second .ensures);
     }
 

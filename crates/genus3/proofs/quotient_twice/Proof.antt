@@ -6,13 +6,13 @@ use Rattle.genus3.proofs.quotient_twice.Statement.{statement}
 use Rattle.genus3.proofs.quotient_twice.Tie as tie
 
 dbl-requires : tie.Need-dbl-requires
-dbl-requires c κs = c .pre .1 .s1
+dbl-requires c κs = let s = c in s .pre .1 .0 .s1
 
 sqr-requires : tie.Need-sqr-requires
-sqr-requires c κs = c .before .pre .1 .s1
+sqr-requires c κs = let s = c .before in s .pre .1 .0 .s1
 
 dbl-requires-2 : tie.Need-dbl-requires-2
-dbl-requires-2 c κs = c .before .before .pre .1 .s0
+dbl-requires-2 c κs = let s = c .before .before in s .pre .1 .0 .s0
 
 add-requires : tie.Need-add-requires
 add-requires c κs = (c .before .sqr .ensures .kept, c .dbl2 .ensures .kept)
@@ -21,40 +21,47 @@ dbl-requires-3 : tie.Need-dbl-requires-3
 dbl-requires-3 c κs = let s = c .before .before .before .before in settled-kept (s .args .m) (s .pre .0 .v .1 .1 .0)
 
 sub-requires : tie.Need-sub-requires
-sub-requires c κs = (c .dbl3 .ensures .kept, c .before .before .before .before .before .pre .1 .wi)
+sub-requires c κs = let s = c .before .before .before .before .before in (c .dbl3 .ensures .kept, s .pre .1 .0 .wi)
 
 dot-requires : tie.Need-dot-requires
-dot-requires c κs = let s = c .before .before .before .before .before .before in (c .before .before .before .before .before .dbl .ensures .kept, s .pre .1 .s0, s .pre .1 .wi, c .sub .ensures .kept)
+dot-requires c κs = let s = c .before .before .before .before .before .before in (c .before .before .before .before .before .dbl .ensures .kept, s .pre .1 .0 .s0, s .pre .1 .0 .wi, c .sub .ensures .kept)
 
 sub-requires-2 : tie.Need-sub-requires-2
-sub-requires-2 c κs = let s = c .before .before .before .before .before .before .before in (s .pre .1 .s1, settled-kept (s .args .m) (s .pre .0 .u .1 .1 .0))
-
-dot-requires-2 : tie.Need-dot-requires-2
-dot-requires-2 c κs = let s = c .before .before .before .before .before .before .before .before in (c .sub2 .ensures .kept, settled-kept (s .args .m) (s .pre .0 .v .1 .1 .0), s .pre .1 .wi, settled-kept (s .args .m) (s .pre .0 .u .1 .1 .0))
-
-add-requires-2 : tie.Need-add-requires-2
-add-requires-2 c κs = let s = c .before .before .before .before .before .before .before .before .before in (c .dot2 .ensures .kept, settled-kept (s .args .m) (s .pre .0 .v .1 .0))
+sub-requires-2 c κs = let s = c .before .before .before .before .before .before .before in (s .pre .1 .0 .s1, settled-kept (s .args .m) (s .pre .0 .u .1 .1 .0))
 
 dbl-requires-4 : tie.Need-dbl-requires-4
-dbl-requires-4 c κs = c .before .before .before .before .before .before .before .before .before .before .pre .1 .wi
+dbl-requires-4 c κs = let s = c .before .before .before .before .before .before .before .before in settled-kept (s .args .m) (s .pre .0 .u .1 .1 .0)
+
+sub-requires-3 : tie.Need-sub-requires-3
+sub-requires-3 c κs = let s = c .before .before .before .before .before .before .before .before .before in (c .dbl4 .ensures .kept, s .pre .1 .1)
+
+dot-requires-2 : tie.Need-dot-requires-2
+dot-requires-2 c κs = let s = c .before .before .before .before .before .before .before .before .before .before in (c .before .before .sub2 .ensures .kept, c .before .before .before .before .before .dbl3 .ensures .kept, s .pre .1 .0 .wi, c .sub3 .ensures .kept)
+
+dbl-requires-5 : tie.Need-dbl-requires-5
+dbl-requires-5 c κs = let s = c .before .before .before .before .before .before .before .before .before .before .before in settled-kept (s .args .m) (s .pre .0 .v .1 .0)
+
+add-requires-2 : tie.Need-add-requires-2
+add-requires-2 c κs = (c .before .dot2 .ensures .kept, c .dbl5 .ensures .kept)
 
 dot-requires-3 : tie.Need-dot-requires-3
-dot-requires-3 c κs = let s = c .before .before .before .before .before .before .before .before .before .before .before in (s .pre .1 .s0, s .pre .1 .s0, c .dbl4 .ensures .kept, c .before .add2 .ensures .kept)
+dot-requires-3 c κs = let s = c .before .before .before .before .before .before .before .before .before .before .before .before .before in (s .pre .1 .0 .s0, s .pre .1 .0 .s0, s .pre .1 .0 .wi, c .add2 .ensures .kept)
 
 returns : tie.Need-returns
 returns c =
-    let s = c .before .before .before .before .before .before .before .before .before .before .before .before in
+    let s = c .before .before .before .before .before .before .before .before .before .before .before .before .before .before in
     let K = zmod (s .args .m .p) in
     record {
-      kept = record { c0 = c .dot3 .ensures .kept; c1 = c .before .before .before .before .before .dot .ensures .kept; c2 = c .before .before .before .before .before .before .before .before .add .ensures .kept; c3 = c .before .before .before .before .before .before .before .before .before .before .before .dbl .ensures .kept };
-      tops = quotient-twice K _ _ _ _ _ _ _ _ _ _ _ _ _ _
-          (c .before .before .before .before .before .before .before .before .before .before .before .dbl .ensures .is)
-          (c .before .before .before .before .before .before .before .before .add .ensures .is ∙ ap₂ (K .add) (c .before .before .before .before .before .before .before .before .before .before .sqr .ensures .is) (c .before .before .before .before .before .before .before .before .before .dbl2 .ensures .is))
-          (c .before .before .before .before .before .dot .ensures .is ∙ ap₂ (K .add) refl (ap₂ (K .mul) refl (c .before .before .before .before .before .before .sub .ensures .is ∙ ap₂ (λ s t. K .add s (K .neg t)) (c .before .before .before .before .before .before .before .dbl3 .ensures .is) refl)))
-          (c .before .before .add2 .ensures .is ∙ ap₂ (K .add) (c .before .before .before .dot2 .ensures .is ∙ ap₂ (K .add) (ap₂ (K .mul) (c .before .before .before .before .sub2 .ensures .is) refl) refl) refl)
-          (c .dot3 .ensures .is ∙ ap₂ (K .add) refl (ap₂ (K .mul) (c .before .dbl4 .ensures .is) refl));
+      kept = record { c0 = c .dot3 .ensures .kept; c1 = c .before .before .before .before .before .before .before .dot .ensures .kept; c2 = c .before .before .before .before .before .before .before .before .before .before .add .ensures .kept; c3 = c .before .before .before .before .before .before .before .before .before .before .before .before .before .dbl .ensures .kept };
+      tops = quotient-twice K _ _ _ _ _ _ _ _ _ _ _ _ _ _ _ _
+          (c .before .before .before .before .before .before .before .before .before .before .before .before .before .dbl .ensures .is)
+          (c .before .before .before .before .before .before .before .before .before .before .add .ensures .is ∙ ap₂ (K .add) (c .before .before .before .before .before .before .before .before .before .before .before .before .sqr .ensures .is) (c .before .before .before .before .before .before .before .before .before .before .before .dbl2 .ensures .is))
+          (c .before .before .before .before .before .before .before .before .before .dbl3 .ensures .is)
+          (c .before .before .before .before .before .before .before .dot .ensures .is ∙ ap₂ (K .add) refl (ap₂ (K .mul) refl (c .before .before .before .before .before .before .before .before .sub .ensures .is)))
+          (c .before .add2 .ensures .is ∙ ap₂ (K .add) (c .before .before .before .dot2 .ensures .is ∙ ap₂ (K .add) (ap₂ (K .mul) (c .before .before .before .before .before .before .sub2 .ensures .is) refl) (ap₂ (K .mul) refl (c .before .before .before .before .sub3 .ensures .is ∙ ap₂ (λ s t. K .add s (K .neg t)) (c .before .before .before .before .before .dbl4 .ensures .is) refl))) (c .before .before .dbl5 .ensures .is))
+          (c .dot3 .ensures .is);
     }
 
 pub quotient-twice-spec : {M : Type 1} → statement M
 quotient-twice-spec =
-    tie.close (tie.spec dbl-requires sqr-requires dbl-requires-2 add-requires dbl-requires-3 sub-requires dot-requires sub-requires-2 dot-requires-2 add-requires-2 dbl-requires-4 dot-requires-3 returns)
+    tie.close (tie.spec dbl-requires sqr-requires dbl-requires-2 add-requires dbl-requires-3 sub-requires dot-requires sub-requires-2 dbl-requires-4 sub-requires-3 dot-requires-2 dbl-requires-5 add-requires-2 dot-requires-3 returns)
