@@ -1,10 +1,13 @@
-// The total of a batch: records one after the other, read in one pass. The running divisor is kept as a value and written once.
+// The total of a batch: records one after the other, read in one pass. The sums are kept as values, sixteen side by side, and written once.
 ghost use Rattle.rules.specs.Calls.{total-call};
 ghost use Rattle.curve.specs.Curves.{Sound};
 ghost use Rattle.call_total.specs.Totals.{TotalIs, TotalAnswerIs};
 use call_one::Answer;
 use curve::Curve;
 use divisor::Divisor;
+use field::Residue;
+use lanes::LANES;
+use lanes::Waiting;
 use record_divisor::DivisorRead;
 
 // The total of a batch and how many records it has, or a number and its place.
@@ -13,11 +16,20 @@ pub enum TotalRead {
     Refused(u64, u64),
 }
 
+// Record i goes to lane i modulo 16. Where one waits for each lane, all sixteen are added with one inverse between them; the lanes, and those that still wait, are
+// added up at the end. That this is the total from first to last is demand 3.
 pub fn total_of(c: Curve, s: &[u8]) -> TotalRead
     requires { ⌜ Sound c ⌝ }
     ensures { λ r. ⌜ TotalIs c (now (s .entry)) r ⌝ }
 {
-    let mut t = Divisor::neutral();
+    let m = c.m;
+    let one = Residue::one(m);
+    let z = Divisor::neutral();
+    let nobody = lanes::nobody(one);
+    let mut sums = [z; LANES];
+    let mut next = [nobody; LANES];
+    let mut all = one;
+    let mut n: usize = 0;
     let mut k: u64 = 0;
     let mut a: usize = 0;
     while a < s.len() {
@@ -26,16 +38,41 @@ pub fn total_of(c: Curve, s: &[u8]) -> TotalRead
         }
         match record_divisor::divisor_at(c, false, s, a) {
             DivisorRead::Taken(d) => {
-                t = jacobian::sum(c, t, d);
+                let o = openings::open(c, sums[n], d);
+                let f = openings::under(o, m);
+                let w = Waiting {
+                    d: d,
+                    o: o,
+                    f: f,
+                    before: all,
+                };
+                next[n] = w;
+                all = all.mul(f, m);
             }
-            DivisorRead::Refused(n) => {
-                return TotalRead::Refused(n, k + 1);
+            DivisorRead::Refused(e) => {
+                return TotalRead::Refused(e, k + 1);
             }
         }
         a = a + 1 + 16 * (big_endian::wide(s[a]) as usize);
         k += 1;
+        n += 1;
+        if n == LANES {
+            let mut back = all.inverse(m);
+            while 0 < n {
+                n -= 1;
+                let w = next[n];
+                let d = w.d;
+                let o = w.o;
+                let i = back.mul(w.before, m);
+                sums[n] = openings::close(c, sums[n], d, o, i);
+                back = back.mul(w.f, m);
+            }
+            all = one;
+        }
     }
-    TotalRead::Done(t, k)
+    let x = lanes::waiting_total(c, next, n);
+    let y = lanes::lane_total(c, sums);
+    TotalRead::Done(jacobian::sum(c, x, y), k)
 }
 
 // Its own number is the count of records.

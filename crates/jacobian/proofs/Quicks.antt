@@ -1,26 +1,28 @@
 -- Sums by formula. Gives: where a formula of `genus2` or `genus3` finds a divisor, that is the rule's sum on the curve in code (`tried-two`, `tried-three` and
--- the like of a divisor with itself); where it finds none nothing is to be shown.
+-- the like of a divisor with itself); where it finds none nothing is to be shown. The neutral divisor adds nothing (`neutral-first`).
 use Prim.Native.Nat.{ℕ, _+_, _-_, _≤_}
-use mathlib.Core.Path.{_≡_, sym, subst}
+use mathlib.Core.Path.{_≡_, sym, ap, _∙_, subst}
 use mathlib.Core.List.{List}
 use native.Mathlib.Omega.{arith}
 use Rattle.algebra.proofs.zmod.Zmod.{zmod}
 use Rattle.algebra.proofs.zmod.PrimeField.{modulo}
 use Rattle.rules.specs.Curve.{Curve as RuleCurve}
-use Rattle.rules.specs.Pair.{Valid, opposite}
+use Rattle.rules.specs.Pair.{Pair, Valid, opposite}
 use Rattle.rules.specs.Sum.{sum}
 use Rattle.rules.proofs.cantor.Accepted.{Accepted}
 use Rattle.rules.proofs.cantor.Sum.{sum-valid}
+use Rattle.rules.proofs.cantor.Group.{neutral-sum}
 use Rattle.rules.proofs.cantor.Pairs.{opposite-valid}
 use Rattle.field.specs.declared.Modulus.{Modulus}
 use Rattle.field.specs.Residues.{el}
 use Rattle.divisor.specs.declared.Divisor.{Divisor}
-use Rattle.divisor.specs.declared.Divisor.the-variants.{Two, Three}
+use Rattle.divisor.specs.declared.Divisor.the-variants.{Neutral, Two, Three}
 use Rattle.formulas.specs.declared.Sought.{Sought}
 use Rattle.formulas.specs.declared.Sought.the-variants.{Found, Special}
 use Rattle.divisor.specs.declared.Quadratic.{Quadratic}
 use Rattle.divisor.specs.declared.Cubic.{Cubic}
 use Rattle.divisor.specs.Divisors.{elements, pair, Held, Opposed}
+use Rattle.divisor.proofs.Laws.{neutral-is}
 use Rattle.genus2.specs.Sums.{Sum2, Double2}
 use Rattle.genus3.specs.Sums.{Sum3, Double3}
 use Rattle.curve.specs.declared.Curve.{Curve}
@@ -40,6 +42,13 @@ module _ (c : Curve) (h : Sound c) where
   gives a b d ha hb hd e = record {
     holds = record { held = hd; valid = subst (Valid (curveOf c)) e (sum-valid (curveOf c) (accepted c h) (pair m a) (pair m b) (ha .valid) (hb .valid)) };
     is = sym e;
+  }
+
+  -- the neutral divisor and b are b
+  pub neutral-first : (a b : Divisor) → Holds c b → a ≡ Neutral → Gives c b (sum (curveOf c) (pair m a) (pair m b))
+  neutral-first a b hb e = record {
+    holds = hb;
+    is = sym (ap (λ (d : Divisor). sum (curveOf c) (pair m d) (pair m b)) e ∙ ap (λ (t : Pair (modulo (c .m .p))). sum (curveOf c) t (pair m b)) (neutral-is m) ∙ neutral-sum (curveOf c) (accepted c h) (pair m b) (hb .valid));
   }
 
   -- on the curve of genus n with the coefficients l, and on this one

@@ -51,13 +51,13 @@ fn twice_three(c: Curve, a: Cubic) -> Sought
     genus3::double(a, c.f3, c.f4, c.f5, c.f6, c.m)
 }
 
-// Both of one weight that a formula takes.
+// Both of one weight that a formula takes, or nothing to add.
 fn quick_sum(c: Curve, a: Divisor, b: Divisor) -> Sought
     requires { ⌜ Sound c × (Holds c a × Holds c b) ⌝ }
     ensures { λ r. ⌜ Tried c (sum (curveOf c) (pair (c .m) a) (pair (c .m) b)) r ⌝ }
 {
     match a {
-        Divisor::Neutral => Sought::Special,
+        Divisor::Neutral => Sought::Found(b),
         Divisor::One(_) => Sought::Special,
         Divisor::Two(x) => {
             match b {

@@ -1,89 +1,260 @@
-use borrow.Author.Needs.{needs}
 use native.Mathlib.Omega.{arith}
+use borrow.Author.Needs.{needs}
 use Prim.Native.Nat.{_-_}
 use lib.ListN.{length}
-use Rattle.call_total.proofs.Totals.{Totalling, total-begin, total-ends, total-full, total-refuses, total-turn}
 use Rattle.call_one.proofs.Turns.{read-taken}
+use Rattle.lanes.proofs.Rows.{row-waiting}
+use Rattle.call_total.proofs.Totals.{Filling, Shutting, total-begin, total-full, total-refuses, total-ends, turned-unit, total-turn, shut-begin, waits, lane-holds, before-kept, undoes, shut-turn, shut-ends}
 use Rattle.call_total.proofs.total_of.Statement.{statement}
 use Rattle.call_total.proofs.total_of.Tie as tie
+use Rattle.call_total.proofs.total_of.Reads as reads
+use Rattle.call_total.proofs.total_of.Lts as lts
+use Rattle.big_endian.proofs.wide.Reads as wide-reads
+use Rattle.divisor.proofs.Divisor.neutral.Reads as neutral-reads
+use Rattle.field.proofs.Residue.inverse.Reads as inverse-reads
+use Rattle.field.proofs.Residue.mul.Reads as mul-reads
+use Rattle.field.proofs.Residue.one.Reads as one-reads
+use Rattle.jacobian.proofs.sum.Reads as sum-reads
+use Rattle.lanes.proofs.lane_total.Reads as lane-total-reads
+use Rattle.lanes.proofs.nobody.Reads as nobody-reads
+use Rattle.lanes.proofs.waiting_total.Reads as waiting-total-reads
+use Rattle.openings.proofs.close.Reads as close-reads
+use Rattle.openings.proofs.open.Reads as open-reads
+use Rattle.openings.proofs.under.Reads as under-reads
+use Rattle.record_divisor.proofs.divisor_at.Reads as divisor-at-reads
+
+abbrev Inv-loop2 : tie.InvT-loop2
+Inv-loop2 c s m one sums₀ next n₀ k a back₀ sums n back = Shutting c s sums next back n k a
+
+abbrev μ-loop2 : tie.MeasureT-loop2
+μ-loop2 c s m one sums₀ next n₀ k a back₀ sums n back = n
 
 abbrev Inv-loop : tie.InvT-loop
-Inv-loop c s t₀ k₀ a₀ t k a = Totalling c s t k a
+Inv-loop c s m one sums₀ next₀ all₀ n₀ k₀ a₀ sums next all n k a = Filling c s sums next all n k a
 
 abbrev μ-loop : tie.MeasureT-loop
-μ-loop c s t₀ k₀ a₀ t k a = length s - a
+μ-loop c s m one sums₀ next₀ all₀ n₀ k₀ a₀ sums next all n k a = length s - a
 
-neutral-requires : tie.Need-neutral-requires Inv-loop μ-loop
+-- src/lib.rt:26:9
+one-requires : tie.Need-one-requires Inv-loop2 μ-loop2 Inv-loop μ-loop
+one-requires c κs = search needs
+
+-- src/lib.rt:27:9
+neutral-requires : tie.Need-neutral-requires Inv-loop2 μ-loop2 Inv-loop μ-loop
 neutral-requires c κs = search needs
 
-loop-holds : tie.Need-loop-holds Inv-loop μ-loop
-loop-holds c = total-begin _ _ (c .before .before .pre) (c .neutral .ensures)
+-- src/lib.rt:28:9
+nobody-requires : tie.Need-nobody-requires Inv-loop2 μ-loop2 Inv-loop μ-loop
+nobody-requires c κs = search needs
 
-returns : tie.Need-returns Inv-loop μ-loop
-returns c = let i = c .before .before .loop in total-full _ _ _ _ _ (i .inv) (omega arith) (omega arith)
+-- src/lib.rt:35:5
+loop-holds : tie.Need-loop-holds Inv-loop2 μ-loop2 Inv-loop μ-loop
+loop-holds c = total-begin _ _ (c .before .before .before .before .before .pre) _ _ _ (c .before .neutral .ensures) (c .before .before .one .ensures)
 
-divisor-at-requires : tie.Need-divisor-at-requires Inv-loop μ-loop
-divisor-at-requires c κs = (c .before .before .before .before .before .pre, omega arith)
+-- src/lib.rt:37:13
+returns : tie.Need-returns Inv-loop2 μ-loop2 Inv-loop μ-loop
+returns c = let i = c .before .before .loop in total-full _ _ (c .before .before .before .before .before .before .before .before .pre) _ _ _ _ _ (i .inv .total) (omega arith) (omega arith)
 
-enum-known-d : tie.Need-enum-known-d Inv-loop μ-loop
+-- src/lib.rt:39:15
+divisor-at-requires : tie.Need-divisor-at-requires Inv-loop2 μ-loop2 Inv-loop μ-loop
+divisor-at-requires c κs = (c .before .before .before .before .before .before .before .before .pre, omega arith)
+
+-- src/lib.rt:40:32
+enum-known-d : tie.Need-enum-known-d Inv-loop2 μ-loop2 Inv-loop μ-loop
 enum-known-d c = search needs
 
-sum-requires : tie.Need-sum-requires Inv-loop μ-loop
-sum-requires c κs =
-    let so-far = c .before .before .before .before .before .before .loop .inv .holds in
-    let read = read-taken _ _ _ _ (c .before .before .before .divisor-at .ensures) (c .before .d .given .1) .0 in
-    search needs
+-- src/lib.rt:41:43
+mul-open : tie.Need-mul-open Inv-loop2 μ-loop2 Inv-loop μ-loop
+mul-open c = search needs
 
-enum-known-n : tie.Need-enum-known-n Inv-loop μ-loop
-enum-known-n c = search needs
+-- src/lib.rt:41:43
+array-copy-out-open : tie.Need-array-copy-out-open Inv-loop2 μ-loop2 Inv-loop μ-loop
+array-copy-out-open c = omega (arith, c .before .before .before .before .before .before .loop .inv .room, c .before .before .before .before .before .before .loop .inv .total .row .lanes)
 
-add-t11 : tie.Need-add-t11 Inv-loop μ-loop
-add-t11 c = search needs
+-- src/lib.rt:41:21
+open-requires : tie.Need-open-requires Inv-loop2 μ-loop2 Inv-loop μ-loop
+open-requires c κs = let i = c .before .before .before .before .before .before .before .loop in (c .before .before .before .before .before .before .before .before .before .before .before .before .before .pre, (i .inv .total .row .hold (i .n) (omega (arith, i .inv .room)), read-taken _ _ _ _ (c .before .before .before .before .divisor-at .ensures) (c .before .before .d .given .1) .0))
 
-returns-2 : tie.Need-returns-2 Inv-loop μ-loop
-returns-2 c = let i = c .before .before .before .before .before .before .loop in total-refuses _ _ _ _ _ (i .inv) _ (omega arith) (omega arith) (c .before .before .before .divisor-at .ensures) (c .before .n .given .1)
+-- src/lib.rt:42:21
+under-requires : tie.Need-under-requires Inv-loop2 μ-loop2 Inv-loop μ-loop
+under-requires c κs = (c .before .before .before .before .before .before .before .before .before .before .before .before .before .before .pre .good, c .«open» .ensures .fit)
 
-add-a : tie.Need-add-a Inv-loop μ-loop
-add-a c = search needs
+-- src/lib.rt:49:17
+mul-next : tie.Need-mul-next Inv-loop2 μ-loop2 Inv-loop μ-loop
+mul-next c = search needs
 
-shared-slice-read-wide : tie.Need-shared-slice-read-wide Inv-loop μ-loop
+-- src/lib.rt:49:17
+array-set-from-next : tie.Need-array-set-from-next Inv-loop2 μ-loop2 Inv-loop μ-loop
+array-set-from-next c = omega (arith, c .before .before .before .before .before .before .before .before .before .loop .inv .room, c .before .before .before .before .before .before .before .before .before .loop .inv .total .row .long)
+
+-- src/lib.rt:50:17
+mul-requires : tie.Need-mul-requires Inv-loop2 μ-loop2 Inv-loop μ-loop
+mul-requires c κs = (c .before .before .before .before .before .before .before .before .before .loop .inv .unit .kept, c .under .ensures .unit .kept)
+
+-- src/lib.rt:52:34
+enum-known-e : tie.Need-enum-known-e Inv-loop2 μ-loop2 Inv-loop μ-loop
+enum-known-e c = search needs
+
+-- src/lib.rt:53:46
+add-t34 : tie.Need-add-t34 Inv-loop2 μ-loop2 Inv-loop μ-loop
+add-t34 c = search needs
+
+-- src/lib.rt:53:17
+returns-2 : tie.Need-returns-2 Inv-loop2 μ-loop2 Inv-loop μ-loop
+returns-2 c = let i = c .before .before .before .before .before .before .loop in total-refuses _ _ (c .before .before .before .before .before .before .before .before .before .before .before .before .pre) _ _ _ _ _ (i .inv .total) _ (omega arith) (omega (arith, i .inv .total .going .room)) (c .before .before .before .divisor-at .ensures) (c .before .e .given .1)
+
+-- src/lib.rt:56:13
+add-a : tie.Need-add-a Inv-loop2 μ-loop2 Inv-loop μ-loop
+add-a c = record { fits = omega (arith, c .before .before .before .before .before .before .before .before .before .loop-test .taken, c .before .before .before .before .before .before .before .before .before .before .before .before .before .before .before .before .good .1 .0) }
+
+-- src/lib.rt:56:44
+shared-slice-read-wide : tie.Need-shared-slice-read-wide Inv-loop2 μ-loop2 Inv-loop μ-loop
 shared-slice-read-wide c = search needs
 
-wide-requires : tie.Need-wide-requires Inv-loop μ-loop
+-- src/lib.rt:56:27
+wide-requires : tie.Need-wide-requires Inv-loop2 μ-loop2 Inv-loop μ-loop
 wide-requires c κs = search needs
 
-mul-a : tie.Need-mul-a Inv-loop μ-loop
+-- src/lib.rt:56:21
+mul-a : tie.Need-mul-a Inv-loop2 μ-loop2 Inv-loop μ-loop
 mul-a c = search needs
 
-add-a-2 : tie.Need-add-a-2 Inv-loop μ-loop
-add-a-2 c = search needs
+-- src/lib.rt:56:13
+add-a-2 : tie.Need-add-a-2 Inv-loop2 μ-loop2 Inv-loop μ-loop
+add-a-2 c = record { fits = omega (arith, c .before .before .before .before .before .before .before .before .before .before .before .loop-test .taken, c .before .before .before .before .before .before .before .before .before .before .before .before .before .before .before .before .before .before .good .1 .0 .1, c .wide .ensures .1) }
 
-add-k : tie.Need-add-k Inv-loop μ-loop
+-- src/lib.rt:57:9
+add-k : tie.Need-add-k Inv-loop2 μ-loop2 Inv-loop μ-loop
 add-k c = search needs
 
-loop-less : tie.Need-loop-less Inv-loop μ-loop
-loop-less c = search needs
+-- src/lib.rt:58:9
+add-n : tie.Need-add-n Inv-loop2 μ-loop2 Inv-loop μ-loop
+add-n c = search needs
 
-loop-again : tie.Need-loop-again Inv-loop μ-loop
-loop-again c = let i = c .before .before .before .before .before .before .before .before .before .loop in total-turn _ _ _ _ _ (i .inv) _ (omega arith) (omega arith) (c .before .before .before .before .before .before .divisor-at .ensures) (c .before .before .before .before .d .given .1) (c .before .before .sum .ensures) (c .wide .ensures .0)
+-- src/lib.rt:60:17
+inverse-requires : tie.Need-inverse-requires Inv-loop2 μ-loop2 Inv-loop μ-loop
+inverse-requires c κs =
+    let i = c .before .before .before .before .before .before .before .before .before .before .before .before .before .loop in
+    turned-unit _ _ (c .before .before .before .before .before .before .before .before .before .before .before .before .before .before .before .before .before .before .before .pre) _ _ _ _ _ _ (i .inv) _ (omega arith) (omega (arith, i .inv .total .going .room)) (c .before .before .before .before .before .before .before .before .before .before .divisor-at .ensures) (c .before .before .before .before .before .before .before .before .d .given .1) _ (c .before .before .before .before .before .«open» .ensures) _ (c .before .before .before .before .under .ensures) _ (c .before .before .before .mul .ensures) (c .before .wide .ensures .0)
 
-returns-3 : tie.Need-returns-3 Inv-loop μ-loop
-returns-3 c = let i = c .before .loop in total-ends _ _ _ _ _ (i .inv) (omega arith)
+-- src/lib.rt:61:13
+loop2-holds : tie.Need-loop2-holds Inv-loop2 μ-loop2 Inv-loop μ-loop
+loop2-holds c =
+    let i = c .before .before .before .before .before .before .before .before .before .before .before .before .before .before .loop in
+    shut-begin _ _ (c .before .before .before .before .before .before .before .before .before .before .before .before .before .before .before .before .before .before .before .before .pre) _ _ _ _ _ _ (i .inv) _ (omega arith) (omega (arith, i .inv .total .going .room)) (c .before .before .before .before .before .before .before .before .before .before .before .divisor-at .ensures) (c .before .before .before .before .before .before .before .before .before .d .given .1) _ (c .before .before .before .before .before .before .«open» .ensures) _ (c .before .before .before .before .before .under .ensures) _ (c .before .before .before .before .mul .ensures) (c .before .before .wide .ensures .0) _ (c .inverse .ensures)
+
+-- src/lib.rt:62:17
+sub-n : tie.Need-sub-n Inv-loop2 μ-loop2 Inv-loop μ-loop
+sub-n c = search needs
+
+-- src/lib.rt:63:25
+mul-w : tie.Need-mul-w Inv-loop2 μ-loop2 Inv-loop μ-loop
+mul-w c = record { fits = omega (arith, c .before .loop2 .inv .total .row .few) }
+
+-- src/lib.rt:63:25
+array-copy-out-w : tie.Need-array-copy-out-w Inv-loop2 μ-loop2 Inv-loop μ-loop
+array-copy-out-w c = omega (arith, c .loop2-test .taken, c .before .loop2 .inv .total .row .few, c .before .loop2 .inv .total .row .long)
+
+-- src/lib.rt:66:21
+mul-requires-2 : tie.Need-mul-requires-2 Inv-loop2 μ-loop2 Inv-loop μ-loop
+mul-requires-2 c κs = let i = c .before .before .loop2 in (i .inv .kept, before-kept _ _ (c .before .before .before .before .before .before .before .before .before .before .before .before .before .before .before .before .before .before .before .before .before .before .before .pre) _ _ _ _ _ _ (i .inv) (i .n - 1) (omega (arith, c .before .loop2-test .taken)))
+
+-- src/lib.rt:67:46
+mul-close : tie.Need-mul-close Inv-loop2 μ-loop2 Inv-loop μ-loop
+mul-close c = record { fits = omega (arith, c .before .before .before .loop2 .inv .total .row .few) }
+
+-- src/lib.rt:67:46
+array-copy-out-close : tie.Need-array-copy-out-close Inv-loop2 μ-loop2 Inv-loop μ-loop
+array-copy-out-close c = omega (arith, c .before .before .loop2-test .taken, c .before .before .before .loop2 .inv .total .row .few, c .before .before .before .loop2 .inv .total .row .lanes)
+
+-- src/lib.rt:67:27
+close-requires : tie.Need-close-requires Inv-loop2 μ-loop2 Inv-loop μ-loop
+close-requires c κs =
+    let s = c .before .before .before .before .before .before .before .before .before .before .before .before .before .before .before .before .before .before .before .before .before .before .before .before .before in
+    let i = c .before .before .before .before .loop2 in
+    let q = waits _ _ (s .pre) _ _ _ _ _ _ (i .inv) (i .n - 1) (omega (arith, c .before .before .before .loop2-test .taken)) in
+    (s .pre, (lane-holds _ _ (s .pre) _ _ _ _ _ _ (i .inv) (i .n - 1) (omega (arith, c .before .before .before .loop2-test .taken)), (q .holds, (q .opened, undoes _ _ (s .pre) _ _ _ _ _ _ (i .inv) (i .n - 1) (omega (arith, c .before .before .before .loop2-test .taken)) _ (c .before .mul2 .ensures)))))
+
+-- src/lib.rt:67:17
+mul-sums : tie.Need-mul-sums Inv-loop2 μ-loop2 Inv-loop μ-loop
+mul-sums c = record { fits = omega (arith, c .before .before .before .before .before .loop2 .inv .total .row .few) }
+
+-- src/lib.rt:67:17
+array-set-from-sums : tie.Need-array-set-from-sums Inv-loop2 μ-loop2 Inv-loop μ-loop
+array-set-from-sums c = omega (arith, c .before .before .before .before .loop2-test .taken, c .before .before .before .before .before .loop2 .inv .total .row .few, c .before .before .before .before .before .loop2 .inv .total .row .lanes)
+
+-- src/lib.rt:68:17
+mul-requires-3 : tie.Need-mul-requires-3 Inv-loop2 μ-loop2 Inv-loop μ-loop
+mul-requires-3 c κs = let i = c .before .before .before .before .before .loop2 in (i .inv .kept, waits _ _ (c .before .before .before .before .before .before .before .before .before .before .before .before .before .before .before .before .before .before .before .before .before .before .before .before .before .before .pre) _ _ _ _ _ _ (i .inv) (i .n - 1) (omega (arith, c .before .before .before .before .loop2-test .taken)) .under .unit .kept)
+
+-- src/lib.rt:61:13
+loop2-less : tie.Need-loop2-less Inv-loop2 μ-loop2 Inv-loop μ-loop
+loop2-less c = omega (arith, c .before .before .before .before .before .loop2-test .taken)
+
+-- src/lib.rt:61:13
+loop2-again : tie.Need-loop2-again Inv-loop2 μ-loop2 Inv-loop μ-loop
+loop2-again c =
+    let i = c .before .before .before .before .before .before .loop2 in
+    shut-turn _ _ (c .before .before .before .before .before .before .before .before .before .before .before .before .before .before .before .before .before .before .before .before .before .before .before .before .before .before .before .pre) _ _ _ _ _ _ (i .inv) (i .n - 1) (omega (arith, c .before .before .before .before .before .loop2-test .taken)) _ _ (c .before .close .ensures) (c .mul3 .ensures)
+
+-- src/lib.rt:35:5
+loop-less : tie.Need-loop-less Inv-loop2 μ-loop2 Inv-loop μ-loop
+loop-less c = omega (arith, c .before .before .before .before .before .before .before .before .before .before .before .before .before .before .before .loop-test .taken)
+
+-- src/lib.rt:35:5
+loop-again : tie.Need-loop-again Inv-loop2 μ-loop2 Inv-loop μ-loop
+loop-again c = let i = c .before .loop2 in shut-ends _ _ (c .before .before .before .before .before .before .before .before .before .before .before .before .before .before .before .before .before .before .before .before .before .before .pre) _ _ _ _ _ _ (i .inv) (omega arith) _ (c .before .before .before .before .before .before .before .before .before .before .before .before .before .before .before .before .before .before .before .one .ensures)
+
+-- src/lib.rt:35:5
+loop-less-2 : tie.Need-loop-less-2 Inv-loop2 μ-loop2 Inv-loop μ-loop
+loop-less-2 c = search needs
+
+-- src/lib.rt:35:5
+loop-again-2 : tie.Need-loop-again-2 Inv-loop2 μ-loop2 Inv-loop μ-loop
+loop-again-2 c =
+    let i = c .before .before .before .before .before .before .before .before .before .before .before .before .before .loop in
+    total-turn _ _ (c .before .before .before .before .before .before .before .before .before .before .before .before .before .before .before .before .before .before .before .pre) _ _ _ _ _ _ (i .inv) _ (omega arith) (omega (arith, i .inv .total .going .room)) (c .before .before .before .before .before .before .before .before .before .before .divisor-at .ensures) (c .before .before .before .before .before .before .before .before .d .given .1) _ (c .before .before .before .before .before .«open» .ensures) _ (c .before .before .before .before .under .ensures) _ (c .before .before .before .mul .ensures) (c .before .wide .ensures .0) (c .if2 .left)
+
+-- src/lib.rt:73:9
+waiting-total-requires : tie.Need-waiting-total-requires Inv-loop2 μ-loop2 Inv-loop μ-loop
+waiting-total-requires c κs = let i = c .before .loop in (c .before .before .before .before .before .before .before .pre, (i .inv .total .row .few, row-waiting _ (c .before .before .before .before .before .before .before .pre) (i .inv .total .row)))
+
+-- src/lib.rt:74:9
+lane-total-requires : tie.Need-lane-total-requires Inv-loop2 μ-loop2 Inv-loop μ-loop
+lane-total-requires c κs = (c .before .before .before .before .before .before .before .before .pre, c .before .before .loop .inv .total .row .hold)
+
+-- src/lib.rt:75:21
+sum-requires : tie.Need-sum-requires Inv-loop2 μ-loop2 Inv-loop μ-loop
+sum-requires c κs = (c .before .before .before .before .before .before .before .before .before .pre, (c .before .waiting-total .ensures .holds, c .lane-total .ensures .holds))
+
+-- src/lib.rt:21:1
+returns-3 : tie.Need-returns-3 Inv-loop2 μ-loop2 Inv-loop μ-loop
+returns-3 c = let i = c .before .before .before .before .loop in total-ends _ _ (c .before .before .before .before .before .before .before .before .before .before .pre) _ _ _ _ _ (i .inv .total) (omega arith) _ _ _ (c .before .before .waiting-total .ensures) (c .before .lane-total .ensures) (c .sum .ensures)
 
 pub total-of-spec : {M : Type 1} → statement M
 total-of-spec =
     tie.close
     (tie.spec
+    Inv-loop2
+    μ-loop2
     Inv-loop
     μ-loop
+    one-requires
     neutral-requires
+    nobody-requires
     loop-holds
     returns
     divisor-at-requires
     enum-known-d
-    sum-requires
-    enum-known-n
-    add-t11
+    mul-open
+    array-copy-out-open
+    open-requires
+    under-requires
+    mul-next
+    array-set-from-next
+    mul-requires
+    enum-known-e
+    add-t34
     returns-2
     add-a
     shared-slice-read-wide
@@ -91,6 +262,26 @@ total-of-spec =
     mul-a
     add-a-2
     add-k
+    add-n
+    inverse-requires
+    loop2-holds
+    sub-n
+    mul-w
+    array-copy-out-w
+    mul-requires-2
+    mul-close
+    array-copy-out-close
+    close-requires
+    mul-sums
+    array-set-from-sums
+    mul-requires-3
+    loop2-less
+    loop2-again
     loop-less
     loop-again
+    loop-less-2
+    loop-again-2
+    waiting-total-requires
+    lane-total-requires
+    sum-requires
     returns-3)

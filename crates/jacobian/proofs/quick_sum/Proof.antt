@@ -1,4 +1,4 @@
-use Rattle.jacobian.proofs.Quicks.{known}
+use Rattle.jacobian.proofs.Quicks.{known, neutral-first}
 use mathlib.Core.Path.{sym, subst}
 use Rattle.divisor.specs.declared.Divisor.{Divisor}
 use Rattle.divisor.specs.declared.Divisor.the-variants.{Two, Three}
@@ -57,7 +57,7 @@ quick-three-requires : tie.Need-quick-three-requires
 quick-three-requires c κs = (c .before .before .before .before .before .before .pre .0, (subst (λ (d : Divisor). Holds (c .before .before .before .before .before .before .args .c) d) (c .before .before .before .before .a2 .given .1) (c .before .before .before .before .before .before .pre .1 .0), subst (λ (d : Divisor). Holds (c .before .before .before .before .before .before .args .c) d) (c .before .b2 .given .1) (c .before .before .before .before .before .before .pre .1 .1)))
 
 returns : tie.Need-returns
-returns c = search needs
+returns c = let s = c .before .before in neutral-first (s .args .c) (s .pre .0) (s .args .a) (s .args .b) (s .pre .1 .1) (c .enum-told .given .1)
 
 returns-2 : tie.Need-returns-2
 returns-2 c = search needs

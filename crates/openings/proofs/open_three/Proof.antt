@@ -1,0 +1,60 @@
+use Rattle.openings.proofs.Sums.{both-units}
+use borrow.Author.Needs.{needs}
+use Rattle.openings.proofs.open_three.Statement.{statement}
+use Rattle.openings.proofs.open_three.Tie as tie
+use Rattle.openings.proofs.open_three.Reads as reads
+use Rattle.openings.proofs.open_three.Lts as lts
+use Rattle.formulas.proofs.look.Reads as look-reads
+use Rattle.opens3.proofs.open.Reads as open-reads
+
+-- src/lib.rt:47:9
+open-requires : tie.Need-open-requires
+open-requires c κs = search needs
+
+-- src/lib.rt:48:9
+look-requires : tie.Need-look-requires
+look-requires c κs = search needs
+
+-- src/lib.rt:50:31
+enum-told : tie.Need-enum-told
+enum-told c = search needs
+
+-- src/lib.rt:51:28
+enum-told-2 : tie.Need-enum-told-2
+enum-told-2 c = search needs
+
+-- src/lib.rt:52:28
+enum-told-3 : tie.Need-enum-told-3
+enum-told-3 c = search needs
+
+-- src/lib.rt:43:1
+returns : tie.Need-returns
+returns c = search needs
+
+-- src/lib.rt:43:1
+returns-2 : tie.Need-returns-2
+returns-2 c = search needs
+
+-- src/lib.rt:43:1
+returns-3 : tie.Need-returns-3
+returns-3 c =
+    let s = c .before .before .before .before in
+    let o = c .before .before .before .«open» in
+    let k = c .before .before .look in
+    record {
+      from = o .ensures;
+      fit = both-units (s .args .c .m) (s .pre .0 .good) (o .result .r) (o .result .s .c2) (o .ensures .settled .r) (o .ensures .settled .s .c2) (k .result) (k .ensures) (c .enum-told3 .given .1);
+    }
+
+pub open-three-spec : {M : Type 1} → statement M
+open-three-spec =
+    tie.close
+    (tie.spec
+    open-requires
+    look-requires
+    enum-told
+    enum-told-2
+    enum-told-3
+    returns
+    returns-2
+    returns-3)
