@@ -1,3 +1,3 @@
-pub mod Found
+pub mod Chains
 pub mod Listed
 pub mod Calls

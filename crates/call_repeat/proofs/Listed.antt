@@ -1,55 +1,54 @@
--- The divisors of a batch in an array. Gives: the loop's start, a turn of it, and what is answered at each return.
+-- The records of a batch by their places, with their keys. Gives: the loop's start, a turn of it, and what is answered at each return.
 use Prim.Native.Nat.{ℕ, suc, _+_, _*_, _≤_, _<_}
-use mathlib.Core.Path.{_≡_, refl, sym, ap, ap₂, _∙_, subst}
-use mathlib.Core.List.{List, [], _∷_, _++_, map}
+use mathlib.Core.Path.{_≡_, refl, sym, ap, ap₂, _∙_, subst, subst₂}
+use mathlib.Core.List.{List, [], _∷_, _++_}
 use mathlib.Core.Bool.{false}
 use native.Mathlib.Omega.{arith}
 use borrow.Author.Count.{below-more}
-use lib.ListN.{getD, length, set, take, length-set}
-use lib.Seq.{getD-set-same, getD-set-other, take-suc-set}
-use Rattle.algebra.proofs.zmod.PrimeField.{modulo}
-use Rattle.rules.specs.Pair.{Pair}
+use lib.ListN.{getD, length, set, length-set, length-append, List·getD-append}
+use lib.Seq.{getD-set-same, getD-set-other, getD-at}
+use Rattle.rules.specs.Pair.{neutral}
 use Rattle.rules.specs.Records.{Checked, PairOf}
-use Rattle.rules.specs.First.{FirstIs}
-use Rattle.rules.specs.Lists.{Batch, Repeat}
+use Rattle.rules.specs.First.{FirstAt, FirstIs}
+use Rattle.rules.specs.Lists.{Batch, Repeat, Same, first-repeat}
 use Rattle.rules.specs.Calls.{done, deliver}
+use Rattle.rules.proofs.calls.Repeats.{SameAt, first-is-as, found-is}
 use Rattle.divisor.specs.declared.Divisor.{Divisor}
-use Rattle.divisor.specs.declared.Divisor.the-variants.{Neutral}
-use Rattle.divisor.specs.Divisors.{pair, Held}
+use Rattle.divisor.specs.Divisors.{pair}
 use Rattle.curve.specs.declared.Curve.{Curve}
 use Rattle.curve.specs.Record.{recordOf}
 use Rattle.record_divisor.specs.declared.DivisorRead.{DivisorRead}
 use Rattle.record_divisor.specs.declared.DivisorRead.the-variants.{Taken, Refused}
 use Rattle.record_divisor.specs.Read.{DivisorIs}
-use Rattle.repeat.specs.declared.Repeat.{Repeat as Found}
-use Rattle.repeat.specs.declared.Repeat.the-variants.{Pair as FoundPair, Nothing as FoundNothing}
-use Rattle.repeat.specs.First.{at, AllHeld, SameIn, placesOf}
+use Rattle.repeat.specs.Keys.{keyOf}
 use Rattle.call_one.specs.declared.Answer.the-variants.{Done, Refused as RefusedAnswer}
 use Rattle.call_one.proofs.Written.{goes-on, stopped-as}
 use Rattle.call_one.proofs.Turns.{Going, begins, read-taken, ends, full, refuses, turns}
+use Rattle.call_repeat.specs.declared.Repeat.{Repeat as Found}
+use Rattle.call_repeat.specs.declared.Repeat.the-variants.{Pair as FoundPair, Nothing as FoundNothing}
+use Rattle.call_repeat.specs.Rows.{pairAt, SameIn, Row, Rows, placesOf}
 use Rattle.call_repeat.specs.Repeats.{list-rule, no-repeat, repeat-of, repeat-rule, RepeatIs}
-use Rattle.call_repeat.proofs.Found.{found-first}
-
-map-snoc : {A B : Type 0} (f : A → B) (l : List A) (x : A) → map f (l ++ (x ∷ [])) ≡ map f l ++ (f x ∷ [])
-map-snoc f [] x = refl
-map-snoc f (y ∷ l) x = ap (λ t. f y ∷ t) (map-snoc f l x)
+use Rattle.call_repeat.proofs.Chains.{stands}
 
 abbrev snoc : {A : Type 0} → List A → A → List A
 snoc l x = l ++ (x ∷ [])
 
-pub record Listing (c : Curve) (s : List ℕ) (d : List Divisor) (k a : ℕ) : Type 0 where
-  pub long : length d ≡ 4096
-  pub all : AllHeld (c .m) d k
-  pub going : Going c snoc s [] k a (map (pair (c .m)) (take k d))
+pub record Listing (c : Curve) (s places keys : List ℕ) (k a : ℕ) : Type 0 where
+  pub rows : Rows c s places keys k
+  pub l : List (PairOf (recordOf c))
+  pub long : length l ≡ k
+  pub at : (x : ℕ) → x < k → getD l x neutral ≡ pairAt c s (getD places x 0)
+  pub going : Going c snoc s [] k a l
+
+-- what was found, as its case says
+pub found-at : (c : Curve) (s places : List ℕ) (n : ℕ) (f : Found) → FirstIs (SameIn c s places) n (placesOf f) → {i j : ℕ} → f ≡ FoundPair i j → FirstAt (SameIn c s places) n i j
+found-at c s places n f is e = subst (λ f. FirstIs (SameIn c s places) n (placesOf f)) e is
 
 module _ (c : Curve) (s : List ℕ) where
-  pub list-begin : (d : List Divisor) → length d ≡ 4096 → Listing c s d 0 0
-  list-begin d l = record { long = l; all = record { room = omega arith; held = λ k i. absurd (omega arith) }; going = begins c snoc s [] }
+  pub list-begin : (places keys : List ℕ) → length places ≡ 4096 → length keys ≡ 4096 → Listing c s places keys 0 0
+  list-begin places keys p q = record { rows = record { room = omega arith; places-long = p; keys-long = q; row = λ x i. absurd (omega arith) }; l = []; long = refl; at = λ x i. absurd (omega arith); going = begins c snoc s [] }
 
-  module _ (d : List Divisor) (k a : ℕ) (i : Listing c s d k a) where
-    abbrev so-far : List (Pair (modulo (c .m .p)))
-    so-far = map (pair (c .m)) (take k d)
-
+  module _ (places keys : List ℕ) (k a : ℕ) (i : Listing c s places keys k a) where
     -- what the call goes on with
     as-rule : {x : Checked (Batch (List (PairOf (recordOf c))))} → list-rule c s ≡ x → repeat-rule c s ≡ deliver no-repeat [] (repeat-of c x)
     as-rule e = ap (λ x. deliver no-repeat [] (repeat-of c x)) e
@@ -60,24 +59,39 @@ module _ (c : Curve) (s : List ℕ) where
     pub list-refuses : (r : DivisorRead) {n : ℕ} → a < length s → k < 4096 → DivisorIs c false s a r → r ≡ Refused n → RepeatIs (RefusedAnswer n (k + 1)) (repeat-rule c s)
     list-refuses r more room is e = stopped-as no-repeat refl refl (as-rule (refuses (i .going) more room r is e))
 
-    pub list-turn : (r : DivisorRead) {x : Divisor} {w : ℕ} → a < length s → k < 4096 → DivisorIs c false s a r → r ≡ Taken x → w ≡ getD s a 0 → Listing c s (set d k x) (k + 1) (a + 1 + 16 * w)
-    list-turn r {x} more room is e v = record {
-      long = length-set d k x ∙ i .long;
-      all = record {
+    pub list-turn : (r : DivisorRead) {x : Divisor} {y w : ℕ} → a < length s → k < 4096 → DivisorIs c false s a r → r ≡ Taken x → y ≡ keyOf x → w ≡ getD s a 0 → Listing c s (set places k a) (set keys k y) (k + 1) (a + 1 + 16 * w)
+    list-turn r {x} {y} more room is e q v = record {
+      rows = record {
         room = omega arith;
-        held = below-more (λ j. Held (c .m) (at (set d k x) j)) k
-            (λ j l. subst (Held (c .m)) (sym (getD-set-other d k j x Neutral (λ q. omega arith))) (i .all .held j l))
-            (subst (Held (c .m)) (sym (getD-set-same d k x Neutral (omega (arith, i .long)))) (read-taken c s a r is e .0 .held));
+        places-long = length-set places k a ∙ i .rows .places-long;
+        keys-long = length-set keys k y ∙ i .rows .keys-long;
+        row = below-more (λ j. Row c s (getD (set places k a) j 0) (getD (set keys k y) j 0)) k
+            (λ j l. subst₂ (Row c s) (sym (getD-set-other places k j a 0 (λ p. omega arith))) (sym (getD-set-other keys k j y 0 (λ p. omega arith))) (i .rows .row j l))
+            (subst₂ (Row c s) (sym here) (sym (getD-set-same keys k y 0 (omega (arith, i .rows .keys-long)))) (record { inside = omega arith; d = x; holds = read-taken c s a r is e .0; is = read-taken c s a r is e .1; key = q }));
       };
-      going = turns (i .going) more room r is e v added;
+      l = snoc (i .l) (pair (c .m) x);
+      long = length-append (i .l) (pair (c .m) x ∷ []) ∙ ap (λ (t : ℕ). t + 1) (i .long);
+      at = below-more (λ j. getD (snoc (i .l) (pair (c .m) x)) j neutral ≡ pairAt c s (getD (set places k a) j 0)) k
+          (λ j l. List·getD-append (i .l) (pair (c .m) x ∷ []) neutral j (omega (arith, l, i .long)) ∙ i .at j l ∙ ap (pairAt c s) (sym (getD-set-other places k j a 0 (λ p. omega arith))))
+          (getD-at (i .l) (pair (c .m) x) [] neutral k (i .long) ∙ sym (stands c s a x (read-taken c s a r is e .1)) ∙ ap (pairAt c s) (sym here));
+      going = turns (i .going) more room r is e v refl;
     }
       where
-        added : map (pair (c .m)) (take (k + 1) (set d k x)) ≡ snoc so-far (pair (c .m) x)
-        added = ap (λ (n : ℕ). map (pair (c .m)) (take n (set d k x))) {x = k + 1} {y = suc k} (omega arith) ∙ ap (map (pair (c .m))) (take-suc-set d k x (omega (arith, i .long))) ∙ map-snoc (pair (c .m)) (take k d) x
+        here : getD (set places k a) k 0 ≡ a
+        here = getD-set-same places k a 0 (omega (arith, i .rows .places-long))
 
-    module _ (over : length s ≤ a) (f : Found) (is : FirstIs (SameIn (c .m) d) k (placesOf f)) where
+    module _ (over : length s ≤ a) (f : Found) (is : FirstIs (SameIn c s places) k (placesOf f)) where
+      found : first-repeat (c .m .p) (i .l) ≡ placesOf f
+      found = found-is (c .m .p) (i .l) (placesOf f) (subst (λ n. FirstIs (SameAt (i .l)) n (placesOf f)) (sym (i .long)) (first-is-as (SameIn c s places) (SameAt (i .l)) k to from (placesOf f) is))
+        where
+          to : (a b : ℕ) → a < b → b < k → SameIn c s places a b → SameAt (i .l) a b
+          to a b l h q = subst₂ Same (sym (i .at a (omega arith))) (sym (i .at b h)) q
+
+          from : (a b : ℕ) → a < b → b < k → SameAt (i .l) a b → SameIn c s places a b
+          from a b l h q = subst₂ Same (i .at a (omega arith)) (i .at b h) q
+
       answered : {r : Repeat} → placesOf f ≡ r → RepeatIs (Done 0 (r .first) (r .second)) (repeat-rule c s)
-      answered {r} e = goes-on (as-rule (ends (i .going) over) ∙ ap (λ (t : Repeat). record { answer = done 0; out = []; own = t }) (found-first (c .m) d k (i .all) (i .long) f is ∙ e)) (record { values = refl; bytes = refl })
+      answered {r} e = goes-on (as-rule (ends (i .going) over) ∙ ap (λ (t : Repeat). record { answer = done 0; out = []; own = t }) (found ∙ e)) (record { values = refl; bytes = refl })
 
       pub list-pair : {x y : ℕ} → f ≡ FoundPair x y → RepeatIs (Done 0 (x + 1) (y + 1)) (repeat-rule c s)
       list-pair {x} {y} e = answered (ap placesOf e ∙ ap₂ (λ i j. record { first = i; second = j }) {x = suc x} {y = x + 1} {u = suc y} {v = y + 1} (omega arith) (omega arith))

@@ -1,11 +1,11 @@
-// The first repeat in a list of divisors, equal or opposite: least j, then least i < j, counted from 0.
-ghost use Rattle.rules.specs.First.{FirstIs};
+// Whether two divisors are of one meter, equal or opposite; and a key that such two have alike.
+ghost use mathlib.Core.Path.{_≡_};
 ghost use Rattle.rules.specs.Lists.{Same};
 ghost use Rattle.field.specs.Primes.{Decides};
 ghost use Rattle.divisor.specs.declared.Divisor.the-variants.{One, Two, Three};
 ghost use Rattle.divisor.specs.Divisors.{pair, Held};
 ghost use Rattle.repeat.specs.Padded.{Pads};
-ghost use Rattle.repeat.specs.First.{AllHeld, SameIn, placesOf};
+ghost use Rattle.repeat.specs.Keys.{keyOf};
 use divisor::Cubic;
 use divisor::Divisor;
 use divisor::Linear;
@@ -49,7 +49,7 @@ fn pad_two(d: Quadratic) -> Cubic
 }
 
 // Two meters are the same when their divisors are equal or opposite.
-fn same(a: Divisor, b: Divisor, m: Modulus) -> bool
+pub fn same(a: Divisor, b: Divisor, m: Modulus) -> bool
     requires { ⌜ Held m a × Held m b ⌝ }
     ensures { λ r. ⌜ Decides r (Same (pair m a) (pair m b)) ⌝ }
 {
@@ -81,30 +81,14 @@ fn same(a: Divisor, b: Divisor, m: Modulus) -> bool
     }
 }
 
-pub enum Repeat {
-    Pair(usize, usize),
-    Nothing,
-}
-
-// Of the first n divisors. Both loops stop at the first pair of the same.
-pub fn first_repeat(d: [Divisor; refusals::MOST], n: usize, m: Modulus) -> Repeat
-    requires { ⌜ AllHeld m d n ⌝ }
-    ensures { λ r. ⌜ FirstIs (SameIn m d) n (placesOf r) ⌝ }
+// The low half of the first coefficient, 0 where there is none: the same meters have the same key, so that most pairs are told apart by it.
+pub fn key(d: Divisor) -> u32
+    ensures { λ r. ⌜ r ≡ keyOf d ⌝ }
 {
-    let mut answer = Repeat::Nothing;
-    let mut j: usize = 0;
-    'search: while j < n {
-        let later = d[j];
-        let mut i: usize = 0;
-        while i < j {
-            let earlier = d[i];
-            if same(earlier, later, m) {
-                answer = Repeat::Pair(i, j);
-                break 'search;
-            }
-            i += 1;
-        }
-        j += 1;
+    match d {
+        Divisor::Neutral => 0,
+        Divisor::One(x) => (x.u0.to_raw() % 4294967296) as u32,
+        Divisor::Two(x) => (x.u0.to_raw() % 4294967296) as u32,
+        Divisor::Three(x) => (x.u0.to_raw() % 4294967296) as u32,
     }
-    answer
 }
