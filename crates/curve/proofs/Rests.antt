@@ -1,4 +1,4 @@
--- What f - v² leaves when it is divided by u. Gives: the first coefficients (`top-one-low` to `top-two-high`), and that all of them are f - v² (`rests-one`, `rests-two`, `rests-three`).
+-- What f - v² leaves when it is divided by u. Gives: the first coefficients (`top-one-low` to `top-two-high`), and that all of them are f - v² (`rests-one`, `rests-two`).
 use Prim.Native.Nat.{ℕ, _+_, _-_, _≤_}
 use mathlib.Core.Path.{_≡_, refl, sym, ap, ap₂, _∙_, subst}
 use mathlib.Core.List.{List, [], _∷_, _++_}
@@ -10,19 +10,17 @@ use Rattle.rules.specs.Pair.{f-v²}
 use Rattle.field.specs.declared.Residue.{Residue}
 use Rattle.field.specs.Residues.{el, Kept, Settles}
 use Rattle.field.proofs.Laws.{settled-kept}
-use Rattle.divisor.specs.declared.Divisor.the-variants.{One, Two, Three}
+use Rattle.divisor.specs.declared.Divisor.the-variants.{One, Two}
 use Rattle.divisor.specs.declared.Linear.{Linear}
 use Rattle.divisor.specs.declared.Quadratic.{Quadratic}
-use Rattle.divisor.specs.declared.Cubic.{Cubic}
 use Rattle.divisor.specs.Divisors.{elements, pair}
 use Rattle.rests.specs.declared.Duo.{Duo}
-use Rattle.rests.specs.declared.Trio.{Trio}
-use Rattle.rests.specs.Turns.{K, two, three, Leaves, Turned}
+use Rattle.rests.specs.Turns.{K, two, Leaves, Turned}
 use Rattle.rests.proofs.Turned.{Less, Twice, begun, topped}
 use Rattle.curve.specs.declared.Curve.{Curve}
 use Rattle.curve.specs.Curves.{above, curveOf, Sound}
 use Rattle.curve.specs.Rests.{TopOne, TopTwo, Rests}
-use Rattle.curve.proofs.Squares.{square-one, square-two, square-three}
+use Rattle.curve.proofs.Squares.{square-one, square-two}
 
 module _ (c : Curve) (h : Sound c) where
   abbrev A : Type 0
@@ -32,10 +30,10 @@ module _ (c : Curve) (h : Sound c) where
   abbrev Above : (List A → Type 0) → ℕ → Type 0
   Above T n = T (elements (c .m) (take n (c .f5 ∷ c .f6 ∷ [])))
 
-  in-two : (T : List A → Type 0) → c .g ≡ 2 → Above T 0 → T (elements (c .m) (above c))
+  pub in-two : (T : List A → Type 0) → c .g ≡ 2 → Above T 0 → T (elements (c .m) (above c))
   in-two T e x = subst (Above T) {x = 0} {y = c .g + c .g - 4} (omega arith) x
 
-  in-three : (T : List A → Type 0) → (c .g ≡ 2 → ⊥) → Above T 2 → T (elements (c .m) (above c))
+  pub in-three : (T : List A → Type 0) → (c .g ≡ 2 → ⊥) → Above T 2 → T (elements (c .m) (above c))
   in-three T e x = subst (Above T) {x = 2} {y = c .g + c .g - 4} (omega (arith, h .least, h .most)) x
 
   module _ (o : Residue) (ho : Settles (c .m) o (K (c .m) .one)) where
@@ -63,27 +61,6 @@ module _ (c : Curve) (h : Sound c) where
       pub top-two-high : (c .g ≡ 2 → ⊥) → (b r : Duo) → Turned (c .m) (Two d) (c .f5) (c .f6 ∷ o ∷ []) (two b) → Turned (c .m) (Two d) (c .f4) (two b) (two r) → TopTwo c d r
       top-two-high e b r x y = in-three (λ l. Leaves (c .m) (Two d) (el (c .m) (c .f4) ∷ (l ++ (K (c .m) .one ∷ []))) (two r)) e
           (y .leaves _ (x .leaves _ (line-alone (c .f6) (settled-kept (c .m) (h .settled .1 .1 .1 .1 .1 .1 .0)))))
-
-    module _ (d : Cubic) where
-      top-three : c .g ≡ 3 → Leaves (c .m) (Three d) (elements (c .m) (above c) ++ (K (c .m) .one ∷ [])) (c .f5 ∷ c .f6 ∷ o ∷ [])
-      top-three e = in-three (λ l. Leaves (c .m) (Three d) (l ++ (K (c .m) .one ∷ [])) (c .f5 ∷ c .f6 ∷ o ∷ [])) (λ z. omega arith)
-          (topped (c .m) (Three d) (el (c .m) (c .f5) ∷ el (c .m) (c .f6) ∷ []) o (begun (c .m) (Three d) (c .f5 ∷ c .f6 ∷ o ∷ [])
-          (settled-kept (c .m) (h .settled .1 .1 .1 .1 .1 .0), (settled-kept (c .m) (h .settled .1 .1 .1 .1 .1 .1 .0), (kept, tt))) refl) (ho .is))
-
-      module _ (e : c .g ≡ 3) {h4 h3 k2 h2 h1 h0 : Residue} {w0 w1 : Residue} {a4 a3 a2 a1 r : Trio} where
-        pub rests-three : Twice (c .m) w0 (d .v0) → Twice (c .m) w1 (d .v1)
-            → Less (c .m) h4 (el (c .m) (c .f4)) (el (c .m) (d .v2)) (el (c .m) (d .v2)) → Turned (c .m) (Three d) h4 (c .f5 ∷ c .f6 ∷ o ∷ []) (three a4)
-            → Less (c .m) h3 (el (c .m) (c .f3)) (el (c .m) w1) (el (c .m) (d .v2)) → Turned (c .m) (Three d) h3 (three a4) (three a3)
-            → Less (c .m) k2 (el (c .m) (c .f2)) (el (c .m) (d .v1)) (el (c .m) (d .v1)) → Less (c .m) h2 (el (c .m) k2) (el (c .m) w0) (el (c .m) (d .v2)) → Turned (c .m) (Three d) h2 (three a3) (three a2)
-            → Less (c .m) h1 (el (c .m) (c .f1)) (el (c .m) w0) (el (c .m) (d .v1)) → Turned (c .m) (Three d) h1 (three a2) (three a1)
-            → Less (c .m) h0 (el (c .m) (c .f0)) (el (c .m) (d .v0)) (el (c .m) (d .v0)) → Turned (c .m) (Three d) h0 (three a1) (three r)
-            → Rests c (Three d) (three r)
-        unfolding pair whole
-        rests-three x0 x1 y4 t4 y3 t3 z2 y2 t2 y1 t1 y0 t0 = record {
-          list = el (c .m) h0 ∷ el (c .m) h1 ∷ el (c .m) h2 ∷ el (c .m) h3 ∷ el (c .m) h4 ∷ (elements (c .m) (above c) ++ (K (c .m) .one ∷ []));
-          is = rw (y0 .is, y1 .is, y2 .is, z2 .is, y3 .is, y4 .is, x0 .is, x1 .is) (square-three (K (c .m)) (elements (c .m) (above c)) (el (c .m) (c .f0)) (el (c .m) (d .v0)) (el (c .m) (c .f1)) (el (c .m) (c .f2)) (el (c .m) (d .v1)) (el (c .m) (c .f3)) (el (c .m) (c .f4)) (el (c .m) (d .v2)));
-          leaves = t0 .leaves _ (t1 .leaves _ (t2 .leaves _ (t3 .leaves _ (t4 .leaves _ (top-three e)))));
-        }
 
   module _ (d : Linear) {a a4 a3 a2 a1 h0 r : Residue} where
     pub rests-one : TopOne c d a → Turned (c .m) (One d) (c .f4) (a ∷ []) (a4 ∷ []) → Turned (c .m) (One d) (c .f3) (a4 ∷ []) (a3 ∷ []) → Turned (c .m) (One d) (c .f2) (a3 ∷ []) (a2 ∷ []) → Turned (c .m) (One d) (c .f1) (a2 ∷ []) (a1 ∷ [])

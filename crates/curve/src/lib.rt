@@ -79,7 +79,7 @@ fn rest_one(c: Curve, d: Linear) -> Residue
     rests::turn_one(a1, h0, d, m)
 }
 
-fn rest_two(c: Curve, d: Quadratic) -> Duo
+fn turns_two(c: Curve, d: Quadratic) -> Duo
     requires { ⌜ Sound c × Held (c .m) (Divisor.Two d) ⌝ }
     ensures { λ r. ⌜ Rests c (Divisor.Two d) (two r) ⌝ }
 {
@@ -96,35 +96,66 @@ fn rest_two(c: Curve, d: Quadratic) -> Duo
     rests::turn_two(a1, h0, d, m)
 }
 
+// In genus 2 by the quotient, whose coefficients are q2, q1 and q0 below its leading 1: two products stand under one reduction.
+fn quotient_two(c: Curve, d: Quadratic) -> Duo
+    requires { ⌜ Sound c × ((c .g ≡ 2) × Held (c .m) (Divisor.Two d)) ⌝ }
+    ensures { λ r. ⌜ Rests c (Divisor.Two d) (two r) ⌝ }
+{
+    let m = c.m;
+    let w0 = d.v0.dbl(m);
+    let q2 = c.f4.sub(d.u1, m);
+    let q1 = c.f3.sub(d.u0, m).sub(q2.mul(d.u1, m), m);
+    let q0 = c.f2
+        .sub(d.v1.dot(d.v1, q2, d.u0, m), m)
+        .sub(q1.mul(d.u1, m), m);
+    let r1 = c.f1
+        .sub(w0.dot(d.v1, q1, d.u0, m), m)
+        .sub(q0.mul(d.u1, m), m);
+    let r0 = c.f0.sub(d.v0.dot(d.v0, q0, d.u0, m), m);
+    Duo { c0: r0, c1: r1 }
+}
+
+fn rest_two(c: Curve, d: Quadratic) -> Duo
+    requires { ⌜ Sound c × Held (c .m) (Divisor.Two d) ⌝ }
+    ensures { λ r. ⌜ Rests c (Divisor.Two d) (two r) ⌝ }
+{
+    let g = c.g;
+    if g == 2 {
+        return quotient_two(c, d);
+    }
+    turns_two(c, d)
+}
+
+// By the quotient, whose coefficients are q3 down to q0 below its leading 1.
 fn rest_three(c: Curve, d: Cubic) -> Trio
     requires { ⌜ Sound c × ((c .g ≡ 3) × Held (c .m) (Divisor.Three d)) ⌝ }
     ensures { λ r. ⌜ Rests c (Divisor.Three d) (three r) ⌝ }
 {
     let m = c.m;
-    let v0 = d.v0;
-    let v1 = d.v1;
-    let v2 = d.v2;
-    let w0 = v0.dbl(m);
-    let w1 = v1.dbl(m);
-    let f5 = c.f5;
-    let f6 = c.f6;
-    let o = Residue::one(m);
-    let a = Trio {
-        c0: f5,
-        c1: f6,
-        c2: o,
-    };
-    let h4 = rests::less(c.f4, v2, v2, m);
-    let a4 = rests::turn_three(a, h4, d, m);
-    let h3 = rests::less(c.f3, w1, v2, m);
-    let a3 = rests::turn_three(a4, h3, d, m);
-    let k2 = rests::less(c.f2, v1, v1, m);
-    let h2 = rests::less(k2, w0, v2, m);
-    let a2 = rests::turn_three(a3, h2, d, m);
-    let h1 = rests::less(c.f1, w0, v1, m);
-    let a1 = rests::turn_three(a2, h1, d, m);
-    let h0 = rests::less(c.f0, v0, v0, m);
-    rests::turn_three(a1, h0, d, m)
+    let w0 = d.v0.dbl(m);
+    let w2 = d.v2.dbl(m);
+    let q3 = c.f6.sub(d.u2, m);
+    let q2 = c.f5.sub(d.u1, m).sub(q3.mul(d.u2, m), m);
+    let q1 = c.f4
+        .sub(d.u0, m)
+        .sub(d.v2.dot(d.v2, q3, d.u1, m), m)
+        .sub(q2.mul(d.u2, m), m);
+    let q0 = c.f3
+        .sub(d.v1.dot(w2, q3, d.u0, m), m)
+        .sub(q2.dot(d.u1, q1, d.u2, m), m);
+    let r2 = c.f2
+        .sub(d.v0.dot(w2, d.v1, d.v1, m), m)
+        .sub(q2.dot(d.u0, q1, d.u1, m), m)
+        .sub(q0.mul(d.u2, m), m);
+    let r1 = c.f1
+        .sub(w0.dot(d.v1, q1, d.u0, m), m)
+        .sub(q0.mul(d.u1, m), m);
+    let r0 = c.f0.sub(d.v0.dot(d.v0, q0, d.u0, m), m);
+    Trio {
+        c0: r0,
+        c1: r1,
+        c2: r2,
+    }
 }
 
 impl Curve {

@@ -1,4 +1,4 @@
--- What a polynomial leaves when it is divided by u. Gives: one coefficient more (`turned-one` to `turned-three`), and the first ones (`begun`, `topped`).
+-- What a polynomial leaves when it is divided by u. Gives: one coefficient more (`turned-one`, `turned-two`), and the first ones (`begun`, `topped`).
 use mathlib.Core.Path.{_≡_, sym, ap, ap₂, _∙_, subst}
 use mathlib.Core.List.{List, [], _∷_, _++_}
 use lib.ListN.{length}
@@ -9,15 +9,13 @@ use Rattle.field.specs.declared.Modulus.{Modulus}
 use Rattle.field.specs.declared.Residue.{Residue}
 use Rattle.field.specs.Residues.{el, Stands}
 use Rattle.divisor.specs.declared.Divisor.{Divisor}
-use Rattle.divisor.specs.declared.Divisor.the-variants.{One, Two, Three}
+use Rattle.divisor.specs.declared.Divisor.the-variants.{One, Two}
 use Rattle.divisor.specs.declared.Linear.{Linear}
 use Rattle.divisor.specs.declared.Quadratic.{Quadratic}
-use Rattle.divisor.specs.declared.Cubic.{Cubic}
 use Rattle.divisor.specs.Divisors.{us, elements}
 use Rattle.divisor.proofs.Laws.{length-elements}
 use Rattle.rests.specs.declared.Duo.{Duo}
-use Rattle.rests.specs.declared.Trio.{Trio}
-use Rattle.rests.specs.Turns.{K, two, three, AllKept, Leaves, Turned}
+use Rattle.rests.specs.Turns.{K, two, AllKept, Leaves, Turned}
 
 module _ (m : Modulus) where
   open CRing (K m) using (El as A, add as _⊕_, mul as _⊗_, neg as opp, one as 𝟙)
@@ -48,12 +46,6 @@ module _ (m : Modulus) where
   pub turned-two : (d : Quadratic) (c : Residue) (a r : Duo) → Less (r .c0) (el m c) (el m (a .c1)) (el m (d .u0)) → Less (r .c1) (el m (a .c0)) (el m (a .c1)) (el m (d .u1)) → Turned m (Two d) c (two a) (two r)
   unfolding slide addL negL scaleL
   turned-two d c a r h k = turned-by (Two d) c (two a) (two r) (h .kept, (k .kept, tt)) (ap₂ (λ (s t : A). s ∷ t ∷ []) (h .is) (k .is))
-
-  pub turned-three : (d : Cubic) (c : Residue) (a r : Trio) → Less (r .c0) (el m c) (el m (a .c2)) (el m (d .u0)) → Less (r .c1) (el m (a .c0)) (el m (a .c2)) (el m (d .u1)) → Less (r .c2) (el m (a .c1)) (el m (a .c2)) (el m (d .u2))
-      → Turned m (Three d) c (three a) (three r)
-  unfolding slide addL negL scaleL
-  turned-three d c a r h k j = turned-by (Three d) c (three a) (three r) (h .kept, (k .kept, (j .kept, tt)))
-      (ap₂ (λ (s t : A). s ∷ t ∷ el m (r .c2) ∷ []) (h .is) (k .is) ∙ ap (λ (t : A). (el m c ⊕ opp (el m (a .c2) ⊗ el m (d .u0))) ∷ (el m (a .c0) ⊕ opp (el m (a .c2) ⊗ el m (d .u1))) ∷ t ∷ []) (j .is))
 
   -- as many coefficients as u has are their own rest
   pub begun : (d : Divisor) (l : List Residue) → AllKept m l → length l ≡ length (us d) → Leaves m d (elements m l) l

@@ -6,7 +6,6 @@ ghost use Rattle.field.specs.Primes.{Decides};
 ghost use Rattle.field.specs.Residues.{el, Kept, Stands};
 ghost use Rattle.divisor.specs.Divisors.{Held};
 ghost use Rattle.rests.specs.Turns.{two, three, AllKept, AllZero, Turned};
-use divisor::Cubic;
 use divisor::Divisor;
 use divisor::Linear;
 use divisor::Quadratic;
@@ -82,19 +81,4 @@ pub fn turn_two(a: Duo, c: Residue, d: Quadratic, m: Modulus) -> Duo
     let c0 = less(c, t, d.u0, m);
     let c1 = less(a.c0, t, d.u1, m);
     Duo { c0: c0, c1: c1 }
-}
-
-pub fn turn_three(a: Trio, c: Residue, d: Cubic, m: Modulus) -> Trio
-    requires { ⌜ Kept m c × (AllKept m (three a) × Held m (Divisor.Three d)) ⌝ }
-    ensures { λ r. ⌜ Turned m (Divisor.Three d) c (three a) (three r) ⌝ }
-{
-    let t = a.c2;
-    let c0 = less(c, t, d.u0, m);
-    let c1 = less(a.c0, t, d.u1, m);
-    let c2 = less(a.c1, t, d.u2, m);
-    Trio {
-        c0: c0,
-        c1: c1,
-        c2: c2,
-    }
 }

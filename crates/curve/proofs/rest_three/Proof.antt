@@ -1,91 +1,106 @@
+use mathlib.Core.Path.{refl, sym, ap₂, _∙_}
+use Rattle.algebra.proofs.zmod.Zmod.{zmod}
 use Rattle.field.proofs.Laws.{settled-kept}
-use Rattle.curve.proofs.Rests.{rests-three}
-use borrow.Author.Needs.{needs}
+use Rattle.curve.proofs.Quotients.{left-three, quotients-three}
 use Rattle.curve.proofs.rest_three.Statement.{statement}
 use Rattle.curve.proofs.rest_three.Tie as tie
-use Rattle.curve.proofs.rest_three.Reads as reads
-use Rattle.curve.proofs.rest_three.Lts as lts
-use Rattle.rests.proofs.less.Reads as less-reads
-use Rattle.rests.proofs.turn_three.Reads as turn-three-reads
-use Rattle.field.proofs.Residue.dbl.Reads as dbl-reads
-use Rattle.field.proofs.Residue.one.Reads as one-reads
 
--- src/lib.rt:192:9
 dbl-requires : tie.Need-dbl-requires
-dbl-requires c κs = let s = c .before .before .before .before in (settled-kept (s .args .c .m) (s .pre .1 .1 .v .0))
+dbl-requires c κs = let s = c .before in settled-kept (s .args .c .m) (s .pre .1 .1 .v .0)
 
--- src/lib.rt:193:9
 dbl-requires-2 : tie.Need-dbl-requires-2
-dbl-requires-2 c κs = let s = c .before .before .before .before .before in (settled-kept (s .args .c .m) (s .pre .1 .1 .v .1 .0))
+dbl-requires-2 c κs = let s = c .before .before in settled-kept (s .args .c .m) (s .pre .1 .1 .v .1 .1 .0)
 
--- src/lib.rt:196:9
-one-requires : tie.Need-one-requires
-one-requires c κs = let s = c .before .before .before .before .before .before .before .before in s .pre .0 .good .ring
+sub-requires : tie.Need-sub-requires
+sub-requires c κs = let s = c .before .before .before in (settled-kept (s .args .c .m) (s .pre .0 .settled .1 .1 .1 .1 .1 .1 .0), settled-kept (s .args .c .m) (s .pre .1 .1 .u .1 .1 .0))
 
--- src/lib.rt:202:9
-less-requires : tie.Need-less-requires
-less-requires c κs = let s = c .before .before .before .before .before .before .before .before .before in ((settled-kept (s .args .c .m) (s .pre .0 .settled .1 .1 .1 .1 .0)), ((settled-kept (s .args .c .m) (s .pre .1 .1 .v .1 .1 .0)), (settled-kept (s .args .c .m) (s .pre .1 .1 .v .1 .1 .0))))
+sub-requires-2 : tie.Need-sub-requires-2
+sub-requires-2 c κs = let s = c .before .before .before .before in (settled-kept (s .args .c .m) (s .pre .0 .settled .1 .1 .1 .1 .1 .0), settled-kept (s .args .c .m) (s .pre .1 .1 .u .1 .0))
 
--- src/lib.rt:203:9
-turn-three-requires : tie.Need-turn-three-requires
-turn-three-requires c κs = let s = c .before .before .before .before .before .before .before .before .before .before in (c .less .ensures .kept, (((settled-kept (s .args .c .m) (s .pre .0 .settled .1 .1 .1 .1 .1 .0)), ((settled-kept (s .args .c .m) (s .pre .0 .settled .1 .1 .1 .1 .1 .1 .0)), (settled-kept (s .args .c .m) (c .before .one .ensures .settled), tt))), s .pre .1 .1))
+mul-requires : tie.Need-mul-requires
+mul-requires c κs = let s = c .before .before .before .before .before in (c .before .sub .ensures .kept, settled-kept (s .args .c .m) (s .pre .1 .1 .u .1 .1 .0))
 
--- src/lib.rt:204:9
-less-requires-2 : tie.Need-less-requires-2
-less-requires-2 c κs = let s = c .before .before .before .before .before .before .before .before .before .before .before in ((settled-kept (s .args .c .m) (s .pre .0 .settled .1 .1 .1 .0)), (c .before .before .before .before .before .dbl2 .ensures .kept, (settled-kept (s .args .c .m) (s .pre .1 .1 .v .1 .1 .0))))
+sub-requires-3 : tie.Need-sub-requires-3
+sub-requires-3 c κs = (c .before .sub2 .ensures .kept, c .mul .ensures .kept)
 
--- src/lib.rt:205:9
-turn-three-requires-2 : tie.Need-turn-three-requires-2
-turn-three-requires-2 c κs = let s = c .before .before .before .before .before .before .before .before .before .before .before .before in (c .less2 .ensures .kept, (c .before .turn-three .ensures .kept, s .pre .1 .1))
+sub-requires-4 : tie.Need-sub-requires-4
+sub-requires-4 c κs = let s = c .before .before .before .before .before .before .before in (settled-kept (s .args .c .m) (s .pre .0 .settled .1 .1 .1 .1 .0), settled-kept (s .args .c .m) (s .pre .1 .1 .u .0))
 
--- src/lib.rt:206:9
-less-requires-3 : tie.Need-less-requires-3
-less-requires-3 c κs = let s = c .before .before .before .before .before .before .before .before .before .before .before .before .before in ((settled-kept (s .args .c .m) (s .pre .0 .settled .1 .1 .0)), ((settled-kept (s .args .c .m) (s .pre .1 .1 .v .1 .0)), (settled-kept (s .args .c .m) (s .pre .1 .1 .v .1 .0))))
+dot-requires : tie.Need-dot-requires
+dot-requires c κs = let s = c .before .before .before .before .before .before .before .before in (settled-kept (s .args .c .m) (s .pre .1 .1 .v .1 .1 .0), settled-kept (s .args .c .m) (s .pre .1 .1 .v .1 .1 .0), c .before .before .before .before .sub .ensures .kept, settled-kept (s .args .c .m) (s .pre .1 .1 .u .1 .0))
 
--- src/lib.rt:207:9
-less-requires-4 : tie.Need-less-requires-4
-less-requires-4 c κs = let s = c .before .before .before .before .before .before .before .before .before .before .before .before .before .before in (c .less3 .ensures .kept, (c .before .before .before .before .before .before .before .before .before .dbl .ensures .kept, (settled-kept (s .args .c .m) (s .pre .1 .1 .v .1 .1 .0))))
+sub-requires-5 : tie.Need-sub-requires-5
+sub-requires-5 c κs = (c .before .sub4 .ensures .kept, c .dot .ensures .kept)
 
--- src/lib.rt:208:9
-turn-three-requires-3 : tie.Need-turn-three-requires-3
-turn-three-requires-3 c κs = let s = c .before .before .before .before .before .before .before .before .before .before .before .before .before .before .before in (c .less4 .ensures .kept, (c .before .before .turn-three2 .ensures .kept, s .pre .1 .1))
+mul-requires-2 : tie.Need-mul-requires-2
+mul-requires-2 c κs = let s = c .before .before .before .before .before .before .before .before .before .before in (c .before .before .before .sub3 .ensures .kept, settled-kept (s .args .c .m) (s .pre .1 .1 .u .1 .1 .0))
 
--- src/lib.rt:209:9
-less-requires-5 : tie.Need-less-requires-5
-less-requires-5 c κs = let s = c .before .before .before .before .before .before .before .before .before .before .before .before .before .before .before .before in ((settled-kept (s .args .c .m) (s .pre .0 .settled .1 .0)), (c .before .before .before .before .before .before .before .before .before .before .before .dbl .ensures .kept, (settled-kept (s .args .c .m) (s .pre .1 .1 .v .1 .0))))
+sub-requires-6 : tie.Need-sub-requires-6
+sub-requires-6 c κs = (c .before .sub5 .ensures .kept, c .mul2 .ensures .kept)
 
--- src/lib.rt:210:9
-turn-three-requires-4 : tie.Need-turn-three-requires-4
-turn-three-requires-4 c κs = let s = c .before .before .before .before .before .before .before .before .before .before .before .before .before .before .before .before .before in (c .less5 .ensures .kept, (c .before .turn-three3 .ensures .kept, s .pre .1 .1))
+dot-requires-2 : tie.Need-dot-requires-2
+dot-requires-2 c κs = let s = c .before .before .before .before .before .before .before .before .before .before .before .before in (settled-kept (s .args .c .m) (s .pre .1 .1 .v .1 .0), c .before .before .before .before .before .before .before .before .before .dbl2 .ensures .kept, c .before .before .before .before .before .before .before .before .sub .ensures .kept, settled-kept (s .args .c .m) (s .pre .1 .1 .u .0))
 
--- src/lib.rt:211:9
-less-requires-6 : tie.Need-less-requires-6
-less-requires-6 c κs = let s = c .before .before .before .before .before .before .before .before .before .before .before .before .before .before .before .before .before .before in ((settled-kept (s .args .c .m) (s .pre .0 .settled .0)), ((settled-kept (s .args .c .m) (s .pre .1 .1 .v .0)), (settled-kept (s .args .c .m) (s .pre .1 .1 .v .0))))
+sub-requires-7 : tie.Need-sub-requires-7
+sub-requires-7 c κs = let s = c .before .before .before .before .before .before .before .before .before .before .before .before .before in (settled-kept (s .args .c .m) (s .pre .0 .settled .1 .1 .1 .0), c .dot2 .ensures .kept)
 
--- src/lib.rt:212:5
-turn-three-requires-5 : tie.Need-turn-three-requires-5
-turn-three-requires-5 c κs = let s = c .before .before .before .before .before .before .before .before .before .before .before .before .before .before .before .before .before .before .before in (c .less6 .ensures .kept, (c .before .turn-three4 .ensures .kept, s .pre .1 .1))
+dot-requires-3 : tie.Need-dot-requires-3
+dot-requires-3 c κs = let s = c .before .before .before .before .before .before .before .before .before .before .before .before .before .before in (c .before .before .before .before .before .before .before .sub3 .ensures .kept, settled-kept (s .args .c .m) (s .pre .1 .1 .u .1 .0), c .before .before .sub6 .ensures .kept, settled-kept (s .args .c .m) (s .pre .1 .1 .u .1 .1 .0))
 
--- src/lib.rt:184:1
+sub-requires-8 : tie.Need-sub-requires-8
+sub-requires-8 c κs = (c .before .sub7 .ensures .kept, c .dot3 .ensures .kept)
+
+dot-requires-4 : tie.Need-dot-requires-4
+dot-requires-4 c κs = let s = c .before .before .before .before .before .before .before .before .before .before .before .before .before .before .before .before in (settled-kept (s .args .c .m) (s .pre .1 .1 .v .0), c .before .before .before .before .before .before .before .before .before .before .before .before .before .dbl2 .ensures .kept, settled-kept (s .args .c .m) (s .pre .1 .1 .v .1 .0), settled-kept (s .args .c .m) (s .pre .1 .1 .v .1 .0))
+
+sub-requires-9 : tie.Need-sub-requires-9
+sub-requires-9 c κs = let s = c .before .before .before .before .before .before .before .before .before .before .before .before .before .before .before .before .before in (settled-kept (s .args .c .m) (s .pre .0 .settled .1 .1 .0), c .dot4 .ensures .kept)
+
+dot-requires-5 : tie.Need-dot-requires-5
+dot-requires-5 c κs = let s = c .before .before .before .before .before .before .before .before .before .before .before .before .before .before .before .before .before .before in (c .before .before .before .before .before .before .before .before .before .before .before .sub3 .ensures .kept, settled-kept (s .args .c .m) (s .pre .1 .1 .u .0), c .before .before .before .before .before .before .sub6 .ensures .kept, settled-kept (s .args .c .m) (s .pre .1 .1 .u .1 .0))
+
+sub-requires-10 : tie.Need-sub-requires-10
+sub-requires-10 c κs = (c .before .sub9 .ensures .kept, c .dot5 .ensures .kept)
+
+mul-requires-3 : tie.Need-mul-requires-3
+mul-requires-3 c κs = let s = c .before .before .before .before .before .before .before .before .before .before .before .before .before .before .before .before .before .before .before .before in (c .before .before .before .before .sub8 .ensures .kept, settled-kept (s .args .c .m) (s .pre .1 .1 .u .1 .1 .0))
+
+sub-requires-11 : tie.Need-sub-requires-11
+sub-requires-11 c κs = (c .before .sub10 .ensures .kept, c .mul3 .ensures .kept)
+
+dot-requires-6 : tie.Need-dot-requires-6
+dot-requires-6 c κs = let s = c .before .before .before .before .before .before .before .before .before .before .before .before .before .before .before .before .before .before .before .before .before .before in (c .before .before .before .before .before .before .before .before .before .before .before .before .before .before .before .before .before .before .before .before .dbl .ensures .kept, settled-kept (s .args .c .m) (s .pre .1 .1 .v .1 .0), c .before .before .before .before .before .before .before .before .before .before .sub6 .ensures .kept, settled-kept (s .args .c .m) (s .pre .1 .1 .u .0))
+
+sub-requires-12 : tie.Need-sub-requires-12
+sub-requires-12 c κs = let s = c .before .before .before .before .before .before .before .before .before .before .before .before .before .before .before .before .before .before .before .before .before .before .before in (settled-kept (s .args .c .m) (s .pre .0 .settled .1 .0), c .dot6 .ensures .kept)
+
+mul-requires-4 : tie.Need-mul-requires-4
+mul-requires-4 c κs = let s = c .before .before .before .before .before .before .before .before .before .before .before .before .before .before .before .before .before .before .before .before .before .before .before .before in (c .before .before .before .before .before .before .before .before .sub8 .ensures .kept, settled-kept (s .args .c .m) (s .pre .1 .1 .u .1 .0))
+
+sub-requires-13 : tie.Need-sub-requires-13
+sub-requires-13 c κs = (c .before .sub12 .ensures .kept, c .mul4 .ensures .kept)
+
+dot-requires-7 : tie.Need-dot-requires-7
+dot-requires-7 c κs = let s = c .before .before .before .before .before .before .before .before .before .before .before .before .before .before .before .before .before .before .before .before .before .before .before .before .before .before in (settled-kept (s .args .c .m) (s .pre .1 .1 .v .0), settled-kept (s .args .c .m) (s .pre .1 .1 .v .0), c .before .before .before .before .before .before .before .before .before .before .sub8 .ensures .kept, settled-kept (s .args .c .m) (s .pre .1 .1 .u .0))
+
+sub-requires-14 : tie.Need-sub-requires-14
+sub-requires-14 c κs = let s = c .before .before .before .before .before .before .before .before .before .before .before .before .before .before .before .before .before .before .before .before .before .before .before .before .before .before .before in (settled-kept (s .args .c .m) (s .pre .0 .settled .0), c .dot7 .ensures .kept)
+
 returns : tie.Need-returns
-returns c = let s = c .before .before .before .before .before .before .before .before .before .before .before .before .before .before .before .before .before .before .before .before in rests-three (s .args .c) (s .pre .0) _ (c .before .before .before .before .before .before .before .before .before .before .before .one .ensures) (s .args .d) (s .pre .1 .0) (c .before .before .before .before .before .before .before .before .before .before .before .before .before .before .before .dbl .ensures) (c .before .before .before .before .before .before .before .before .before .before .before .before .before .before .dbl2 .ensures) (c .before .before .before .before .before .before .before .before .before .before .less .ensures) (c .before .before .before .before .before .before .before .before .before .turn-three .ensures) (c .before .before .before .before .before .before .before .before .less2 .ensures) (c .before .before .before .before .before .before .before .turn-three2 .ensures) (c .before .before .before .before .before .before .less3 .ensures) (c .before .before .before .before .before .less4 .ensures) (c .before .before .before .before .turn-three3 .ensures) (c .before .before .before .less5 .ensures) (c .before .before .turn-three4 .ensures) (c .before .less6 .ensures) (c .turn-three5 .ensures)
+returns c =
+    let s = c .before .before .before .before .before .before .before .before .before .before .before .before .before .before .before .before .before .before .before .before .before .before .before .before .before .before .before .before in
+    let K = zmod (s .args .c .m .p) in
+    quotients-three (s .args .c) (s .pre .0) (s .args .d) _ (s .pre .1 .0) (c .sub14 .ensures .kept, (c .before .before .sub13 .ensures .kept, (c .before .before .before .before .before .before .sub11 .ensures .kept, tt))) (left-three K _ _ _ _ _ _ _ _ _ _ _ _ _ _ _ _ _ _ _ _ _ _
+    (c .before .before .before .before .before .before .before .before .before .before .before .before .before .before .before .before .before .before .before .before .before .before .before .before .before .before .dbl .ensures .is)
+    (c .before .before .before .before .before .before .before .before .before .before .before .before .before .before .before .before .before .before .before .before .before .before .before .before .before .dbl2 .ensures .is)
+    (c .before .before .before .before .before .before .before .before .before .before .before .before .before .before .before .before .before .before .before .before .before .before .before .before .sub .ensures .is)
+    (c .before .before .before .before .before .before .before .before .before .before .before .before .before .before .before .before .before .before .before .before .before .sub3 .ensures .is ∙ ap₂ (λ s t. K .add s (K .neg t)) (c .before .before .before .before .before .before .before .before .before .before .before .before .before .before .before .before .before .before .before .before .before .before .before .sub2 .ensures .is) (c .before .before .before .before .before .before .before .before .before .before .before .before .before .before .before .before .before .before .before .before .before .before .mul .ensures .is))
+    (c .before .before .before .before .before .before .before .before .before .before .before .before .before .before .before .before .sub6 .ensures .is ∙ ap₂ (λ s t. K .add s (K .neg t)) (c .before .before .before .before .before .before .before .before .before .before .before .before .before .before .before .before .before .before .sub5 .ensures .is ∙ ap₂ (λ s t. K .add s (K .neg t)) (c .before .before .before .before .before .before .before .before .before .before .before .before .before .before .before .before .before .before .before .before .sub4 .ensures .is) (c .before .before .before .before .before .before .before .before .before .before .before .before .before .before .before .before .before .before .before .dot .ensures .is)) (c .before .before .before .before .before .before .before .before .before .before .before .before .before .before .before .before .before .mul2 .ensures .is))
+    (c .before .before .before .before .before .before .before .before .before .before .before .before .sub8 .ensures .is ∙ ap₂ (λ s t. K .add s (K .neg t)) (c .before .before .before .before .before .before .before .before .before .before .before .before .before .before .sub7 .ensures .is ∙ ap₂ (λ s t. K .add s (K .neg t)) refl (c .before .before .before .before .before .before .before .before .before .before .before .before .before .before .before .dot2 .ensures .is)) (c .before .before .before .before .before .before .before .before .before .before .before .before .before .dot3 .ensures .is))
+    (c .before .before .before .before .before .before .sub11 .ensures .is ∙ ap₂ (λ s t. K .add s (K .neg t)) (c .before .before .before .before .before .before .before .before .sub10 .ensures .is ∙ ap₂ (λ s t. K .add s (K .neg t)) (c .before .before .before .before .before .before .before .before .before .before .sub9 .ensures .is ∙ ap₂ (λ s t. K .add s (K .neg t)) refl (c .before .before .before .before .before .before .before .before .before .before .before .dot4 .ensures .is)) (c .before .before .before .before .before .before .before .before .before .dot5 .ensures .is)) (c .before .before .before .before .before .before .before .mul3 .ensures .is))
+    (c .before .before .sub13 .ensures .is ∙ ap₂ (λ s t. K .add s (K .neg t)) (c .before .before .before .before .sub12 .ensures .is ∙ ap₂ (λ s t. K .add s (K .neg t)) refl (c .before .before .before .before .before .dot6 .ensures .is)) (c .before .before .before .mul4 .ensures .is))
+    (c .sub14 .ensures .is ∙ ap₂ (λ s t. K .add s (K .neg t)) refl (c .before .dot7 .ensures .is)))
 
 pub rest-three-spec : {M : Type 1} → statement M
 rest-three-spec =
-    tie.close
-    (tie.spec
-    dbl-requires
-    dbl-requires-2
-    one-requires
-    less-requires
-    turn-three-requires
-    less-requires-2
-    turn-three-requires-2
-    less-requires-3
-    less-requires-4
-    turn-three-requires-3
-    less-requires-5
-    turn-three-requires-4
-    less-requires-6
-    turn-three-requires-5
-    returns)
+    tie.close (tie.spec dbl-requires dbl-requires-2 sub-requires sub-requires-2 mul-requires sub-requires-3 sub-requires-4 dot-requires sub-requires-5 mul-requires-2 sub-requires-6 dot-requires-2 sub-requires-7 dot-requires-3 sub-requires-8 dot-requires-4 sub-requires-9 dot-requires-5 sub-requires-10 mul-requires-3 sub-requires-11 dot-requires-6 sub-requires-12 mul-requires-4 sub-requires-13 dot-requires-7 sub-requires-14 returns)

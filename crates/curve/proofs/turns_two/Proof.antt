@@ -1,10 +1,10 @@
 use Rattle.field.proofs.Laws.{settled-kept}
 use Rattle.curve.proofs.Rests.{rests-two}
 use borrow.Author.Needs.{needs}
-use Rattle.curve.proofs.rest_two.Statement.{statement}
-use Rattle.curve.proofs.rest_two.Tie as tie
-use Rattle.curve.proofs.rest_two.Reads as reads
-use Rattle.curve.proofs.rest_two.Lts as lts
+use Rattle.curve.proofs.turns_two.Statement.{statement}
+use Rattle.curve.proofs.turns_two.Tie as tie
+use Rattle.curve.proofs.turns_two.Reads as reads
+use Rattle.curve.proofs.turns_two.Lts as lts
 use Rattle.rests.proofs.less.Reads as less-reads
 use Rattle.curve.proofs.top_two.Reads as top-two-reads
 use Rattle.rests.proofs.turn_two.Reads as turn-two-reads
@@ -50,8 +50,8 @@ turn-two-requires-4 c κs = let s = c .before .before .before .before .before .b
 returns : tie.Need-returns
 returns c = let s = c .before .before .before .before .before .before .before .before .before .before .before .before in rests-two (s .args .c) (s .pre .0) (s .args .d) (c .before .before .before .before .before .before .before .before .top-two .ensures) (c .before .before .before .before .dbl .ensures) (c .before .before .before .before .before .before .before .turn-two .ensures) (c .before .before .before .before .before .before .less .ensures) (c .before .before .before .before .before .turn-two2 .ensures) (c .before .before .before .less2 .ensures) (c .before .before .turn-two3 .ensures) (c .before .less3 .ensures) (c .turn-two4 .ensures)
 
-pub rest-two-spec : {M : Type 1} → statement M
-rest-two-spec =
+pub turns-two-spec : {M : Type 1} → statement M
+turns-two-spec =
     tie.close
     (tie.spec
     top-two-requires
