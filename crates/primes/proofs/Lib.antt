@@ -1,2 +1,3 @@
+pub mod Wheel
 pub mod Trial
 pub mod Decide
