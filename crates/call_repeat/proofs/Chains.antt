@@ -1,60 +1,80 @@
--- The first repeat by chains of places whose keys are alike. Gives: two of the same meter stand in one chain (`same-bucket`); what the arrays hold keeps so (`chained-begin`, `chained-turn`);
--- a walk down the chain of the one at j leaves none behind that is the same (`walk-begin`, `walk-turn`); what it ends at is the first (`found-first`: before j no two are the same, so at most one is as j is).
-use Prim.Native.Nat.{ℕ, suc, _+_, _%_, _≤_, _<_}
+-- The first repeat by chains of places. Gives: what a good record's bytes say (`whole`, `same-us`: two of the same meter have the same u there), so that such two stand in one chain
+-- (`same-bucket`); what the arrays hold keeps so (`chained-begin`, `chained-turn`); a walk down the chain of the one at j leaves none behind that is the same (`walk-begin`,
+-- `walk-turn`); what it ends at is the first (`found-first`: before j no two are the same, so at most one is as j is).
+use Prim.Native.Nat.{ℕ, suc, _+_, _≤_, _<_}
 use mathlib.Core.Path.{_≡_, refl, sym, ap, _∙_, subst, subst₂}
 use mathlib.Core.Bool.{Bool, false}
 use mathlib.Core.List.{List}
 use native.Mathlib.Omega.{arith}
 use native.Mathlib.Decide.{ℕ-discrete, decLt}
 use borrow.Author.Count.{below-more}
+use borrow.Author.Tests.{leb-true}
 use lib.ListN.{getD, length, set, replicate, length-set, length-replicate, getD-replicate}
 use lib.Seq.{getD-set-same, getD-set-other}
 use Rattle.algebra.proofs.zmod.PrimeField.{modulo}
 use Rattle.rules.specs.Checks.{Checked, refused, taken}
 use Rattle.rules.specs.Pair.{neutral}
-use Rattle.rules.specs.Records.{PairOf, divisor-at}
+use Rattle.rules.specs.Records.{PairOf, us-at, numbers, divisor-at}
 use Rattle.rules.specs.First.{Clear, FirstAt}
 use Rattle.rules.specs.Lists.{Same}
 use Rattle.rules.proofs.calls.Same.{same-sym, same-trans}
+use Rattle.rules.proofs.calls.Tests.{both-true}
+use Rattle.rules.proofs.calls.Elements.{numbers-elements}
+use Rattle.rules.proofs.calls.DivisorRecords.{pair-at, DivisorBytes, divisor-read}
 use Rattle.field.specs.Primes.{Decides}
 use Rattle.divisor.specs.declared.Divisor.{Divisor}
-use Rattle.divisor.specs.Divisors.{pair, Held}
+use Rattle.divisor.specs.Divisors.{pair}
 use Rattle.curve.specs.declared.Curve.{Curve}
-use Rattle.curve.specs.Curves.{Holds}
+use Rattle.curve.specs.Curves.{Sound}
 use Rattle.curve.specs.Record.{recordOf}
 use Rattle.record_divisor.specs.declared.DivisorRead.{DivisorRead}
 use Rattle.record_divisor.specs.declared.DivisorRead.the-variants.{Taken, Refused}
 use Rattle.record_divisor.specs.Read.{DivisorIs}
-use Rattle.repeat.specs.Keys.{keyOf}
-use Rattle.repeat.proofs.Keys.{same-key}
+use Rattle.alike.proofs.Compared.{same-u}
 use Rattle.call_one.proofs.Turns.{read-taken}
-use Rattle.call_repeat.specs.Rows.{taken-or, pairAt, SameIn, Row, Both, Rows}
+use Rattle.call_repeat.specs.Chains.{chainOf, Whole, Excludes}
+use Rattle.call_repeat.specs.Rows.{taken-or, pairAt, SameAs, SameIn, Row, Rows}
 
--- ---- a record read again
+-- ---- a good record, and a record read again
 module _ (c : Curve) (s : List ℕ) where
-  pub stands : (a : ℕ) (d : Divisor) → ((n : ℕ) → divisor-at (recordOf c) n false s a ≡ taken (pair (c .m) d)) → pairAt c s a ≡ pair (c .m) d
-  stands a d h = ap (taken-or neutral) (h 0)
+  bytes-of : (a : ℕ) → Row c s a → DivisorBytes (recordOf c) false s a
+  bytes-of a r = divisor-read (recordOf c) 0 false s a (r .is 0) .0
+
+  pub whole : (a : ℕ) → Row c s a → Whole s a
+  whole a r = let b = bytes-of a r in record { inside = b .inside; long = leb-true _ _ (b .long) }
+
+  pub stands : (a : ℕ) {d : PairOf (recordOf c)} → ((n : ℕ) → divisor-at (recordOf c) n false s a ≡ taken d) → pairAt c s a ≡ d
+  stands a h = ap (taken-or neutral) (h 0)
+
+  pair-is : (a : ℕ) → Row c s a → pairAt c s a ≡ pair-at (recordOf c) s a
+  pair-is a r = stands a (r .is) ∙ sym (divisor-read (recordOf c) 0 false s a (r .is 0) .1)
+
+  pub same-us : Sound c → (a b : ℕ) → Row c s a → Row c s b → SameAs c s a b → us-at s a ≡ us-at s b
+  same-us h a b x y e = sym (number a x) ∙ ap (numbers (c .m .p)) (same-u (modulo (c .m .p)) _ _ (subst₂ Same (pair-is a x) (pair-is b y) e)) ∙ number b y
+    where
+      number : (a : ℕ) → Row c s a → numbers (c .m .p) (pair-at (recordOf c) s a .u) ≡ us-at s a
+      number a x = numbers-elements (c .m .p) (omega (arith, h .good .ring .from)) (us-at s a) (both-true _ _ (bytes-of a x .below) .0)
+
+  pub not-same : Sound c → (a b : ℕ) → Row c s a → Row c s b → (t : Bool) → Excludes t (us-at s a ≡ us-at s b) → t ≡ false → SameAs c s a b → ⊥
+  not-same h a b x y t ex e same = subst (λ (t : Bool). Excludes t (us-at s a ≡ us-at s b)) e ex (same-us h a b x y same)
 
   was-taken : Checked (PairOf (recordOf c)) → ℕ
   was-taken (refused n k) = 0
   was-taken (taken x) = 1
 
   -- a good record isn't refused
-  pub not-refused : (a k : ℕ) {n : ℕ} → Row c s a k → (r : DivisorRead) → DivisorIs c false s a r → r ≡ Refused n → ⊥
+  pub not-refused : (a : ℕ) {n : ℕ} → Row c s a → (r : DivisorRead) → DivisorIs c false s a r → r ≡ Refused n → ⊥
   unfolding was-taken
-  not-refused a k {n} row r is e = omega (arith, ap was-taken (sym (row .is 0) ∙ subst (DivisorIs c false s a) e is 0))
-
-  pub same-rows : (a k b l : ℕ) → Row c s a k → Row c s b l → Same (pairAt c s a) (pairAt c s b) → k ≡ l
-  same-rows a k b l x y h = x .key ∙ same-key (c .m) (x .d) (y .d) (x .holds .held) (y .holds .held) (subst₂ Same (stands a (x .d) (x .is)) (stands b (y .d) (y .is)) h) ∙ sym (y .key)
+  not-refused a {n} row r is e = omega (arith, ap was-taken (sym (row .is 0) ∙ subst (DivisorIs c false s a) e is 0))
 
   -- what was read at both
-  pub read-both : (a b : ℕ) (q r : DivisorRead) → DivisorIs c false s a q → DivisorIs c false s b r → {d e : Divisor} → q ≡ Taken d → r ≡ Taken e → (x : Bool) → Decides x (Same (pair (c .m) d) (pair (c .m) e)) → Decides x (Same (pairAt c s a) (pairAt c s b))
-  read-both a b q r hq hr {d} {e} p t x h = subst₂ (λ u v. Decides x (Same u v)) (sym (stands a d (read-taken c s a q hq p .1))) (sym (stands b e (read-taken c s b r hr t .1))) h
+  pub read-both : (a b : ℕ) (q r : DivisorRead) → DivisorIs c false s a q → DivisorIs c false s b r → {d e : Divisor} → q ≡ Taken d → r ≡ Taken e → (x : Bool) → Decides x (Same (pair (c .m) d) (pair (c .m) e)) → Decides x (SameAs c s a b)
+  read-both a b q r hq hr {d} {e} p t x h = subst₂ (λ u v. Decides x (Same u v)) (sym (stands a (read-taken c s a q hq p .1))) (sym (stands b (read-taken c s b r hr t .1))) h
 
 -- ---- the chains
-module _ (keys : List ℕ) where
+module _ (s places : List ℕ) where
   abbrev pub bucket : ℕ → ℕ
-  bucket x = getD keys x 0 % 4096
+  bucket x = chainOf (us-at s (getD places x 0))
 
   -- h is 1 and the latest place before n in this bucket, 0 where there is none
   pub record Latest (b n h : ℕ) : Type 0 where
@@ -102,43 +122,32 @@ module _ (keys : List ℕ) where
       new-head t l (no p) = subst (Latest t (j + 1)) (sym (getD-set-other head b t (j + 1) 0 p)) (later t j (getD head t 0) (h .heads t l) (λ e. p (sym (eb ∙ e))))
 
 -- ---- a walk
-module _ (c : Curve) (s places keys : List ℕ) (n : ℕ) (rows : Rows c s places keys n) where
-  pub same-bucket : (x y : ℕ) → x < n → y < n → SameIn c s places x y → bucket keys x ≡ bucket keys y
-  same-bucket x y lx ly h = ap (λ (t : ℕ). t % 4096) (same-rows c s _ _ _ _ (rows .row x lx) (rows .row y ly) h)
-
-  pub both : (x y : ℕ) → x < n → y < n → Both c s places keys x y
-  both x y lx ly = record {
-    x-in = omega (arith, lx, rows .room, rows .places-long);
-    y-in = omega (arith, ly, rows .room, rows .places-long);
-    x-key = omega (arith, lx, rows .room, rows .keys-long);
-    y-key = omega (arith, ly, rows .room, rows .keys-long);
-    x-row = rows .row x lx;
-    y-row = rows .row y ly;
-  }
+pub same-bucket : (c : Curve) (s places : List ℕ) (n : ℕ) → Sound c → Rows c s places n → (x y : ℕ) → x < n → y < n → SameIn c s places x y → bucket s places x ≡ bucket s places y
+same-bucket c s places n h rows x y lx ly e = ap chainOf (same-us c s h _ _ (rows .row x lx) (rows .row y ly) e)
 
 -- under way at i: none from there on is as j is
-pub record Walk (c : Curve) (s places keys : List ℕ) (j i : ℕ) : Type 0 where
+pub record Walk (c : Curve) (s places : List ℕ) (j i : ℕ) : Type 0 where
   pub on : i ≤ j
-  pub is : (y : ℕ) → i ≡ suc y → bucket keys y ≡ bucket keys j
+  pub is : (y : ℕ) → i ≡ suc y → bucket s places y ≡ bucket s places j
   pub none : (x : ℕ) → i ≤ x → x < j → SameIn c s places x j → ⊥
 
-module _ (c : Curve) (s places keys : List ℕ) (n : ℕ) (rows : Rows c s places keys n) (head before : List ℕ) (j : ℕ) (lj : j < n) (h : Chained keys head before j) where
-  pub walk-begin : (b i : ℕ) → b < 4096 → b ≡ bucket keys j → i ≡ getD head b 0 → Walk c s places keys j i
+module _ (c : Curve) (s places : List ℕ) (n : ℕ) (sound : Sound c) (rows : Rows c s places n) (head before : List ℕ) (j : ℕ) (lj : j < n) (h : Chained s places head before j) where
+  pub walk-begin : (b i : ℕ) → b < 4096 → b ≡ bucket s places j → i ≡ getD head b 0 → Walk c s places j i
   walk-begin b i lb eb ei =
-      let l : Latest keys (bucket keys j) j i = subst₂ (λ (t u : ℕ). Latest keys t j u) eb (sym ei) (h .heads b lb) in
-      record { on = l .on; is = l .is; none = λ x lo hi q. l .none x lo hi (same-bucket c s places keys n rows x j (omega (arith, hi, lj)) lj q) }
+      let l : Latest s places (bucket s places j) j i = subst₂ (λ (t u : ℕ). Latest s places t j u) eb (sym ei) (h .heads b lb) in
+      record { on = l .on; is = l .is; none = λ x lo hi q. l .none x lo hi (same-bucket c s places n sound rows x j (omega (arith, hi, lj)) lj q) }
 
-  pub walk-turn : (i x i' : ℕ) → Walk c s places keys j i → i ≡ suc x → (SameIn c s places x j → ⊥) → i' ≡ getD before x 0 → Walk c s places keys j i'
+  pub walk-turn : (i x i' : ℕ) → Walk c s places j i → i ≡ suc x → (SameIn c s places x j → ⊥) → i' ≡ getD before x 0 → Walk c s places j i'
   walk-turn i x i' w ex no-x ei =
-      let l : Latest keys (bucket keys x) x i' = subst (Latest keys (bucket keys x) x) (sym ei) (h .links x (omega (arith, w .on, ex))) in
+      let l : Latest s places (bucket s places x) x i' = subst (Latest s places (bucket s places x) x) (sym ei) (h .links x (omega (arith, w .on, ex))) in
       record {
         on = omega (arith, l .on, w .on, ex);
         is = λ y e. l .is y e ∙ w .is x ex;
         none = λ t lo hi q. by-side l t (decLt t x) (ℕ-discrete t x) lo hi q;
       }
     where
-      by-side : Latest keys (bucket keys x) x i' → (t : ℕ) → Dec (t < x) → Dec (t ≡ x) → i' ≤ t → t < j → SameIn c s places t j → ⊥
-      by-side l t (yes p) q lo hi e = l .none t lo p (same-bucket c s places keys n rows t j (omega (arith, hi, lj)) lj e ∙ sym (w .is x ex))
+      by-side : Latest s places (bucket s places x) x i' → (t : ℕ) → Dec (t < x) → Dec (t ≡ x) → i' ≤ t → t < j → SameIn c s places t j → ⊥
+      by-side l t (yes p) q lo hi e = l .none t lo p (same-bucket c s places n sound rows t j (omega (arith, hi, lj)) lj e ∙ sym (w .is x ex))
       by-side l t (no p) (yes q) lo hi e = no-x (subst (λ (u : ℕ). SameIn c s places u j) q e)
       by-side l t (no p) (no q) lo hi e = w .none t (omega (arith, p, q, ex)) hi e
 

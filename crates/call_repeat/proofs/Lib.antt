@@ -1,3 +1,4 @@
+pub mod Hashes
 pub mod Chains
 pub mod Listed
 pub mod Calls

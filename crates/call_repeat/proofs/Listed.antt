@@ -1,4 +1,4 @@
--- The records of a batch by their places, with their keys. Gives: the loop's start, a turn of it, and what is answered at each return.
+-- The records of a batch by their places. Gives: the loop's start, a turn of it, and what is answered at each return.
 use Prim.Native.Nat.{ℕ, suc, _+_, _*_, _≤_, _<_}
 use mathlib.Core.Path.{_≡_, refl, sym, ap, ap₂, _∙_, subst, subst₂}
 use mathlib.Core.List.{List, [], _∷_, _++_}
@@ -20,7 +20,6 @@ use Rattle.curve.specs.Record.{recordOf}
 use Rattle.record_divisor.specs.declared.DivisorRead.{DivisorRead}
 use Rattle.record_divisor.specs.declared.DivisorRead.the-variants.{Taken, Refused}
 use Rattle.record_divisor.specs.Read.{DivisorIs}
-use Rattle.repeat.specs.Keys.{keyOf}
 use Rattle.call_one.specs.declared.Answer.the-variants.{Done, Refused as RefusedAnswer}
 use Rattle.call_one.proofs.Written.{goes-on, stopped-as}
 use Rattle.call_one.proofs.Turns.{Going, begins, read-taken, ends, full, refuses, turns}
@@ -33,8 +32,8 @@ use Rattle.call_repeat.proofs.Chains.{stands}
 abbrev snoc : {A : Type 0} → List A → A → List A
 snoc l x = l ++ (x ∷ [])
 
-pub record Listing (c : Curve) (s places keys : List ℕ) (k a : ℕ) : Type 0 where
-  pub rows : Rows c s places keys k
+pub record Listing (c : Curve) (s places : List ℕ) (k a : ℕ) : Type 0 where
+  pub rows : Rows c s places k
   pub l : List (PairOf (recordOf c))
   pub long : length l ≡ k
   pub at : (x : ℕ) → x < k → getD l x neutral ≡ pairAt c s (getD places x 0)
@@ -45,10 +44,10 @@ pub found-at : (c : Curve) (s places : List ℕ) (n : ℕ) (f : Found) → First
 found-at c s places n f is e = subst (λ f. FirstIs (SameIn c s places) n (placesOf f)) e is
 
 module _ (c : Curve) (s : List ℕ) where
-  pub list-begin : (places keys : List ℕ) → length places ≡ 4096 → length keys ≡ 4096 → Listing c s places keys 0 0
-  list-begin places keys p q = record { rows = record { room = omega arith; places-long = p; keys-long = q; row = λ x i. absurd (omega arith) }; l = []; long = refl; at = λ x i. absurd (omega arith); going = begins c snoc s [] }
+  pub list-begin : (places : List ℕ) → length places ≡ 4096 → Listing c s places 0 0
+  list-begin places p = record { rows = record { room = omega arith; long = p; row = λ x i. absurd (omega arith) }; l = []; long = refl; at = λ x i. absurd (omega arith); going = begins c snoc s [] }
 
-  module _ (places keys : List ℕ) (k a : ℕ) (i : Listing c s places keys k a) where
+  module _ (places : List ℕ) (k a : ℕ) (i : Listing c s places k a) where
     -- what the call goes on with
     as-rule : {x : Checked (Batch (List (PairOf (recordOf c))))} → list-rule c s ≡ x → repeat-rule c s ≡ deliver no-repeat [] (repeat-of c x)
     as-rule e = ap (λ x. deliver no-repeat [] (repeat-of c x)) e
@@ -59,26 +58,25 @@ module _ (c : Curve) (s : List ℕ) where
     pub list-refuses : (r : DivisorRead) {n : ℕ} → a < length s → k < 4096 → DivisorIs c false s a r → r ≡ Refused n → RepeatIs (RefusedAnswer n (k + 1)) (repeat-rule c s)
     list-refuses r more room is e = stopped-as no-repeat refl refl (as-rule (refuses (i .going) more room r is e))
 
-    pub list-turn : (r : DivisorRead) {x : Divisor} {y w : ℕ} → a < length s → k < 4096 → DivisorIs c false s a r → r ≡ Taken x → y ≡ keyOf x → w ≡ getD s a 0 → Listing c s (set places k a) (set keys k y) (k + 1) (a + 1 + 16 * w)
-    list-turn r {x} {y} more room is e q v = record {
+    pub list-turn : (r : DivisorRead) {x : Divisor} {w : ℕ} → a < length s → k < 4096 → DivisorIs c false s a r → r ≡ Taken x → w ≡ getD s a 0 → Listing c s (set places k a) (k + 1) (a + 1 + 16 * w)
+    list-turn r {x} more room is e v = record {
       rows = record {
         room = omega arith;
-        places-long = length-set places k a ∙ i .rows .places-long;
-        keys-long = length-set keys k y ∙ i .rows .keys-long;
-        row = below-more (λ j. Row c s (getD (set places k a) j 0) (getD (set keys k y) j 0)) k
-            (λ j l. subst₂ (Row c s) (sym (getD-set-other places k j a 0 (λ p. omega arith))) (sym (getD-set-other keys k j y 0 (λ p. omega arith))) (i .rows .row j l))
-            (subst₂ (Row c s) (sym here) (sym (getD-set-same keys k y 0 (omega (arith, i .rows .keys-long)))) (record { inside = omega arith; d = x; holds = read-taken c s a r is e .0; is = read-taken c s a r is e .1; key = q }));
+        long = length-set places k a ∙ i .rows .long;
+        row = below-more (λ j. Row c s (getD (set places k a) j 0)) k
+            (λ j l. subst (Row c s) (sym (getD-set-other places k j a 0 (λ p. omega arith))) (i .rows .row j l))
+            (subst (Row c s) (sym here) (record { stands-for = pair (c .m) x; is = read-taken c s a r is e .1 }));
       };
       l = snoc (i .l) (pair (c .m) x);
       long = length-append (i .l) (pair (c .m) x ∷ []) ∙ ap (λ (t : ℕ). t + 1) (i .long);
       at = below-more (λ j. getD (snoc (i .l) (pair (c .m) x)) j neutral ≡ pairAt c s (getD (set places k a) j 0)) k
           (λ j l. List·getD-append (i .l) (pair (c .m) x ∷ []) neutral j (omega (arith, l, i .long)) ∙ i .at j l ∙ ap (pairAt c s) (sym (getD-set-other places k j a 0 (λ p. omega arith))))
-          (getD-at (i .l) (pair (c .m) x) [] neutral k (i .long) ∙ sym (stands c s a x (read-taken c s a r is e .1)) ∙ ap (pairAt c s) (sym here));
+          (getD-at (i .l) (pair (c .m) x) [] neutral k (i .long) ∙ sym (stands c s a (read-taken c s a r is e .1)) ∙ ap (pairAt c s) (sym here));
       going = turns (i .going) more room r is e v refl;
     }
       where
         here : getD (set places k a) k 0 ≡ a
-        here = getD-set-same places k a 0 (omega (arith, i .rows .places-long))
+        here = getD-set-same places k a 0 (omega (arith, i .rows .long))
 
     module _ (over : length s ≤ a) (f : Found) (is : FirstIs (SameIn c s places) k (placesOf f)) where
       found : first-repeat (c .m .p) (i .l) ≡ placesOf f

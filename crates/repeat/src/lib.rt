@@ -1,11 +1,9 @@
-// Whether two divisors are of one meter, equal or opposite; and a key that such two have alike.
-ghost use mathlib.Core.Path.{_≡_};
+// Whether two divisors are of one meter, equal or opposite.
 ghost use Rattle.rules.specs.Lists.{Same};
 ghost use Rattle.field.specs.Primes.{Decides};
 ghost use Rattle.divisor.specs.declared.Divisor.the-variants.{One, Two, Three};
 ghost use Rattle.divisor.specs.Divisors.{pair, Held};
 ghost use Rattle.repeat.specs.Padded.{Pads};
-ghost use Rattle.repeat.specs.Keys.{keyOf};
 use divisor::Cubic;
 use divisor::Divisor;
 use divisor::Linear;
@@ -78,17 +76,5 @@ pub fn same(a: Divisor, b: Divisor, m: Modulus) -> bool
             Divisor::Two(_) => false,
             Divisor::Three(d) => alike::same_cubics(c, d, m),
         },
-    }
-}
-
-// The low half of the first coefficient, 0 where there is none: the same meters have the same key, so that most pairs are told apart by it.
-pub fn key(d: Divisor) -> u32
-    ensures { λ r. ⌜ r ≡ keyOf d ⌝ }
-{
-    match d {
-        Divisor::Neutral => 0,
-        Divisor::One(x) => (x.u0.to_raw() % 4294967296) as u32,
-        Divisor::Two(x) => (x.u0.to_raw() % 4294967296) as u32,
-        Divisor::Three(x) => (x.u0.to_raw() % 4294967296) as u32,
     }
 }
