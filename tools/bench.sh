@@ -65,22 +65,8 @@ say "times"
 "${emulator[@]}" $bench "${1:-15}"
 
 # instructions ENGINE WORK CURVE ROUNDS: what a run of the program executes.
-if command -v qemu-x86_64 >/dev/null; then
-    counter="qemu-x86_64 with bindings/bench/insn.c"
-    want cc gcc libc6-dev
-    cc -shared -fPIC -O2 -o target/foreign/libinsn.so bindings/bench/insn.c
-    instructions() {
-        qemu-x86_64 -plugin target/foreign/libinsn.so $bench count "$@" 2>&1 | sed -n 's/^insns //p'
-    }
-elif command -v valgrind >/dev/null; then
-    counter=valgrind
-    instructions() {
-        valgrind --tool=callgrind --callgrind-out-file=/dev/null $bench count "$@" 2>&1 | sed -n 's/.*Collected : //p'
-    }
-else
-    say "no instructions counted: neither qemu-x86_64 (package qemu-user) nor valgrind is there"
-    exit 0
-fi
+want_counter || exit 0
+instructions() { executed $bench count "$@"; }
 
 say "instructions, by $counter: two runs that differ in one round"
 declare -A names=([2]="genus 2" [3]="genus 3, f_6 = 0" [3-f6]="genus 3, f_6 ≠ 0")

@@ -1,5 +1,5 @@
 # shellcheck shell=bash
-# Sourced by tools/judge.sh, tools/bench.sh and bindings/c/build.sh, at the repository's root: the static library, and
+# Sourced by tools/judge.sh, tools/bench.sh, tools/yardsticks.sh, tools/stack.sh and bindings/c/build.sh, at the repository's root: the static library, and
 # compilers that link it. The library is for x86-64: there programs run as they are, elsewhere they are built for x86-64 by
 # Debian's cross tools and run by Debian's emulator.
 
@@ -84,4 +84,20 @@ rust_program() {
     "${rustc[@]}" --crate-type rlib --crate-name yubisorade -L native="$YUBI_LIB_DIR" bindings/rust/src/lib.rs
     "${rustc[@]}" --crate-type bin --crate-name "$name" --cfg 'feature="proved"' \
         --extern plain="$to/libplain.rlib" --extern yubisorade="$to/libyubisorade.rlib" "bindings/$name/src/main.rs"
+}
+
+# Whether there is a counter of instructions: its name is left in `counter`, and `executed PROGRAM WORD..` prints what a run executes.
+want_counter() {
+    if command -v qemu-x86_64 >/dev/null; then
+        counter="qemu-x86_64 with bindings/bench/insn.c"
+        want cc gcc libc6-dev
+        cc -shared -fPIC -O2 -o target/foreign/libinsn.so bindings/bench/insn.c
+        executed() { qemu-x86_64 -plugin target/foreign/libinsn.so "$@" 2>&1 | sed -n 's/^insns //p'; }
+    elif command -v valgrind >/dev/null; then
+        counter=valgrind
+        executed() { valgrind --tool=callgrind --callgrind-out-file=/dev/null "$@" 2>&1 | sed -n 's/.*Collected : //p'; }
+    else
+        say "no instructions counted: neither qemu-x86_64 (package qemu-user) nor valgrind is there"
+        return 1
+    fi
 }
