@@ -89,7 +89,7 @@ count() {
 }
 
 for curve in 2 3 3-f6 2-61 3-61; do
-    for work in total multiple repeat check split; do
+    for work in total multiple repeat check record add scans split; do
         count $work $curve
     done
 done

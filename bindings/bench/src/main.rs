@@ -4,8 +4,8 @@
 //!     bench count ENGINE WORK CURVE N     does a work N times and prints nothing, for a counter of instructions
 //!
 //! ENGINE is `proved` or `plain`, WORK is `total` (a batch of 4,096 records), `multiple` (a 256-bit scalar), `repeat` (the first repeat
-//! among 4,096 different meters), `check` (the curve record alone) or `split` (a sum of as many points as the genus), CURVE is `2` for genus
-//! 2, `3` for genus 3 with f_6 = 0, or `3-f6` for genus 3 with another f_6, p = 2,147,483,647 in records of version 1; `2-61` and `3-61` are the
+//! among 4,096 different meters), `check` (the curve record alone), `record` (the check of one divisor), `add` (the last two records of the batch),
+//! `scans` (the same two scanned, the first into a fresh total) or `split` (a sum of as many points as the genus), CURVE is `2` for genus 2, `3` for genus 3 with f_6 = 0, or `3-f6` for genus 3 with another f_6, p = 2,147,483,647 in records of version 1; `2-61` and `3-61` are the
 //! first two at p = 2^61 - 1, in records of version 2 with their witness. WORK `census` goes with CURVE `3-13` alone, genus 3 and p = 13: every
 //! divisor from the neutral one on, by a call each. Every call checks its curve and its records, in both engines. A program
 //! that was built without
@@ -16,11 +16,17 @@ use std::time::Instant;
 
 const RECORDS: usize = 4096;
 
+/// The pole of the scans.
+const POLE: u32 = 40101;
+
 /// Curve to number.
 type Check = fn(&[u8]) -> u64;
 
 /// Curve, batch or divisor, and output to number and length.
 type Total = fn(&[u8], &[u8], &mut [u8]) -> (u64, u64);
+
+/// Curve and two scans of one pole to the numbers of both, one of them being 0.
+type Scans = fn(&[u8], &[u8], &[u8]) -> u64;
 
 /// Curve and batch to number, first and second.
 type Repeat = fn(&[u8], &[u8]) -> (u64, u64, u64);
@@ -35,6 +41,9 @@ struct Engine {
     multiple: Multiple,
     repeat: Repeat,
     check: Check,
+    record: fn(&[u8], &[u8]) -> u64,
+    add: Multiple,
+    scans: Scans,
     split: Total,
     next: Total,
 }
@@ -54,6 +63,16 @@ const PLAIN: Engine = Engine {
         (answer.number, answer.first, answer.second)
     },
     check: |curve| plain::check_curve(curve).number,
+    record: |curve, divisor| plain::check_divisor(curve, divisor).number,
+    add: |curve, a, b, out| {
+        let answer = plain::add(curve, a, b, out);
+        (answer.number, answer.length)
+    },
+    scans: |curve, a, b| {
+        let first = plain::scan(plain::fresh_total(POLE), curve, a);
+        let second = plain::scan(first.total, curve, b);
+        first.number + second.number
+    },
     split: |curve, divisor, out| {
         let answer = plain::split(curve, divisor, out);
         (answer.number, answer.length)
@@ -80,6 +99,16 @@ const PROVED: Engine = Engine {
         (answer.number, answer.first, answer.second)
     },
     check: |curve| yubisorade::raw::check_curve(curve).number,
+    record: |curve, divisor| yubisorade::raw::check_divisor(curve, divisor).number,
+    add: |curve, a, b, out| {
+        let answer = yubisorade::raw::add(curve, a, b, out);
+        (answer.number, answer.length)
+    },
+    scans: |curve, a, b| {
+        let first = yubisorade::raw::scan(yubisorade::raw::fresh_total(POLE), curve, a);
+        let second = yubisorade::raw::scan(first.total, curve, b);
+        first.number + second.number
+    },
     split: |curve, divisor, out| {
         let answer = yubisorade::raw::split(curve, divisor, out);
         (answer.number, answer.length)
@@ -98,11 +127,15 @@ enum Work {
     Multiple,
     Repeat,
     Check,
+    Record,
+    Add,
+    Scans,
     Split,
 }
 
 impl Work {
-    const ALL: [Work; 5] = [Work::Total, Work::Multiple, Work::Repeat, Work::Check, Work::Split];
+    const ALL: [Work; 8] =
+        [Work::Total, Work::Multiple, Work::Repeat, Work::Check, Work::Record, Work::Add, Work::Scans, Work::Split];
 
     fn name(self) -> &'static str {
         match self {
@@ -110,12 +143,15 @@ impl Work {
             Work::Multiple => "multiple",
             Work::Repeat => "repeat",
             Work::Check => "check",
+            Work::Record => "record",
+            Work::Add => "add",
+            Work::Scans => "scans",
             Work::Split => "split",
         }
     }
 }
 
-/// The curves: their genus, and f_2g = 0 or not. Genus 3 has explicit formulae for f_6 = 0 alone.
+/// The curves: their genus, and f_2g = 0 or not.
 #[derive(Clone, Copy)]
 struct On {
     key: &'static str,
@@ -226,6 +262,12 @@ impl Input {
         &self.batch[self.batch.len() - 1 - 16 * usize::from(self.genus)..]
     }
 
+    /// The last record but one.
+    fn before(&self) -> &[u8] {
+        let length = 1 + 16 * usize::from(self.genus);
+        &self.batch[self.batch.len() - 2 * length..][..length]
+    }
+
     /// Does a work once and gives the record that it wrote, or the two places of a repeat.
     fn run(&self, engine: &Engine, work: Work) -> Vec<u8> {
         let mut out = [0; 50];
@@ -239,6 +281,12 @@ impl Input {
                 (number, 16)
             }
             Work::Check => ((engine.check)(&self.curve), 0),
+            Work::Record => ((engine.record)(&self.curve, self.divisor()), 0),
+            Work::Add => (engine.add)(&self.curve, self.divisor(), self.before(), &mut out),
+            Work::Scans => {
+                let scan = |record: &[u8]| [&POLE.to_be_bytes()[..], record].concat();
+                ((engine.scans)(&self.curve, &scan(self.before()), &scan(self.divisor())), 0)
+            }
             Work::Split => (engine.split)(&self.curve, &self.of_points, &mut out),
         };
         if number != 0 {
@@ -269,7 +317,7 @@ fn sum_of_points(curve: &[u8], f: &[u64], modulo: &Modulus) -> Vec<u8> {
 
 fn usage() -> ! {
     eprintln!(
-        "usage: bench [RUNS]\n       bench count proved|plain total|multiple|repeat|check|split 2|3|3-f6|2-61|3-61 N"
+        "usage: bench [RUNS]\n       bench count proved|plain total|multiple|repeat|check|record|add|scans|split 2|3|3-f6|2-61|3-61 N"
     );
     exit(2)
 }
