@@ -279,7 +279,7 @@ pub fn total_batch(curve: &[u8], batch: &[u8], out: &mut [u8]) -> Result<Total, 
 /// Checks a whole batch, then finds the first two records of the same meter, whose divisors are equal or opposite: the least
 /// `second`, then the least `first` before it.
 ///
-/// The search needs some 460 KB of stack.
+/// The search needs some 52 KB of stack.
 pub fn first_repeat(curve: &[u8], batch: &[u8]) -> Result<Option<Repeat>, Refusal> {
     let answer = raw::first_repeat(curve, batch);
     Refusal::check(answer.number, answer.place)?;
