@@ -31,11 +31,11 @@ use Rattle.rules.proofs.calls.Accepted.{curve-laws}
 use Rattle.rules.proofs.calls.Batches.{pair-of, AllRecords, MadeOf, records-valid, batch-records, batch-made, batch-is}
 use Rattle.rules.proofs.calls.Repeats.{SameAt}
 use Rattle.rules.proofs.calls.Written.{front, answered, bare}
-use Rattle.rules.proofs.calls.Done.{OneDone, AddDone, TotalDone, total-of}
+use Rattle.rules.proofs.calls.Done.{OneDone, MultiplyDone, AddDone, TotalDone, total-of}
 use Rattle.rules.proofs.calls.Totals.{subtotal, adds}
 use Rattle.rules.proofs.calls.OneScan.{ScanDone}
 use Rattle.rules.proofs.calls.Scans.{running-result, scans, AllDone, AllFor, records-of, of-pole}
-use Rattle.rules.proofs.calls.Delivered.{Kept}
+use Rattle.rules.proofs.calls.Delivered.{Kept, RestKept}
 use Rattle.rules.proofs.calls.Taken.{total-result}
 use Rattle.rules.proofs.calls.Keys.{EmptyKey}
 use Rattle.rules.specs.Calls.{check-order, split-call, next-call}
@@ -118,8 +118,8 @@ pub opposite-back : (s a out : List ℕ) → answered (opposite-call s a out) �
 opposite-back s a out e = let t = Done.opposite-took s a out e in (t .0, t .1, Done.opposite-done s a out (t .1) e)
 
 pub multiply-back : (s a n out : List ℕ) → answered (multiply-call s a n out) ≡ 0
-    → TookCurve s (λ c. OneDone (λ c x. multiple (curve c) (number n) x) c a out (bare (multiply-call s a n out)))
-multiply-back s a n out e = let t = Done.multiply-took s a n out e in (t .0, t .1, (Done.multiply-done s a out (t .1) n e) .one)
+    → TookCurve s (λ c. MultiplyDone c a n out (multiply-call s a n out))
+multiply-back s a n out e = let t = Done.multiply-took s a n out e in (t .0, t .1, Done.multiply-done s a out (t .1) n e)
 
 pub total-back : (s records out : List ℕ) → answered (total-call s records out) ≡ 0 → TookCurve s (λ c. TotalDone c records out (total-call s records out))
 total-back s records out e = let t = Done.total-took s records out e in (t .0, t .1, Done.total-done s records out (t .1) e)
@@ -313,12 +313,11 @@ module _ (K : Arith) where
   pub same-as-itself : (a b : Pair K) → opposite b ≡ b → Same a b ↔ (a ≡ b)
   same-as-itself = SameLaws.own-same K
 
--- ---- what each call leaves: on 0 the rest of the output is unchanged; on any other number length and counts are 0 and output and total are
--- unchanged
-pub rest-unchanged : (out bytes : List ℕ) → answered (write out bytes) ≡ 0 → drop (length bytes) ((write out bytes) .out) ≡ drop (length bytes) out
-rest-unchanged = Written.rest-is
+-- ---- what each call leaves, of every call at once: its rule is `deliver` of what its checks and its result come to. Whatever it answers, behind the length that it answers the output is unchanged; on any other
+-- number than 0 length and counts are 0 and output and total are unchanged
+pub rest-unchanged : {N : Type 0} (none : N) (out : List ℕ) (x : Checked (Result N)) → RestKept none out (deliver none out x)
+rest-unchanged = Delivered.rest-kept
 
--- of every call at once: its rule is `deliver` of what its checks and its result come to
 pub refusal-changes-nothing : {N : Type 0} (none : N) (out : List ℕ) (x : Checked (Result N)) → Kept none out (deliver none out x)
 refusal-changes-nothing = Delivered.refused-kept
 

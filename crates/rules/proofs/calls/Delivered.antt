@@ -1,15 +1,15 @@
 -- One way to refuse, of every call at once: a call's rule is `deliver` of what its checks and its result come to. Gives: on a number other
--- than 0 the length is 0, the output is as it was and the call's own numbers are `none` (`refused-kept`); what it comes to where it answers 0 (`delivered`, `came-on`), or a number that what it read first can't give (`came-past`); that its place
+-- than 0 the length is 0, the output is as it was and the call's own numbers are `none` (`refused-kept`); whatever it answers, the rest of the output is as it was (`rest-kept`); what it comes to where it answers 0 (`delivered`, `came-on`), or a number that what it read first can't give (`came-past`); that its place
 -- is that of what was refused (`delivered-place`).
--- Open: `Kept`, `full`.
-use Prim.Native.Nat.{ℕ, _≤_, _<_}
+-- Open: `Kept`, `RestKept`, `full`.
+use Prim.Native.Nat.{ℕ, _+_, _≤_, _<_}
 use mathlib.Core.Path.{_≡_, refl, sym, ap, _∙_, subst}
 use mathlib.Core.List.{List, []}
 use mathlib.Core.Bool.{Bool, true, false}
 use native.Mathlib.Omega.{arith}
 use lib.Dec.{ltb}
-use lib.ListN.{length}
-use lib.Seq.{sets}
+use lib.ListN.{length, drop}
+use lib.Seq.{sets, sets-eq, drop-at}
 use borrow.Author.Tests.{ltb-false, le-ltb}
 use Rattle.rules.specs.Checks.{Checked, refused, taken, choose, go-on}
 use Rattle.rules.specs.Calls.{Answer, done, Result, Reply, stop, put, deliver}
@@ -32,6 +32,13 @@ module _ {N : Type 0} (none : N) (out : List ℕ) where
   pub put-room : (r : Result N) → length (r .bytes) ≤ length out → put none out r ≡ full r
   put-room r l = ap (λ t. choose t (stop none out 13 0) (full r)) (le-ltb (length out) (length (r .bytes)) l)
 
+  pub put-done : (r : Result N) → (put none out r) .answer .number ≡ 0 → put none out r ≡ full r
+  put-done r = go (ltb (length out) (length (r .bytes)))
+    where
+      go : (t : Bool) → (choose t (stop none out 13 0) (full r)) .answer .number ≡ 0 → choose t (stop none out 13 0) (full r) ≡ full r
+      go true e = absurd (omega (arith, e))
+      go false e = refl
+
   pub refused-kept : (x : Checked (Result N)) → Kept (deliver none out x)
   refused-kept (refused n k) = λ h. (refl, refl, refl)
   refused-kept (taken r) = go (ltb (length out) (length (r .bytes)))
@@ -39,6 +46,19 @@ module _ {N : Type 0} (none : N) (out : List ℕ) where
       go : (t : Bool) → Kept (choose t (stop none out 13 0) (full r))
       go true h = (refl, refl, refl)
       go false h = absurd (h refl)
+
+  -- whatever it answers, behind the length that it answers the output is as it was
+  abbrev pub RestKept : Reply N → Type 0
+  RestKept w = drop (w .answer .length) (w .out) ≡ drop (w .answer .length) out
+
+  pub rest-kept : (x : Checked (Result N)) → RestKept (deliver none out x)
+  rest-kept (refused n k) = refl
+  rest-kept (taken r) = go (ltb (length out) (length (r .bytes))) refl
+    where
+      go : (t : Bool) → ltb (length out) (length (r .bytes)) ≡ t → RestKept (choose t (stop none out 13 0) (full r))
+      go true q = refl
+      go false q = ap (drop (length (r .bytes))) (sets-eq (r .bytes) out 0 (omega (arith, ltb-false (length out) (length (r .bytes)) q)))
+          ∙ drop-at (r .bytes) (drop (0 + length (r .bytes)) out) (length (r .bytes)) refl ∙ ap (λ (n : ℕ). drop n out) {x = 0 + length (r .bytes)} {y = length (r .bytes)} (omega arith)
 
   -- it answered 0: nothing was refused, and there was room
   pub record Came (x : Checked (Result N)) (w : Reply N) : Type 0 where

@@ -10,9 +10,9 @@ use borrow.Author.Tests.{leb-true}
 use Rattle.rules.specs.Bytes.{number}
 use Rattle.rules.specs.Pair.{Valid, neutral, opposite}
 use Rattle.rules.specs.Sum.{sum, double}
-use Rattle.rules.specs.Multiple.{multiple, total}
+use Rattle.rules.specs.Multiple.{multiple, total, doublings, additions}
 use Rattle.rules.specs.Tests.{weighs?}
-use Rattle.rules.specs.Checks.{Checked, taken, choose, Check, first-failed, go-on}
+use Rattle.rules.specs.Checks.{Checked, refused, taken, choose, Check, first-failed, go-on}
 use Rattle.rules.specs.Records.{CurveRecord, curve, PairOf, read-curve, read-divisor, divisor-bytes}
 use Rattle.rules.specs.Lists.{batch}
 use Rattle.rules.specs.Calls.{Result, Reply, stop, put, deliver, write, rewrite-curve, from-one, rewrite-divisor, double-call, opposite-call, add-call, multiply-checks, multiply-call, total-call}
@@ -23,10 +23,10 @@ use Rattle.rules.proofs.calls.DivisorRecords.{divisor-valid, divisor-re
 use Rattle.rules.proofs.calls.Batches.{MadeOf, pair-of, records-valid, batch-made, batch-is}
 use Rattle.rules.proofs.calls.Refusals.{Numbered, on-taken, curve-numbered, divisor-numbered}
 use Rattle.rules.proofs.calls.Checks.{all-passed, refused-as}
-use Rattle.rules.proofs.calls.Delivered.{delivered, came-on}
+use Rattle.rules.proofs.calls.Delivered.{put-done, delivered, came-on}
 use Rattle.rules.proofs.calls.Places.{batch-numbered}
 use Rattle.rules.proofs.calls.Written.{Written, front, answered, bare, front-is}
-use Rattle.rules.proofs.calls.Taken.{no-counts, multiple-result, total-result, one-is, add-is, multiply-written, total-is, total-written}
+use Rattle.rules.proofs.calls.Taken.{no-counts, multiple-result, total-result, one-is, add-is, multiply-is, multiply-written, total-is, total-written}
 
 -- a valid divisor, written where there is room for it, is read back
 pub read-back : (c : CurveRecord) → Accepts c → (d : PairOf c) → Valid (curve c) d → (out : List ℕ) {w : Written} → w ≡ write out (divisor-bytes (c .p) d) → answered w ≡ 0
@@ -44,12 +44,14 @@ pub record OneDone (f : (c : CurveRecord) → PairOf c → PairOf c) (c : CurveR
 abbrev pub Closed : ((c : CurveRecord) → PairOf c → PairOf c) → Type 0
 Closed f = (c : CurveRecord) → Demand3 (curve c) → (x : PairOf c) → Valid (curve c) x → Valid (curve c) (f c x)
 
--- a multiple: its scalar has at most 32 bytes, and neither the divisor nor the multiple is neutral
+-- a multiple, with its two counts: its scalar has at most 32 bytes, and neither the divisor nor the multiple is neutral
 pub record MultiplyDone (c : CurveRecord) (a scalar out : List ℕ) (w : Reply (ℕ × ℕ)) : Type 0 where
   pub short : length scalar ≤ 32
   pub one : OneDone (λ c x. multiple (curve c) (number scalar) x) c a out (bare w)
   pub given : weighs? (one .x) ≡ true
   pub made : weighs? (multiple (curve c) (number scalar) (one .x)) ≡ true
+  pub doubled : w .own .0 ≡ doublings (number scalar)
+  pub added : w .own .1 ≡ additions (number scalar)
 
 module _ (s a out : List ℕ) {c : CurveRecord} (ec : read-curve s ≡ taken c) where
   ok : Accepts c
@@ -93,13 +95,21 @@ module _ (s a out : List ℕ) {c : CurveRecord} (ec : read-curve s ≡ taken c) 
       numbered : (x : PairOf c) → Numbered (checked x)
       numbered x n k e = refused-as (multiple-result c (number scalar) x) (λ n k. 0 < n) (checks x) (omega arith, (omega arith, (omega arith, tt))) e
 
+      counts : (x : PairOf c) → read-divisor c 1 a ≡ taken x → length scalar ≤ 32 → weighs? x ≡ true → weighs? (multiple (curve c) (number scalar) x) ≡ true
+          → (multiply-call s a scalar out) .own ≡ (doublings (number scalar), additions (number scalar))
+      counts x h l given made =
+          let r : Result (ℕ × ℕ) = multiple-result c (number scalar) x in
+          let is : multiply-call s a scalar out ≡ put no-counts out r = multiply-is s ec a h out scalar l given ∙ ap (λ (t : Bool). deliver no-counts out (choose t (taken r) (refused 19 0))) made in
+          ap (λ (w : Reply (ℕ × ℕ)). w .own) (is ∙ put-done no-counts out r (ap (λ (w : Reply (ℕ × ℕ)). w .answer .number) (sym is) ∙ e))
+
       finish : (x : PairOf c) → read-divisor c 1 a ≡ taken x → length scalar ≤ 32 → weighs? x ≡ true → weighs? (multiple (curve c) (number scalar) x) ≡ true
           → MultiplyDone c a scalar out (multiply-call s a scalar out)
       finish x h l given made =
           let y : PairOf c = multiple (curve c) (number scalar) x in
           let is = multiply-written s ec a h out scalar l given ∙ ap (λ (t : Bool). choose t (write out (divisor-bytes (c .p) y)) (stop tt out 19 0)) made in
           let back = read-back c ok y ((accepts-laws c ok) .multiple-closed (number scalar) x (divisor-valid c 1 true a 0 h)) out is e in
-          record { short = l; one = record { x = x; a-is = h; is = is; back = back }; given = given; made = made }
+          let counted = counts x h l given made in
+          record { short = l; one = record { x = x; a-is = h; is = is; back = back }; given = given; made = made; doubled = ap (λ n. n .0) counted; added = ap (λ n. n .1) counted }
 
 -- ---- the sum of two
 pub record AddDone (c : CurveRecord) (a b out : List ℕ) (w : Written) : Type 0 where

