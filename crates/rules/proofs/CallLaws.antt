@@ -1,7 +1,7 @@
 -- The calls' rules of specs/ and what they buy, in document 01's words; nothing here speaks of code. A call is a function from the bytes lent
 -- to the whole answer and output (specs.Calls). `read-curve s ≡ taken c` says that s is a curve record, and c what it says;
 -- `AllRecords c rs` that each of rs is a divisor record on c, and `pair-of c r` is the pair of one; `answered w ≡ 0` that a call
--- answered 0, and `front w` is then what it left at the front of its output. The proofs are in calls/.
+-- answered 0, and `front w` is then what it left at the front of its output. The proofs are in calls/. (When each number is given: crate `table`.)
 use Prim.Native.Nat.{ℕ, suc, _+_, _*_, _%_, _≤_, _<_}
 use mathlib.Core.Path.{_≡_, refl, sym, ap, _∙_, subst}
 use mathlib.Core.List.{List, [], _∷_, _++_, map, foldl, flatten, Perm, List·Memᴰ}
@@ -37,6 +37,7 @@ use Rattle.rules.proofs.calls.OneScan.{ScanDone}
 use Rattle.rules.proofs.calls.Scans.{running-result, scans, AllDone, AllFor, records-of, of-pole}
 use Rattle.rules.proofs.calls.Delivered.{Kept, RestKept}
 use Rattle.rules.proofs.calls.Taken.{total-result}
+use Rattle.rules.proofs.calls.Reached.{TookCurve}
 use Rattle.rules.proofs.calls.Keys.{EmptyKey}
 use Rattle.rules.specs.Calls.{check-order, split-call, next-call}
 use Rattle.rules.proofs.census.Rising.{Rising}
@@ -105,9 +106,6 @@ pub rewritten-divisor : (s a out : List ℕ) → AreBytes a → answered (rewrit
 rewritten-divisor = Rewrites.rewrite-divisor-same
 
 -- ---- a call that answered 0: its records were taken, and what it wrote is read back as the sum, the double, ..
-abbrev pub TookCurve : List ℕ → (CurveRecord → Type 0) → Type 0
-TookCurve s P = (c : CurveRecord) × (read-curve s ≡ taken c) × P c
-
 pub add-back : (s a b out : List ℕ) → answered (add-call s a b out) ≡ 0 → TookCurve s (λ c. AddDone c a b out (add-call s a b out))
 add-back s a b out e = let t = Done.add-took s a b out e in (t .0, t .1, Done.add-done s a b out (t .1) e)
 

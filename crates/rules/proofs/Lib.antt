@@ -3,5 +3,6 @@ pub mod calls
 pub mod census
 pub mod Demand3
 pub mod CallLaws
+pub mod exactly
 pub mod IsSum
 pub mod Corners

@@ -15,9 +15,12 @@ pub mod Steps
 pub mod Batches
 -- what is refused, and where; what a call delivers
 pub mod Refusals
+pub mod Given
+pub mod Decided
 pub mod Places
 pub mod Delivered
 pub mod Written
+pub mod Reached
 -- the same meters, and the first repeat
 pub mod Same
 pub mod Repeats

@@ -44,6 +44,10 @@ module _ (c : CurveRecord) where
   pub is-record : (k : ℕ) (r : List ℕ) {d : PairOf c} → read-divisor c k r ≡ taken d → IsRecord r
   is-record k r e = ap taken? (divisor-taken c 1 true r 0 ((divisor-read c k true r 0 e) .0))
 
+  -- one of a batch, taken out
+  pub record-taken-out : (s : List ℕ) (a : ℕ) (h : DivisorBytes c false s a) → IsRecord (record-out c s a h)
+  record-taken-out s a h = let x : List ℕ = record-out c s a h in is-record 1 x (divisor-taken c 1 true x 0 (alone-out c s a h))
+
   pub record-pair : (k : ℕ) (r : List ℕ) {d : PairOf c} → read-divisor c k r ≡ taken d → pair-of r ≡ d
   record-pair k r e = (divisor-read c k true r 0 e) .1
 
@@ -150,7 +154,7 @@ module _ (c : CurveRecord) where
       parts-more left a k e r =
           let h = (divisor-read c k false s a e) .0 in
           let x : List ℕ = record-out c s a h in
-          (x ∷ r .0, more-records (is-record 1 x (divisor-taken c 1 true x 0 (alone-out c s a h))) (r .1), omega (arith, r .2), ap (_++_ x) (r .3) ∙ sym (split-out c s a h))
+          (x ∷ r .0, more-records (record-taken-out s a h) (r .1), omega (arith, r .2), ap (_++_ x) (r .3) ∙ sym (split-out c s a h))
 
       parts : {left a k : ℕ} {from : A} {x : Checked (Batch A)} → Reading s left a k from x → {b : Batch A} → x ≡ taken b → Parts left a
       parts (ends {left = left} {a = a} l) e = parts-end left a l

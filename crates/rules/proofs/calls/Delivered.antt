@@ -1,16 +1,17 @@
 -- One way to refuse, of every call at once: a call's rule is `deliver` of what its checks and its result come to. Gives: on a number other
--- than 0 the length is 0, the output is as it was and the call's own numbers are `none` (`refused-kept`); whatever it answers, the rest of the output is as it was (`rest-kept`); what it comes to where it answers 0 (`delivered`, `came-on`), or a number that what it read first can't give (`came-past`); that its place
+-- than 0 the length is 0, the output is as it was and the call's own numbers are `none` (`refused-kept`); whatever it answers, the rest of the output is as it was (`rest-kept`), and 13 says that it is too short (`put-short`); what it comes to where it answers 0 (`delivered`, `came-on`); that its place
 -- is that of what was refused (`delivered-place`).
 -- Open: `Kept`, `RestKept`, `full`.
 use Prim.Native.Nat.{ℕ, _+_, _≤_, _<_}
 use mathlib.Core.Path.{_≡_, refl, sym, ap, _∙_, subst}
 use mathlib.Core.List.{List, []}
 use mathlib.Core.Bool.{Bool, true, false}
+use mathlib.Core.Logic.{_↔_}
 use native.Mathlib.Omega.{arith}
 use lib.Dec.{ltb}
 use lib.ListN.{length, drop}
 use lib.Seq.{sets, sets-eq, drop-at}
-use borrow.Author.Tests.{ltb-false, le-ltb}
+use borrow.Author.Tests.{ltb-true, lt-ltb, ltb-false, le-ltb}
 use Rattle.rules.specs.Checks.{Checked, refused, taken, choose, go-on}
 use Rattle.rules.specs.Calls.{Answer, done, Result, Reply, stop, put, deliver}
 use Rattle.rules.proofs.calls.Refusals.{Numbered, check}
@@ -38,6 +39,14 @@ module _ {N : Type 0} (none : N) (out : List ℕ) where
       go : (t : Bool) → (choose t (stop none out 13 0) (full r)) .answer .number ≡ 0 → choose t (stop none out 13 0) (full r) ≡ full r
       go true e = absurd (omega (arith, e))
       go false e = refl
+
+  -- 13 exactly where there isn't
+  pub put-short : (r : Result N) → ((put none out r) .answer .number ≡ 13) ↔ (length out < length (r .bytes))
+  put-short r = (go (ltb (length out) (length (r .bytes))) refl, λ l. ap (λ t. (choose t (stop none out 13 0) (full r)) .answer .number) (lt-ltb (length out) (length (r .bytes)) l))
+    where
+      go : (t : Bool) → ltb (length out) (length (r .bytes)) ≡ t → (choose t (stop none out 13 0) (full r)) .answer .number ≡ 13 → length out < length (r .bytes)
+      go true e h = ltb-true _ _ e
+      go false e h = absurd (omega (arith, h))
 
   pub refused-kept : (x : Checked (Result N)) → Kept (deliver none out x)
   refused-kept (refused n k) = λ h. (refl, refl, refl)
@@ -75,16 +84,11 @@ module _ {N : Type 0} (none : N) (out : List ℕ) where
       go true q e = absurd (omega arith)
       go false q e = record { result = r; is = refl; room = ltb-false (length out) (length (r .bytes)) q; reply = ap (λ t. choose t (stop none out 13 0) (full r)) q }
 
-  -- it answered a number that what was read first is never refused with: that was taken
-  pub came-past : (l : ℕ) {A : Type 0} (x : Checked A) (go : A → Checked (Result N)) → ((n k : ℕ) → x ≡ refused n k → n ≡ l → ⊥) → (deliver none out (go-on x go)) .answer .number ≡ l
-      → (a : A) × (x ≡ taken a) × ((deliver none out (go a)) .answer .number ≡ l)
-  came-past l (refused n k) go h e = absurd (h n k refl e)
-  came-past l (taken a) go h e = (a, refl, e)
-
-  -- and so where it answered 0
+  -- what was read first was taken
   pub came-on : {A : Type 0} (x : Checked A) (go : A → Checked (Result N)) → Numbered x → (deliver none out (go-on x go)) .answer .number ≡ 0
       → (a : A) × (x ≡ taken a) × ((deliver none out (go a)) .answer .number ≡ 0)
-  came-on x go h e = came-past 0 x go (λ n k q z. omega (arith, h n k q, z)) e
+  came-on (refused n k) go h e = absurd (omega (arith, h n k refl, e))
+  came-on (taken a) go h e = (a, refl, e)
 
   pub delivered-place : (K : ℕ → ℕ → Type 0) (x : Checked (Result N)) → Placed K x → At K ((deliver none out x) .answer .number) ((deliver none out x) .answer .place)
   delivered-place K (refused n k) p = p n k refl

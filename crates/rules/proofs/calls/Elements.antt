@@ -1,7 +1,10 @@
--- Numbers below p and elements of Z/p, by lists: `numbers` and `elements` undo one another.
+-- Numbers below p and elements of Z/p, by lists: `numbers` and `elements` undo one another; `below?` says that each is below p (`AllBelow`, `below-decides`).
+-- Open: `AllBelow`.
 use Prim.Native.Nat.{ℕ, _<_}
 use mathlib.Core.Path.{_≡_, refl, ap₂}
-use mathlib.Core.List.{List, [], _∷_}
+use mathlib.Core.Logic.{_↔_, _⊎_, inl, inr}
+use mathlib.Core.List.{List, [], _∷_, List·Memᴰ, List·Memᴰ·head, List·Memᴰ·tail, List·Memᴰ·cases-cons, List·Memᴰ·not-nil}
+use native.Mathlib.Omega.{arith}
 use mathlib.Core.Bool.{true}
 use lib.Dec.{ltb}
 use lib.ListN.{length, length-map}
@@ -34,3 +37,24 @@ module _ (p : ℕ) where
     unfolding below? numbers
     numbers-below [] = refl
     numbers-below (x ∷ l) = true-both (lt-ltb (num p x) p (num-lt p pos x)) (numbers-below l)
+
+-- ---- each is below p
+abbrev pub AllBelow : ℕ → List ℕ → Type 0
+AllBelow p l = (q : ℕ) → List·Memᴰ q l → q < p
+
+each-below : (p : ℕ) (l : List ℕ) → below? p l ≡ true → AllBelow p l
+unfolding below?
+each-below p [] e q m = absurd (List·Memᴰ·not-nil m)
+each-below p (y ∷ l) e q m = let t = both-true (ltb y p) (below? p l) e in go (ltb-true y p (t .0)) (List·Memᴰ·cases-cons m) (each-below p l (t .1) q)
+  where
+    go : y < p → (q ≡ y) ⊎ List·Memᴰ q l → (List·Memᴰ q l → q < p) → q < p
+    go h (inl e) rec = omega (arith, h, e)
+    go h (inr k) rec = rec k
+
+below-each : (p : ℕ) (l : List ℕ) → AllBelow p l → below? p l ≡ true
+unfolding below?
+below-each p [] h = refl
+below-each p (y ∷ l) h = true-both (lt-ltb y p (h y (List·Memᴰ·head refl))) (below-each p l (λ q m. h q (List·Memᴰ·tail m)))
+
+pub below-decides : (p : ℕ) (l : List ℕ) → (below? p l ≡ true) ↔ AllBelow p l
+below-decides p l = (each-below p l, below-each p l)

@@ -1,26 +1,30 @@
 -- W-211, the next divisor of a training curve. Gives what the call answers: 25 on a curve with p over 13, whatever the divisor's bytes are (`next-large`); else what refuses the divisor (`next-no-divisor`); else 24 exactly where no valid divisor
--- is above the one given (`next-last`), and otherwise the record of the least one above it, or 13 (`next-record`). So from the neutral record on, each call given what the last one wrote, the records written are those of the census (`calls-census`), and then
+-- is above the one given (`next-last`), and otherwise the record of the least one above it, or 13 (`next-record`); so 25 and 24 are given exactly then (`next-given-25`, `next-given-24`). From the neutral record on, each call given what the last one wrote, the records written are those of the census (`calls-census`), and then
 -- 24 comes (`call-ends`). (The place is in CallPlaces.)
 use Prim.Native.Nat.{ℕ, zero, suc, _+_, _*_, _≤_, _<_}
 use mathlib.Core.Path.{_≡_, refl, sym, ap, _∙_, subst}
 use mathlib.Core.List.{List, [], _∷_, _++_, map, List·Memᴰ, List·Memᴰ·head, Memᴰ·append-right}
 use mathlib.Core.Bool.{true}
+use mathlib.Core.Logic.{_↔_}
 use native.Mathlib.Omega.{arith}
 use lib.ListN.{length}
 use borrow.Author.Tests.{le-leb, lt-leb}
 use Rattle.rules.specs.Pair.{Valid, neutral}
-use Rattle.rules.specs.Checks.{Checked, refused, taken, choose}
+use Rattle.rules.specs.Checks.{Checked, refused, taken, choose, first-failed, go-on}
 use Rattle.rules.specs.Records.{CurveRecord, curve, PairOf, read-curve, read-divisor, divisor-bytes}
 use Rattle.rules.specs.Census.{census, next}
-use Rattle.rules.specs.Calls.{Reply, stop, deliver, write, read-training, next-call}
-use Rattle.rules.proofs.calls.Refusals.{on-taken, on-refused}
+use Rattle.rules.specs.Calls.{Result, Reply, stop, deliver, write, training-checks, read-training, next-call}
+use Rattle.rules.proofs.calls.Refusals.{on-taken, on-refused, on-on}
 use Rattle.rules.proofs.calls.CurveRecords.{accepts}
 use Rattle.rules.proofs.calls.DivisorRecords.{divisor-valid, length-divisor, divisor-reread}
 use Rattle.rules.proofs.cantor.Pairs.{neutral-valid}
-use Rattle.rules.proofs.calls.Written.{front, answered, write-room, front-room}
+use Rattle.rules.proofs.calls.Written.{front, only, answered, write-room, front-room}
+use Rattle.rules.proofs.calls.Given.{_and_, ask, Decides, always, given-some}
+use Rattle.rules.proofs.calls.Decided.{le-decides}
+use Rattle.rules.proofs.calls.Reached.{TookCurve, through, second, third, took-as, Says, says-as, refused-here, checks-reached, curve-reached, divisor-reached, put-says}
 use Rattle.rules.proofs.calls.Splits.{pos-of}
 use Rattle.rules.proofs.calls.Sums.{neutral-bytes}
-use Rattle.rules.proofs.census.Census.{Least, Last, Answers, census-valid, next-at, next-answers, next-least, next-none, walk, walk-census}
+use Rattle.rules.proofs.census.Census.{Least, Last, Answers, census-valid, next-at, next-answers, next-least, next-none, next-number, walk, walk-census}
 
 module _ (s : List ℕ) {c : CurveRecord} (ec : read-curve s ≡ taken c) where
   pub some : 0 < c .p
@@ -55,6 +59,41 @@ module _ (s : List ℕ) {c : CurveRecord} (ec : read-curve s ≡ taken c) where
       pub next-record : (y : PairOf c) → Least c x y → next-call s a out ≡ write out (divisor-bytes (c .p) y)
       unfolding next-call
       next-record y h = ap (deliver tt out) (on-taken _ _ (for-training small) ∙ on-taken _ _ ea ∙ on-taken _ _ (next-least c some most x valid y .1 h))
+
+-- ---- 25 and 24, exactly when
+training-decides : (c : CurveRecord) → Decides (always 0) (training-checks c) (ask (c .p ≤ 13) 25 ∷ [])
+training-decides c = (le-decides _ _, refl, refl, λ l. tt)
+
+module _ (s a out : List ℕ) where
+  -- what follows the curve, and the training checks
+  abbrev behind-curve : CurveRecord → Checked (Result (Unit {0}))
+  behind-curve c = go-on (read-divisor c 1 a) (λ x. go-on (next c x) (λ y. taken (only (divisor-bytes (c .p) y))))
+
+  abbrev trained : CurveRecord → Checked (Result (Unit {0}))
+  trained c = go-on (first-failed (training-checks c) c) behind-curve
+
+  from-curve : (n : ℕ) → 18 < n → (answered (next-call s a out) ≡ n) ↔ TookCurve s (λ c. Says tt out n (trained c))
+  unfolding next-call
+  from-curve n l = through (says-as tt out n (on-on (read-curve s) (λ c. first-failed (training-checks c) c) behind-curve)) (curve-reached tt out n (omega arith) (λ e. omega arith) s trained)
+
+  pub next-given-25 : (answered (next-call s a out) ≡ 25) ↔ TookCurve s (λ c. ¬ (c .p ≤ 13))
+  next-given-25 = through (from-curve 25 (omega arith)) (took-as s (λ c ec.
+      through (refused-here tt out 25 (first-failed (training-checks c) c) behind-curve (later c)) (given-some c (always 0) 25 (training-checks c) (ask (c .p ≤ 13) 25 ∷ []) (training-decides c))))
+    where
+      later : (c b : CurveRecord) → first-failed (training-checks c) c ≡ taken b → Says tt out 25 (behind-curve b) → ⊥
+      later c b q e =
+          let d = divisor-reached tt out 25 (omega arith) b a _ .0 e in
+          let k = refused-here tt out 25 (next b (d .0)) _ (λ y z. put-says tt out 25 (λ e. omega arith) (λ e. omega arith) (only (divisor-bytes (b .p) y))) .0 (d .2) in
+          omega (arith, next-number b (d .0) (k .1) .0)
+
+  pub next-given-24 : (answered (next-call s a out) ≡ 24) ↔ TookCurve s (λ c. (c .p ≤ 13) and ((x : PairOf c) × (read-divisor c 1 a ≡ taken x) × Last c x))
+  next-given-24 = through (from-curve 24 (omega arith)) (took-as s (λ c ec.
+      through (checks-reached tt out 24 (always 0) (training-checks c) (ask (c .p ≤ 13) 25 ∷ []) c behind-curve (training-decides c) (λ g. g .1)) (second (last c ec))))
+    where
+      last : (c : CurveRecord) → read-curve s ≡ taken c → Says tt out 24 (behind-curve c) ↔ ((x : PairOf c) × (read-divisor c 1 a ≡ taken x) × Last c x)
+      last c ec = through (divisor-reached tt out 24 (omega arith) c a _) (third (λ x ea.
+          through (refused-here tt out 24 (next c x) _ (λ y z. put-says tt out 24 (λ e. omega arith) (λ e. omega arith) (only (divisor-bytes (c .p) y))))
+          (let n = next-none c (some s ec) (most s ec) x (divisor-valid c 1 true a 0 ea) in (λ t. n .0 (t .1 ∙ ap (refused 24) (next-number c x (t .1) .1)), λ h. (0, n .1 h)))))
 
 -- ---- from call to call: a record, and what the call writes of it, as long as it answers 0; at most n in all
 abbrev pub onward : (List ℕ → List (List ℕ)) → Reply (Unit {0}) → List (List ℕ)

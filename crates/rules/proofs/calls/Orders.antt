@@ -1,17 +1,16 @@
 -- W-214, a key's order. Gives, of the check where the curve and the divisor are taken: 12 where the order has over 32 bytes (`order-long`), else 0 where n is the order and the list, whole, at most 32
 -- and each below 2^31, has its primes (`order-accepts`), and 27 where that isn't so (`order-refuses`). So of every check: it answers 0 exactly then (`order-done`), and for every m the m-fold is neutral exactly when n divides
--- m (`order-exactly`); it answers 27 exactly where the curve, the divisor and the order's length passed and the test fails (`order-27`). (The place is in CallPlaces.)
--- Open: `NeutralFold`.
+-- m (`order-exactly`); it answers 12 exactly where the curve and the divisor passed and the order has over 32 bytes (`order-12`), and 27 exactly where the order's length passed too and the test fails (`order-27`). (The place is in CallPlaces.)
+-- Open: `NeutralFold`, `LongOrder`, `NotOrder`.
 use Prim.Native.Nat.{ℕ, _%_, _≤_, _<_}
 use mathlib.Core.Path.{_≡_, refl, sym, ap, ap₂, _∙_}
-use mathlib.Core.List.{List, [], _∷_, List·Memᴰ, List·Memᴰ·head, List·Memᴰ·tail, List·Memᴰ·cases-cons, List·Memᴰ·not-nil}
+use mathlib.Core.List.{List, [], _∷_}
 use mathlib.Core.Bool.{Bool, true, false, not}
-use mathlib.Core.Logic.{_↔_, _⊎_, inl, inr}
-use native.Mathlib.Decide.{decLt}
+use mathlib.Core.Logic.{_↔_}
 use native.Mathlib.Omega.{arith}
-use lib.Dec.{ltb, leb, eqb}
+use lib.Dec.{leb, eqb}
 use lib.ListN.{length}
-use borrow.Author.Tests.{ltb-true, lt-ltb, leb-true, le-leb, lt-leb, eqb-true, eq-eqb, not-true}
+use borrow.Author.Tests.{leb-true, le-leb, lt-leb, eqb-true, eq-eqb, not-true}
 use Rattle.orders.specs.Tests.{order?}
 use Rattle.orders.proofs.Order.{Closed}
 use Rattle.orders.proofs.Listed.{Order, order-test}
@@ -19,18 +18,22 @@ use Rattle.rules.specs.Bytes.{number}
 use Rattle.rules.specs.Pair.{Valid, neutral}
 use Rattle.rules.specs.Sum.{sum}
 use Rattle.rules.specs.Multiple.{multiple}
-use Rattle.rules.specs.Checks.{Checked, refused, taken, first-failed}
-use Rattle.rules.specs.Records.{CurveRecord, curve, PairOf, below?, read-curve, read-divisor}
+use Rattle.rules.specs.Checks.{Checked, refused, taken, choose, Check, first-failed}
+use Rattle.rules.specs.Records.{CurveRecord, curve, PairOf, both, below?, read-curve, read-divisor}
 use Rattle.rules.specs.Calls.{Answer, refusal, done, Result, deliver, listed, neutral-fold?, order-checks, check-order}
 use Rattle.rules.proofs.Demand3.{Demand3}
 use Rattle.rules.proofs.calls.Tests.{both-true, true-both}
 use Rattle.rules.proofs.calls.Checks.{all-passed, refused-as}
+use Rattle.rules.proofs.calls.Elements.{AllBelow, below-decides}
 use Rattle.rules.proofs.calls.Accepted.{curve-laws}
 use Rattle.rules.proofs.calls.DivisorRecords.{divisor-valid}
-use Rattle.rules.proofs.calls.Refusals.{Numbered, on-taken, curve-refused, divisor-refused}
-use Rattle.rules.proofs.calls.Delivered.{delivered, came-past}
+use Rattle.rules.proofs.calls.Refusals.{Numbered, on-taken, curve-numbered, divisor-numbered}
+use Rattle.rules.proofs.calls.Delivered.{delivered, came-on}
 use Rattle.rules.proofs.calls.Written.{only}
 use Rattle.rules.proofs.calls.Keys.{weighs-test}
+use Rattle.rules.proofs.calls.Given.{_and_, Ask, ask, Given, always, joined}
+use Rattle.rules.proofs.calls.Decided.{le-decides}
+use Rattle.rules.proofs.calls.Reached.{TookBoth, through, both-as, both-reached, says-as, checks-answer}
 
 abbrev pub NeutralFold : (c : CurveRecord) → PairOf c → ℕ → Type 0
 NeutralFold c x m = multiple (curve c) m x ≡ neutral
@@ -52,24 +55,10 @@ module _ (c : CurveRecord) (laws : Demand3 (curve c)) (x : PairOf c) (v : Valid 
   order-decides = order-test (NeutralFold c x) closed (neutral-fold? c x) tests
 
 -- ---- the list
-each-below : (p : ℕ) (l : List ℕ) → below? p l ≡ true → (q : ℕ) → List·Memᴰ q l → q < p
-unfolding below?
-each-below p [] e q m = absurd (List·Memᴰ·not-nil m)
-each-below p (y ∷ l) e q m = let t = both-true (ltb y p) (below? p l) e in go (ltb-true y p (t .0)) (List·Memᴰ·cases-cons m) (each-below p l (t .1) q)
-  where
-    go : y < p → (q ≡ y) ⊎ List·Memᴰ q l → (List·Memᴰ q l → q < p) → q < p
-    go h (inl e) rec = omega (arith, h, e)
-    go h (inr k) rec = rec k
-
-below-each : (p : ℕ) (l : List ℕ) → ((q : ℕ) → List·Memᴰ q l → q < p) → below? p l ≡ true
-unfolding below?
-below-each p [] h = refl
-below-each p (y ∷ l) h = true-both (lt-ltb y p (h y (List·Memᴰ·head refl))) (below-each p l (λ q m. h q (List·Memᴰ·tail m)))
-
 pub record Listed (primes : List ℕ) : Type 0 where
   pub whole : length primes % 4 ≡ 0
   pub few : length primes ≤ 128
-  pub small : (q : ℕ) → List·Memᴰ q (listed primes) → q < 2147483648
+  pub small : AllBelow 2147483648 (listed primes)
 
 -- n is x's order, and the list has its primes
 pub record Ordered (c : CurveRecord) (x : PairOf c) (order primes : List ℕ) : Type 0 where
@@ -121,8 +110,8 @@ module _ (s a order primes : List ℕ) {c : CurveRecord} (ec : read-curve s ≡ 
 
   tested : Tested c x order primes ↔ Ordered c x order primes
   tested = (
-    λ t. record { list = record { whole = t .whole; few = t .few; small = each-below 2147483648 (listed primes) (t .small) }; is = decides .0 (t .is) },
-    λ o. record { whole = o .list .whole; few = o .list .few; small = below-each 2147483648 (listed primes) (o .list .small); is = decides .1 (o .is) },
+    λ t. record { list = record { whole = t .whole; few = t .few; small = below-decides 2147483648 (listed primes) .0 (t .small) }; is = decides .0 (t .is) },
+    λ o. record { whole = o .list .whole; few = o .list .few; small = below-decides 2147483648 (listed primes) .1 (o .list .small); is = decides .1 (o .is) },
   )
 
   answers : {r : Checked (Result (Unit {0}))} → first-failed (order-checks c order primes x) (only []) ≡ r → check-order s a order primes ≡ (deliver tt [] r) .answer
@@ -148,31 +137,30 @@ pub record OrderDone (s a order primes : List ℕ) : Type 0 where
   pub short : length order ≤ 32
   pub ordered : Ordered c x order primes
 
-pub record NotOrder (s a order primes : List ℕ) : Type 0 where
-  pub c : CurveRecord
-  pub s-is : read-curve s ≡ taken c
-  pub x : PairOf c
-  pub a-is : read-divisor c 1 a ≡ taken x
-  pub short : length order ≤ 32
-  pub fails : Ordered c x order primes → ⊥
+-- over 32 bytes; and of at most 32, but n isn't the order, or the list hasn't its primes
+abbrev pub LongOrder : List ℕ → List ℕ → List ℕ → Type 0
+LongOrder s a order = TookBoth s a (λ c x. ¬ (length order ≤ 32))
+
+abbrev pub NotOrder : List ℕ → List ℕ → List ℕ → List ℕ → Type 0
+NotOrder s a order primes = TookBoth s a (λ c x. (length order ≤ 32) and ¬ Ordered c x order primes)
 
 module _ (s a order primes : List ℕ) where
-  -- a number that neither the curve nor the divisor is refused with
-  record Reached (l : ℕ) : Type 0 where
+  -- the curve and the divisor were taken, and the checks answer 0
+  record Reached : Type 0 where
     c : CurveRecord
     s-is : read-curve s ≡ taken c
     x : PairOf c
     a-is : read-divisor c 1 a ≡ taken x
-    says : (deliver tt [] (first-failed (order-checks c order primes x) (only []))) .answer .number ≡ l
+    says : (deliver tt [] (first-failed (order-checks c order primes x) (only []))) .answer .number ≡ 0
 
-  reached : (l : ℕ) → ((n : ℕ) → 1 ≤ n → n ≤ 26 → n ≡ l → ⊥) → check-order s a order primes .number ≡ l → Reached l
+  reached : check-order s a order primes .number ≡ 0 → Reached
   unfolding check-order
-  reached l other e =
-      let t = came-past tt [] l (read-curve s) _ (λ n k q z. let r = curve-refused s q in other n (r .some) (omega (arith, r .most)) z) e in
-      let d = came-past tt [] l (read-divisor (t .0) 1 a) _ (λ n k q z. let r = divisor-refused (t .0) 1 true a 0 q in other n (omega (arith, r .0)) (omega (arith, r .1)) z) (t .2) in
+  reached e =
+      let t = came-on tt [] (read-curve s) _ (curve-numbered s) e in
+      let d = came-on tt [] (read-divisor (t .0) 1 a) _ (divisor-numbered (t .0) 1 true a 0) (t .2) in
       record { c = t .0; s-is = t .1; x = d .0; a-is = d .1; says = d .2 }
 
-  passed : (r : Reached 0) → (length order ≤ 32) × Tested (r .c) (r .x) order primes
+  passed : (r : Reached) → (length order ≤ 32) × Tested (r .c) (r .x) order primes
   passed r = checks-passed (only []) (r .c) order primes (r .x) ((delivered tt [] _ numbered (r .says)) .is)
     where
       numbered : Numbered (first-failed (order-checks (r .c) order primes (r .x)) (only []))
@@ -180,7 +168,7 @@ module _ (s a order primes : List ℕ) where
 
   done-as : check-order s a order primes .number ≡ 0 → OrderDone s a order primes
   done-as e =
-      let r = reached 0 (λ n l u z. omega (arith, l, z)) e in
+      let r = reached e in
       let t = passed r in
       let o = tested s a order primes (r .s-is) (r .a-is) .0 (t .1) in
       record { c = r .c; s-is = r .s-is; x = r .x; a-is = r .a-is; short = t .0; ordered = o }
@@ -188,32 +176,43 @@ module _ (s a order primes : List ℕ) where
   pub order-done : (check-order s a order primes .number ≡ 0) ↔ OrderDone s a order primes
   order-done = (done-as, λ d. ap (λ (t : Answer). t .number) (order-accepts s a order primes (d .s-is) (d .a-is) (d .short) (d .ordered)))
 
-  not-order : check-order s a order primes .number ≡ 27 → NotOrder s a order primes
-  not-order e =
-      let r = reached 27 (λ n l u z. omega (arith, u, z)) e in
-      let short = not-long r in
-      record {
-        c = r .c;
-        s-is = r .s-is;
-        x = r .x;
-        a-is = r .a-is;
-        short = short;
-        fails = λ o. omega (arith, e, ap (λ (t : Answer). t .number) (order-accepts s a order primes (r .s-is) (r .a-is) short o));
-      }
+  -- four tests under one number are one
+  abbrev tested? : (c : CurveRecord) → PairOf c → Bool
+  tested? c x = both (both (both (eqb (length primes % 4) 0) (leb (length primes) 128)) (below? 2147483648 (listed primes))) (order? (neutral-fold? c x) (number order) (listed primes))
+
+  abbrev two-checks : (c : CurveRecord) → PairOf c → List Check
+  two-checks c x = (leb (length order) 32, 12, 0) ∷ (tested? c x, 27, 0) ∷ []
+
+  as-two : (c : CurveRecord) (x : PairOf c) → first-failed (order-checks c order primes x) (only []) ≡ first-failed (two-checks c x) (only [])
+  as-two c x = go (leb (length order) 32) (eqb (length primes % 4) 0) (leb (length primes) 128) (below? 2147483648 (listed primes)) (order? (neutral-fold? c x) (number order) (listed primes))
     where
-      not-long : Reached 27 → length order ≤ 32
-      not-long r = go (decLt 32 (length order))
-        where
-          go : Dec (32 < length order) → length order ≤ 32
-          go (yes h) = absurd (omega (arith, e, ap (λ (t : Answer). t .number) (order-long s a order primes (r .s-is) (r .a-is) h)))
-          go (no h) = omega arith
+      go : (b w f l o : Bool) → outcome (only []) b w f l o ≡ first-failed ((b, 12, 0) ∷ (both (both (both w f) l) o, 27, 0) ∷ []) (only [])
+      go b w f l o = ap (λ x. choose b x (refused 12 0)) (joined (only []) w f 27 0 ((l, 27, 0) ∷ (o, 27, 0) ∷ []) ∙ joined (only []) (both w f) l 27 0 ((o, 27, 0) ∷ []) ∙ joined (only []) (both (both w f) l) o 27 0 [])
+
+  four : (c : CurveRecord) (x : PairOf c) → (tested? c x ≡ true) ↔ Tested c x order primes
+  four c x = (
+    λ e. let t = both-true _ _ e in let l = both-true _ _ (t .0) in let w = both-true _ _ (l .0) in record { whole = eqb-true _ _ (w .0); few = leb-true _ _ (w .1); small = l .1; is = t .1 },
+    λ h. true-both (true-both (true-both (eq-eqb (length primes % 4) 0 (h .whole)) (le-leb (length primes) 128 (h .few))) (h .small)) (h .is),
+  )
+
+  abbrev order-asks : (c : CurveRecord) → PairOf c → List Ask
+  order-asks c x = ask (length order ≤ 32) 12 ∷ ask (Ordered c x order primes) 27 ∷ []
+
+  given : (n : ℕ) → 11 < n → (n ≡ 18 → ⊥) → (n ≡ 13 → ⊥) → (check-order s a order primes .number ≡ n) ↔ TookBoth s a (λ c x. Given n (order-asks c x))
+  unfolding check-order
+  given n above not-18 not-13 = through (both-reached tt [] n above not-18 s a _) (both-as s a (λ c ec x ea.
+      through (says-as tt [] n (as-two c x)) (checks-answer tt [] n (λ e. omega (arith, above, e)) not-13 (always 0) (two-checks c x) (order-asks c x) (only [])
+      (le-decides _ _, refl, refl, λ l. (through (four c x) (tested s a order primes ec ea), refl, refl, λ o. tt)))))
+
+  pub order-12 : (check-order s a order primes .number ≡ 12) ↔ LongOrder s a order
+  order-12 = given 12 (omega arith) (λ e. omega arith) (λ e. omega arith)
 
   pub order-27 : (check-order s a order primes .number ≡ 27) ↔ NotOrder s a order primes
-  order-27 = (not-order, λ d. ap (λ (t : Answer). t .number) (order-refuses s a order primes (d .s-is) (d .a-is) (d .short) (d .fails)))
+  order-27 = given 27 (omega arith) (λ e. omega arith) (λ e. omega arith)
 
 -- the theorem, of the curve and the divisor that were taken
 module _ (s a order primes : List ℕ) {c : CurveRecord} (ec : read-curve s ≡ taken c) {x : PairOf c} (ea : read-divisor c 1 a ≡ taken x) where
   pub order-exactly : check-order s a order primes .number ≡ 0 → (m : ℕ) → (multiple (curve c) m x ≡ neutral) ↔ (m % number order ≡ 0)
   order-exactly e =
-      let r : Reached s a order primes 0 = record { c = c; s-is = ec; x = x; a-is = ea; says = ap (λ (t : Answer). t .number) (sym (answers s a order primes ec ea refl)) ∙ e } in
+      let r : Reached s a order primes = record { c = c; s-is = ec; x = x; a-is = ea; says = ap (λ (t : Answer). t .number) (sym (answers s a order primes ec ea refl)) ∙ e } in
       (tested s a order primes ec ea .0 (passed s a order primes r .1)) .is .exactly

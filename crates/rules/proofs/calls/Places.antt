@@ -13,8 +13,8 @@ use Rattle.rules.specs.Checks.{Checked, refused, taken, go-on}
 use Rattle.rules.specs.Lists.{Batch, batch, most-records}
 use Rattle.rules.specs.Calls.{Running, resume}
 use Rattle.rules.proofs.calls.Tests.{refused-taken}
-use Rattle.rules.proofs.calls.DivisorRecords.{divisor-read, divisor-taken, record-out, alone-out, split-out, length-out}
-use Rattle.rules.proofs.calls.Batches.{AllRecords, is-record, no-records, more-records, Reading, ends, full, stops, goes, reading}
+use Rattle.rules.proofs.calls.DivisorRecords.{divisor-read, record-out, split-out, length-out}
+use Rattle.rules.proofs.calls.Batches.{AllRecords, record-taken-out, no-records, more-records, Reading, ends, full, stops, goes, reading}
 use Rattle.rules.proofs.calls.Refusals.{Numbered, curve-refused, divisor-refused, resume-refused, divisor-numbered}
 
 -- the number n has the place j: one that K allows for 8 to 11, otherwise 0
@@ -101,7 +101,7 @@ module _ (c : CurveRecord) where
         let x : List ℕ = record-out c s a h in
         record {
           before = x ∷ r .before;
-          good = more-records c (is-record c 1 x (divisor-taken c 1 true x 0 (alone-out c s a h))) (r .good);
+          good = more-records c (record-taken-out c s a h) (r .good);
           few = omega (arith, r .few);
           place = omega (arith, r .place);
           rest = r .rest;

@@ -1,6 +1,6 @@
 -- What is refused: a curve with a number from 1 to 7 or 18, and place 0 (`curve-refused`), the k-th divisor with 8 to 11 and place k
 -- (`divisor-refused`), a running total with 14 or 15 and place 0 (`resume-refused`); and in which order: exactly the first check that fails (`curve-order`,
--- `divisor-order`, `resume-order`). None of them has the number 0 (`curve-numbered` and its like). What goes on after a reading (`on-taken`, `on-refused`, `went-on`).
+-- `divisor-order`, `resume-order`). None of them has the number 0 (`curve-numbered` and its like). What goes on after a reading (`on-taken`, `on-refused`, `on-on`, `went-on`).
 -- Open: `Within`.
 use Prim.Native.Nat.{ℕ, _≤_, _<_}
 use mathlib.Core.Path.{_≡_, refl, sym, ap}
@@ -26,6 +26,11 @@ module _ {A B : Type 0} where
 
   pub on-refused : (x : Checked A) (go : A → Checked B) {n k : ℕ} → x ≡ refused n k → go-on x go ≡ refused n k
   on-refused x go e = ap (λ z. go-on z go) e
+
+  -- one reading after two others
+  pub on-on : {C : Type 0} (x : Checked A) (go : A → Checked B) (more : B → Checked C) → go-on (go-on x go) more ≡ go-on x (λ a. go-on (go a) more)
+  on-on (refused n k) go more = refl
+  on-on (taken a) go more = refl
 
   pub went-on : (x : Checked A) (go : A → Checked B) {b : B} → go-on x go ≡ taken b → (a : A) × (x ≡ taken a) × (go a ≡ taken b)
   went-on (refused n k) go e = absurd (refused-taken e)

@@ -3,10 +3,9 @@
 use Prim.Native.Nat.{ℕ, _+_, _*_, _≤_, _<_}
 use mathlib.Core.Path.{_≡_, sym, ap, _∙_}
 use mathlib.Core.List.{List, [], _∷_, _++_}
-use mathlib.Core.Bool.{Bool, true, false}
+use mathlib.Core.Bool.{true}
 use mathlib.Core.Logic.{_↔_, _⊎_, inl, inr}
 use native.Mathlib.Omega.{arith}
-use lib.Dec.{ltb}
 use lib.ListN.{length, take, drop, length-append}
 use lib.Seq.{take-at, drop-at}
 use Rattle.algebra.proofs.ring.CRing.{CRing, neg-neg, add-neg, mul-one}
@@ -16,20 +15,22 @@ use Rattle.algebra.proofs.list.Value.{mon}
 use Rattle.roots_laws.specs.Roots.{value}
 use Rattle.roots_laws.proofs.Value.{ev, root-factor, value-is}
 use Rattle.rules.specs.Curve.{Kx}
-use Rattle.rules.specs.Pair.{Valid}
-use Rattle.rules.specs.Checks.{refused, taken, choose, go-on}
+use Rattle.rules.specs.Pair.{Pair, Valid}
+use Rattle.rules.specs.Checks.{refused, taken, go-on}
 use Rattle.rules.specs.Records.{CurveRecord, curve, PairOf, read-curve, read-divisor, divisor-bytes}
 use Rattle.rules.specs.Split.{part-at, rest-at, split-root}
-use Rattle.rules.specs.Calls.{Result, stop, deliver, write, add-call, rewrite-divisor, split-result, split-call}
+use Rattle.rules.specs.Calls.{stop, deliver, write, add-call, rewrite-divisor, split-result, split-call}
 use Rattle.rules.proofs.Demand3.{square-free-test}
 use Rattle.rules.proofs.cantor.Accepted.{OverField, Accepted, accepted-mod-p}
 use Rattle.rules.proofs.cantor.Split.{product-is, rest-is, part-valid, rest-valid, part-weight, rest-weight, split-sum}
 use Rattle.rules.proofs.calls.CurveRecords.{Accepts, accepts}
 use Rattle.rules.proofs.calls.DivisorRecords.{divisor-valid, divisor-reread, length-divisor}
-use Rattle.rules.proofs.calls.Refusals.{on-taken, on-refused, curve-refused, curve-numbered, divisor-refused, divisor-numbered}
-use Rattle.rules.proofs.calls.Delivered.{full, came-past, came-on}
+use Rattle.rules.proofs.calls.Tests.{refused-taken}
+use Rattle.rules.proofs.calls.Refusals.{on-taken, on-refused, curve-numbered, divisor-numbered}
+use Rattle.rules.proofs.calls.Delivered.{came-on}
 use Rattle.rules.proofs.calls.Written.{Written, front, answered, front-is}
 use Rattle.rules.proofs.calls.Taken.{one-is, add-is}
+use Rattle.rules.proofs.calls.Reached.{TookBoth, through, both-as, both-reached, refused-here, put-says}
 use Rattle.rules.proofs.calls.SplitRoots.{SplitAt, NoSplit, split-view, split-at, split-none}
 
 pub pos-of : (c : CurveRecord) → Accepts c → 0 < c .p
@@ -56,38 +57,22 @@ module _ (s a : List ℕ) {c : CurveRecord} (ec : read-curve s ≡ taken c) {x :
   unfolding rewrite-divisor
   rewrite-is = one-is s ec a ea out (λ c x. x)
 
--- 26
-pub record Unsplit (s a : List ℕ) : Type 0 where
-  pub c : CurveRecord
-  pub s-is : read-curve s ≡ taken c
-  pub x : PairOf c
-  pub a-is : read-divisor c 1 a ≡ taken x
-  pub none : NoSplit (c .p) x
+-- 26 exactly where the weight is below 2 or u has no root, what is checked before passing
+abbrev pub Unsplit : List ℕ → List ℕ → Type 0
+Unsplit s a = TookBoth s a (λ c x. NoSplit (c .p) x)
 
-module _ (s a out : List ℕ) where
-  -- what is put is answered 0 or 13
-  short : (r : Result (Unit {0})) → answered (deliver (tt {0}) out (taken r)) ≡ 26 → ⊥
-  short r = go (ltb (length out) (length (r .bytes)))
-    where
-      go : (t : Bool) → answered (choose t (stop (tt {0}) out 13 0) (full (tt {0}) out r)) ≡ 26 → ⊥
-      go true z = omega arith
-      go false z = omega arith
+-- the root, where it isn't refused
+root-given : (p : ℕ) (x : Pair (modulo p)) → 0 < p → ((k : ℕ) × (split-root p x ≡ refused 26 k)) ↔ NoSplit p x
+root-given p x pos = (λ t. go (split-view p x pos) (t .1), λ n. (0, split-none p x pos n))
+  where
+    go : ((y : zmod p .El) × (SplitAt p x y × (split-root p x ≡ taken y))) ⊎ (NoSplit p x × (split-root p x ≡ refused 26 0)) → {k : ℕ} → split-root p x ≡ refused 26 k → NoSplit p x
+    go (inl (y, (h, q))) e = absurd (refused-taken (sym e ∙ q))
+    go (inr (n, q)) e = n
 
-  unsplit : answered (split-call s a out) ≡ 26 → Unsplit s a
-  unfolding split-call
-  unsplit e =
-      let t = came-past tt out 26 (read-curve s) _ (λ n k q z. let r = curve-refused s q in omega (arith, r .most, z)) e in
-      let d = came-past tt out 26 (read-divisor (t .0) 1 a) _ (λ n k q z. let r = divisor-refused (t .0) 1 true a 0 q in omega (arith, r .1, z)) (t .2) in
-      go (t .0) (t .1) (d .0) (d .1) (d .2) (split-view (t .0 .p) (d .0) (pos-of (t .0) (accepts s (t .1))))
-    where
-      go : (c : CurveRecord) → read-curve s ≡ taken c → (x : PairOf c) → read-divisor c 1 a ≡ taken x → answered (deliver tt out (go-on (split-root (c .p) x) (λ y. taken (split-result c x y)))) ≡ 26
-          → ((y : zmod (c .p) .El) × (SplitAt (c .p) x y × (split-root (c .p) x ≡ taken y))) ⊎ (NoSplit (c .p) x × (split-root (c .p) x ≡ refused 26 0)) → Unsplit s a
-      go c ec x ea e (inr (n, q)) = record { c = c; s-is = ec; x = x; a-is = ea; none = n }
-      go c ec x ea e (inl (y, (h, q))) = absurd (short (split-result c x y) (sym (ap (λ z. answered (deliver (tt {0}) out z)) (on-taken (split-root (c .p) x) (λ y. taken (split-result c x y)) q)) ∙ e))
-
-  -- 26 exactly where the weight is below 2 or u has no root, what is checked before passing
-  pub split-26 : (answered (split-call s a out) ≡ 26) ↔ Unsplit s a
-  split-26 = (unsplit, λ u. ap answered (split-refuses s a (u .s-is) (u .a-is) out (u .none)))
+pub split-26 : (s a out : List ℕ) → (answered (split-call s a out) ≡ 26) ↔ Unsplit s a
+unfolding split-call
+split-26 s a out = through (both-reached tt out 26 (omega arith) (λ e. omega arith) s a _) (both-as s a (λ c ec x ea.
+    through (refused-here tt out 26 (split-root (c .p) x) _ (λ y q. put-says tt out 26 (λ e. omega arith) (λ e. omega arith) (split-result c x y))) (root-given (c .p) x (pos-of c (accepts s ec)))))
 
 -- 0: what was written, read back
 pub record SplitDone (s a : List ℕ) (w : Written) : Type 0 where

@@ -55,10 +55,7 @@ module _ (s : List ℕ) {c : CurveRecord} (e : read-curve s ≡ taken c) where
       past-length = ap (deliver no-counts out) (on-taken _ _ e ∙ on-taken _ _ ea
           ∙ ap (λ (t : Bool). choose t (choose (weighs? x) (keyed c (number scalar) x) (refused 19 0)) (refused 12 0)) (le-leb (length scalar) 32 l))
 
-      -- a neutral divisor, and another one
-      pub multiply-empty : weighs? x ≡ false → multiply-call s a scalar out ≡ stop no-counts out 19 0
-      multiply-empty w = past-length ∙ ap (λ (t : Bool). deliver no-counts out (choose t (keyed c (number scalar) x) (refused 19 0))) w
-
+      -- and past the divisor's weight
       pub multiply-is : weighs? x ≡ true → multiply-call s a scalar out ≡ deliver no-counts out (keyed c (number scalar) x)
       multiply-is w = past-length ∙ ap (λ (t : Bool). deliver no-counts out (choose t (keyed c (number scalar) x) (refused 19 0))) w
 
