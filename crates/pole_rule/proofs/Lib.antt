@@ -1,6 +1,8 @@
 pub mod Counted
 pub mod CurveParts
 pub mod Longer
+pub mod Misfits
+pub mod FileNumbers
 pub mod Files
 pub mod Laws
 pub mod CurveCut
