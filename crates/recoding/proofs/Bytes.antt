@@ -1,4 +1,4 @@
--- A scalar by its bytes, in order. Gives: bit k of the whole number is bit k % 8 of the byte that is k / 8 bytes from the end (`bit-is`), and 0 where there is no such byte (`bit-above`); how large the
+-- A scalar by its bytes, in order. Gives: bit k of the whole number is bit k % 8 of the byte that is k / 8 bytes from the end (`bit-is`; a whole byte: `byte-is`), and 0 where there is no such byte (`bit-above`); how large the
 -- number can be (`below`).
 use Prim.Native.Nat.{ℕ, zero, suc, _+_, _-_, _*_, _/_, _%_, _^_, _≤_, _<_}
 use mathlib.Core.Path.{_≡_, sym, ap, _∙_}
@@ -7,7 +7,7 @@ use native.Mathlib.Omega.{arith}
 use native.Mathlib.Nat.{mod-lt, div-one, div-add-mod, zero-div, div-lt-iff-lt-mul}
 use lib.ListN.{length, take, getD}
 use lib.Seq.{take-length}
-use lib.Pow.{pow-pos, shr-shr, high}
+use lib.Pow.{pow-pos, shr-shr, high, low}
 use lib.Bits.{block-half, block-odd}
 use Rattle.rules.specs.Bytes.{number}
 use Rattle.rules.proofs.calls.Bytes.{AreBytes, number-more}
@@ -45,6 +45,10 @@ module _ (s : List ℕ) where
 
         here : number s / 2 ^ (k / 8 * 8) ≡ number (take i s) * 2 ^ 8 + getD s i 0
         here = front (k / 8) (omega arith) ∙ ap (λ j. number (take j s)) {x = length s - k / 8} {y = i + 1} (omega arith) ∙ more-bits i (omega arith)
+
+    -- ---- a byte
+    pub byte-is : (j i : ℕ) → i + j + 1 ≡ length s → getD s i 0 ≡ number s / 2 ^ (j * 8) % 256
+    byte-is j i e = sym (ap (λ n. n % 256) (front j (omega arith) ∙ ap (λ k. number (take k s)) {x = length s - j} {y = i + 1} (omega arith) ∙ more-bits i (omega arith)) ∙ low (number (take i s)) 8 (bytes i))
 
     -- ---- above the highest byte
     all-off : number s / 2 ^ (length s * 8) ≡ 0

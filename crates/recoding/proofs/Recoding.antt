@@ -1,22 +1,18 @@
--- What the walk over a scalar's bits keeps: the digits found so far, zeros above them, how many are nonzero, and the place behind the last of those. Gives: how it begins, a turn, and that it ends
--- with the non-adjacent form.
+-- What the walk over a scalar's bits keeps: the digits found so far, and zeros above them. Gives: how it begins, a turn, and that it ends with the non-adjacent form.
 use Prim.Native.Nat.{ℕ, zero, suc, _+_, _-_, _*_, _/_, _%_, _^_, _≤_, _<_}
 use mathlib.Core.Path.{_≡_, refl, sym, ap, _∙_, subst}
 use mathlib.Core.List.{List}
-use native.Mathlib.Decide.{ℕ-discrete, decLt}
+use native.Mathlib.Decide.{decLt}
 use native.Mathlib.Omega.{arith}
-use native.Mathlib.Nat.{div-one, div-add-mod}
-use lib.ListN.{length, getD, drop, set, replicate, getD-replicate, length-set, length-drop, drop-of-length-le, List·getD-eq-default}
+use lib.ListN.{length, getD, set, replicate, getD-replicate, length-set, List·getD-eq-default}
 use lib.Seq.{getD-set-same, getD-set-other}
-use lib.Pow.{shr-shr}
-use Rattle.signed.specs.Digits.{null, of-four, nonzeros, recode}
-use Rattle.signed.proofs.Unique.{recode-zero}
+use Rattle.signed.specs.Digits.{null, of-four, recode}
 use Rattle.signed.proofs.Length.{at-most-one-more}
-use Rattle.signed.proofs.Places.{one-if, nonzeros-at}
-use Rattle.signed.proofs.Walk.{Walked, begin as walk-begin, digit-at, next as walk-next, ends, last}
+use Rattle.signed.proofs.Walk.{Walked, begin as walk-begin, digit-at, next as walk-next}
 use Rattle.rules.specs.Bytes.{number}
 use Rattle.rules.proofs.calls.Bytes.{AreBytes}
-use Rattle.recoding.specs.Recoded.{digit, digits, Raised, Recoded}
+use Rattle.recoding.specs.declared.Counts.{Counts}
+use Rattle.recoding.specs.Recoded.{digit, digits, Counted, Recoded}
 use Rattle.recoding.proofs.Bytes.{below}
 use Rattle.recoding.proofs.Upper.{read-at, past}
 
@@ -31,38 +27,33 @@ bits P x₀ x₁ x₂ x₃ x₄ x₅ x₆ x₇ a b c ha hb hc = one (λ a. P a b
 
 record Kept (b₀ b₁ c : ℕ) : Type 0 where
   is : digit (b₀ + c + 1 - 2 * ((b₀ + c + b₁) / 2)) ≡ of-four ((2 * b₁ + b₀ + c) % 4)
-  counts : one-if (of-four ((2 * b₁ + b₀ + c) % 4)) ≡ (b₀ + c) % 2
   carries : (b₀ + b₁ + c) / 2 ≡ (b₀ + c + b₁) / 2
 
 kept : (b₀ b₁ c : ℕ) → b₀ ≤ 1 → b₁ ≤ 1 → c ≤ 1 → Kept b₀ b₁ c
 kept =
     bits Kept
-    (record { is = refl; counts = refl; carries = refl })
-    (record { is = refl; counts = refl; carries = refl })
-    (record { is = refl; counts = refl; carries = refl })
-    (record { is = refl; counts = refl; carries = refl })
-    (record { is = refl; counts = refl; carries = refl })
-    (record { is = refl; counts = refl; carries = refl })
-    (record { is = refl; counts = refl; carries = refl })
-    (record { is = refl; counts = refl; carries = refl })
+    (record { is = refl; carries = refl })
+    (record { is = refl; carries = refl })
+    (record { is = refl; carries = refl })
+    (record { is = refl; carries = refl })
+    (record { is = refl; carries = refl })
+    (record { is = refl; carries = refl })
+    (record { is = refl; carries = refl })
+    (record { is = refl; carries = refl })
 
 module _ (s : List ℕ) where
   abbrev n : ℕ
   n = number s
 
-  pub record Recoding (at : List ℕ) (next carry size found k : ℕ) : Type 0 where
+  pub record Recoding (at : List ℕ) (next carry k : ℕ) : Type 0 where
     pub place : k ≤ 8 * length s + 1
     pub room : length at ≡ 257
     pub next-is : next ≡ n / 2 ^ k % 2
     pub walked : Walked n k carry
     pub done : (i : ℕ) → i < k → digit (getD at i 0) ≡ getD (recode n) i null
     pub rest : (i : ℕ) → k ≤ i → i < 257 → getD at i 0 ≡ 1
-    pub found-is : found + nonzeros (drop k (recode n)) ≡ nonzeros (recode n)
-    pub found-most : found ≤ k
-    pub size-is : n / 2 ^ k + carry ≡ 0 → size ≡ length (recode n)
-    pub size-most : size ≤ k
 
-  pub begin : (next : ℕ) → next ≡ n / 2 ^ 0 % 2 → Recoding (replicate 257 1) next 0 0 0 0
+  pub begin : (next : ℕ) → next ≡ n / 2 ^ 0 % 2 → Recoding (replicate 257 1) next 0 0
   begin next e = record {
     place = omega arith;
     room = refl;
@@ -70,13 +61,9 @@ module _ (s : List ℕ) where
     walked = walk-begin n;
     done = λ i l. absurd (omega arith);
     rest = λ i l h. getD-replicate 257 i 1 0 h;
-    found-is = omega arith;
-    found-most = omega arith;
-    size-is = λ z. sym (ap (λ (m : ℕ). length (recode m)) {x = n} {y = 0} (omega (arith, div-one n)) ∙ ap length recode-zero);
-    size-most = omega arith;
   }
 
-  module _ (at : List ℕ) (next carry size found k : ℕ) (h : Recoding at next carry size found k) (short : length s ≤ 32) where
+  module _ (at : List ℕ) (next carry k : ℕ) (h : Recoding at next carry k) (short : length s ≤ 32) where
     -- ---- a turn, by the next bit b
     module _ (more : k < 8 * length s + 1) (b : ℕ) (eb : b ≡ n / 2 ^ (k + 1) % 2) where
       abbrev t : ℕ
@@ -105,31 +92,15 @@ module _ (s : List ℕ) where
           go (no m) = subst (λ (j : ℕ). digit (getD (set at k (t + 1 - 2 * carry')) j 0) ≡ getD (recode n) j null) {x = k} {y = i} (omega arith)
               (ap digit (getD-set-same at k (t + 1 - 2 * carry') 0 (omega (arith, h .room))) ∙ q .is ∙ sym this)
 
-      found' : found + t % 2 + nonzeros (drop (k + 1) (recode n)) ≡ nonzeros (recode n)
-      found' = omega (arith, h .found-is, nonzeros-at (recode n) k, ap one-if this ∙ q .counts, ap (λ (j : ℕ). nonzeros (drop j (recode n))) {x = suc k} {y = k + 1} (omega arith))
-
-      module _ (r : ℕ) (g : Raised size k t r) where
-        size' : n / 2 ^ (k + 1) + carry' ≡ 0 → Dec (t ≡ 1) → r ≡ length (recode n)
-        size' z (yes e) = omega (arith, g .one e, last n k carry (h .walked) (omega (arith, h .next-is, shr-shr n k 1, div-add-mod (n / 2 ^ k) 2)), length-drop k (recode n))
-        size' z (no e) = g .other e ∙ h .size-is (omega (arith, e, h .next-is, shr-shr n k 1, div-add-mod (n / 2 ^ k) 2))
-
-        most' : Dec (t ≡ 1) → r ≤ k + 1
-        most' (yes e) = omega (arith, g .one e)
-        most' (no e) = omega (arith, g .other e, h .size-most)
-
-        pub turn : Recoding (set at k (t + 1 - 2 * carry')) b carry' r (found + t % 2) (k + 1)
-        turn = record {
-          place = omega arith;
-          room = length-set at k (t + 1 - 2 * carry') ∙ h .room;
-          next-is = eb;
-          walked = walked';
-          done = done';
-          rest = λ i l m. getD-set-other at k i (t + 1 - 2 * carry') 0 (λ e. absurd (omega arith)) ∙ h .rest i (omega arith) m;
-          found-is = found';
-          found-most = omega (arith, h .found-most);
-          size-is = λ z. size' z (ℕ-discrete t 1);
-          size-most = most' (ℕ-discrete t 1);
-        }
+      pub turn : Recoding (set at k (t + 1 - 2 * carry')) b carry' (k + 1)
+      turn = record {
+        place = omega arith;
+        room = length-set at k (t + 1 - 2 * carry') ∙ h .room;
+        next-is = eb;
+        walked = walked';
+        done = done';
+        rest = λ i l m. getD-set-other at k i (t + 1 - 2 * carry') 0 (λ e. absurd (omega arith)) ∙ h .rest i (omega arith) m;
+      }
 
     -- ---- the end
     module _ (bytes : AreBytes s) (over : 8 * length s + 1 ≤ k) where
@@ -144,11 +115,11 @@ module _ (s : List ℕ) where
       places i (yes l) (no m) = read-at at i (omega (arith, h .room)) ∙ ap digit (h .rest i (omega arith) l) ∙ sym (List·getD-eq-default (recode n) null {n = i} (omega (arith, all)))
       places i (no l) m = past at i (omega (arith, h .room)) ∙ sym (List·getD-eq-default (recode n) null {n = i} (omega (arith, all, h .place)))
 
-      pub recoded : Recoded n (record { at = at; length = size; nonzeros = found })
-      recoded = record {
+      pub recoded : (r : Counts) → Counted n r → Recoded n (record { at = at; length = r .length; nonzeros = r .nonzeros })
+      recoded r c = record {
         places = λ i. places i (decLt i 257) (decLt i k);
-        length-is = h .size-is (ends n (length s * 8) k carry below' (omega arith) (h .walked));
-        nonzeros-is = omega (arith, h .found-is, ap nonzeros (drop-of-length-le (recode n) {i = k} all));
-        within = omega (arith, h .size-most, h .place);
+        length-is = c .length-is;
+        nonzeros-is = c .nonzeros-is;
+        within = omega (arith, c .length-is, all, h .place);
         room = h .room;
       }

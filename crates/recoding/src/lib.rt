@@ -1,10 +1,10 @@
-// The signed digits of a scalar: its non-adjacent form, found in one walk over its bits from the lowest.
+// The signed digits of a scalar: its non-adjacent form, found in one walk over its bits from the lowest, and how many there are, by its bytes and those of 3n.
 ghost use mathlib.Core.Path.{_≡_};
 ghost use Prim.Native.Nat.{_*_, _/_, _%_, _^_, _≤_, _<_};
 ghost use lib.ListN.{length};
 ghost use Rattle.rules.specs.Bytes.{number};
 ghost use Rattle.rules.proofs.calls.Bytes.{AreBytes};
-ghost use Rattle.recoding.specs.Recoded.{Raised, Recoded};
+ghost use Rattle.recoding.specs.Recoded.{Risen, Counted, Recoded};
 
 // The signed digits of a scalar of up to 32 bytes, the lowest first, each kept as the number one above it; how many there are, and how many of them are nonzero.
 pub struct Digits {
@@ -25,15 +25,45 @@ fn bit(s: &[u8], k: usize) -> u8
     0
 }
 
-// The length with digit k, which is nonzero where its bit and carry come to 1.
-fn raised(length: usize, k: usize, t: u8) -> usize
-    requires { ⌜ k < 257 ⌝ }
-    ensures { λ r. ⌜ Raised length k t r ⌝ }
+// Where the highest one of 3n stands, with t read from bit k on: t holds a byte of 3n and what is carried from it.
+fn risen(old: usize, k: usize, t: u16) -> usize
+    requires { ⌜ k ≤ 256 ⌝ }
+    ensures { λ r. ⌜ Risen old k t r ⌝ }
 {
-    if t == 1 {
-        return k + 1;
+    if t == 0 {
+        return old;
     }
-    length
+    k + (15 - u16::leading_zeros(t)) as usize
+}
+
+// How many digits the non-adjacent form of a scalar has, and how many of them are nonzero: it has as many as stand below the highest one of 3n, and the nonzero ones are the ones of 3n xor n.
+struct Counts {
+    length: usize,
+    nonzeros: u64,
+}
+
+impl Counts {
+    fn of(s: &[u8]) -> Counts
+        requires { ⌜ length (now s) ≤ 32 ⌝ }
+        ensures { λ r. ⌜ Counted (number (now (s .entry))) r ⌝ }
+    {
+        let mut carry: u16 = 0;
+        let mut length: usize = 0;
+        let mut nonzeros: u64 = 0;
+        let mut i = s.len();
+        while i > 0 {
+            let b = s[i - 1] as u16;
+            let t = 3 * b + carry;
+            length = risen(length, 8 * (s.len() - i), t);
+            nonzeros += u16::count_ones((t % 256) ^ b) as u64;
+            carry = t / 256;
+            i -= 1;
+        }
+        Counts {
+            length: length,
+            nonzeros: nonzeros + u16::count_ones(carry) as u64,
+        }
+    }
 }
 
 impl Digits {
@@ -42,26 +72,23 @@ impl Digits {
         requires { ⌜ length (now s) ≤ 32 ⌝ }
         ensures { λ r. ⌜ Recoded (number (now (s .entry))) r ⌝ }
     {
+        let counts = Counts::of(s);
         let mut at: [u8; 257] = [1; 257];
         let end = 8 * s.len() + 1;
         let mut next = bit(s, 0);
         let mut carry: u8 = 0;
-        let mut length: usize = 0;
-        let mut nonzeros: u64 = 0;
         let mut k: usize = 0;
         while k < end {
             let t = next + carry;
             next = bit(s, k + 1);
             carry = (t + next) / 2;
             at[k] = t + 1 - 2 * carry;
-            length = raised(length, k, t);
-            nonzeros += (t % 2) as u64;
             k += 1;
         }
         Digits {
             at: at,
-            length: length,
-            nonzeros: nonzeros,
+            length: counts.length,
+            nonzeros: counts.nonzeros,
         }
     }
 }
