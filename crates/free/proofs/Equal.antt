@@ -1,4 +1,4 @@
--- Equal quotients give equal answers, on any tuples with Z ≠ 0. Gives `same-sum` and `same-double`: where the answer of one has Z ≠ 0 so has that of the other, and both have one plain form.
+-- Equal quotients give equal answers, on any tuples with Z ≠ 0. Gives `same-sum`, `same-mixed` and `same-double`: where the answer of one has Z ≠ 0 so has that of the other, and both have one plain form.
 use mathlib.Core.Path.{_≡_, refl, sym, ap, _∙_, subst}
 use mathlib.Core.Logic.{_≢_}
 use mathlib.Core.List.{[], _∷_}
@@ -16,7 +16,7 @@ use Rattle.field.proofs.Laws.{residue-field}
 use Rattle.divisor.specs.declared.Quadratic.{Quadratic}
 use Rattle.divisor.specs.declared.Divisor.the-variants.{Two}
 use Rattle.free.specs.declared.Tuple.{Tuple}
-use Rattle.free.specs.Tuples.{K, Over, Quotients, Tabled, last, Added, Doubled, Divided}
+use Rattle.free.specs.Tuples.{K, Over, Quotients, Tabled, last, Added, Mixed, Doubled, Divided}
 use Rattle.free.proofs.Plain.{same-plain}
 
 module _ (F : CRing) where
@@ -82,6 +82,9 @@ module _ (m : Modulus) (good : Good m) where
   fourth : (z : A) → z ≢ 𝟘 → z * z * z * z ≢ 𝟘
   fourth z h = product (z * z * z) z (product (z * z) z (product z z h h) h) h
 
+  third : (z : A) → z ≢ 𝟘 → z * z * z ≢ 𝟘
+  third z h = product (z * z) z (product z z h h) h
+
   scale-add : (x y : A) → x ≢ 𝟘 → y ≢ 𝟘 → x * y * (x * y) * y ≢ 𝟘
   scale-add x y hx hy = product (x * y * (x * y)) y (product (x * y) (x * y) (product x y hx hy) (product x y hx hy)) hy
 
@@ -102,6 +105,15 @@ module _ (m : Modulus) (good : Good m) where
           (product (el m (a' .z)) (el m (b' .z)) (qa' .nonzero) (qb' .nonzero)) (scale-add (el m (a' .z)) (el m (b' .z)) (qa' .nonzero) (qb' .nonzero))
           (λ e'. nz (h .z-is (qa .a0) (qa .a1) (qa .c0) (qa .c1) (qb .a0) (qb .a1) (qb .c0) (qb .c1) (qa .over) (qb .over) ∙ e'))
           (sym (h' .z-is (qa .a0) (qa .a1) (qa .c0) (qa .c1) (qb .a0) (qb .a1) (qb .c0) (qb .c1) (over-at a a' x qa qa') (over-at b b' y qb qb')) ∙ e)
+
+  -- the engine's own sum, where the second one is plain
+  pub same-mixed : (f4 : Residue) (a : Tuple) (b : Quadratic) (r a' r' : Tuple) → Mixed m f4 a b r → Mixed m f4 a' b r' → (x : P) → Quotients m a x → Quotients m a' x → el m (r .z) ≢ 𝟘 → Alike r r'
+  same-mixed f4 a b r a' r' h h' x qa qa' nz = record { nonzero = nz'; plain = one-plain (el m f4) _ _ _ _ _ _ _ _ _ r r' nz nz' (h .table nz _ _ _ _ (qa .over)) (h' .table nz' _ _ _ _ (over-at a a' x qa qa')) }
+    where
+      nz' : el m (r' .z) ≢ 𝟘
+      nz' e = last-ne (el m (a .z)) (el m (a .z) * el m (a .z) * el m (a .z)) (el m (a' .z)) (el m (a' .z) * el m (a' .z) * el m (a' .z)) _ _ (qa' .nonzero) (third (el m (a' .z)) (qa' .nonzero))
+          (λ e'. nz (h .z-is (qa .a0) (qa .a1) (qa .c0) (qa .c1) (qa .over) ∙ e'))
+          (sym (h' .z-is (qa .a0) (qa .a1) (qa .c0) (qa .c1) (over-at a a' x qa qa')) ∙ e)
 
   pub same-double : (f2 f3 f4 : Residue) (a r a' r' : Tuple) → Doubled m f2 f3 f4 a r → Doubled m f2 f3 f4 a' r' → (x : P) → Quotients m a x → Quotients m a' x → el m (r .z) ≢ 𝟘 → Alike r r'
   same-double f2 f3 f4 a r a' r' h h' x qa qa' nz = record { nonzero = nz'; plain = one-plain (el m f4) _ _ _ _ _ _ _ _ _ r r' nz nz' (h .table nz _ _ _ _ (qa .over)) (h' .table nz' _ _ _ _ (over-at a a' x qa qa')) }

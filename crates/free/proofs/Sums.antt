@@ -154,6 +154,9 @@ module _ (m : Modulus) (good : Good m) where
   mixed-is f4 a b p hp r hr = record {
     kept = hr .kept;
     settled = hr .settled;
+    z-is = λ a0 a1 c0 c1 ha. hr .z-is (el m (b .u0)) (el m (b .u1)) (el m (b .v0)) (el m (b .v1)) a0 a1 c0 c1 ha (at (hp .z-is) ha) (at (hp .z-is) (hp .is))
+        ∙ ap (λ (y : A). last m y (y * y * el m (a .z)) (r2 (modulo (m .p)) (el m (b .u0)) (el m (b .u1)) (el m (b .v0)) (el m (b .v1)) a0 a1 c0 c1) (top2 (modulo (m .p)) (el m (b .u0)) (el m (b .u1)) (el m (b .v0)) (el m (b .v1)) a0 a1 c0 c1)) (ap (el m) (hp .z-is));
+    table = λ nz a0 a1 c0 c1 ha. hr .table nz (el m (b .u0)) (el m (b .u1)) (el m (b .v0)) (el m (b .v1)) a0 a1 c0 c1 ha (at (hp .z-is) ha) (at (hp .z-is) (hp .is));
     is = λ nz x qx f0 f1 f2 f3 ok vx vb.
         let E : Curve = curve2 m f0 f1 f2 f3 (el m f4) in
         moved (sum-comm E ok x (pair m (Two b)) vx vb ∙ ap (sum E (pair m (Two b))) (qx .is)) (summed (el m f4) f0 f1 f2 f3 (el m (b .u0)) (el m (b .u1)) (el m (b .v0)) (el m (b .v1)) (qx .a0) (qx .a1) (qx .c0) (qx .c1) r nz

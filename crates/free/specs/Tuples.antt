@@ -83,10 +83,14 @@ module _ (m : Modulus) where
         → (f0 f1 f2 f3 : A) → Accepted (curve2 f0 f1 f2 f3 (el m f4)) → Valid (curve2 f0 f1 f2 f3 (el m f4)) x → Valid (curve2 f0 f1 f2 f3 (el m f4)) y
         → Quotients r (sum (curve2 f0 f1 f2 f3 (el m f4)) x y)
 
-  -- the same where the second one is plain
+  -- the same where the second one is plain: it is the base of the table
   pub record Mixed (f4 : Residue) (a : Tuple) (b : Quadratic) (r : Tuple) : Type 0 where
     pub kept : KeptTuple r
     pub settled : Settled m (r .z)
+    pub z-is : (a0 a1 c0 c1 : A) → Over (el m (a .z)) a a0 a1 c0 c1
+        → el m (r .z) ≡ last (el m (a .z)) (el m (a .z) * el m (a .z) * el m (a .z)) (r2 (modulo (m .p)) (el m (b .u0)) (el m (b .u1)) (el m (b .v0)) (el m (b .v1)) a0 a1 c0 c1) (top2 (modulo (m .p)) (el m (b .u0)) (el m (b .u1)) (el m (b .v0)) (el m (b .v1)) a0 a1 c0 c1)
+    pub table : el m (r .z) ≢ K .zer → (a0 a1 c0 c1 : A) → Over (el m (a .z)) a a0 a1 c0 c1
+        → Tabled (el m f4) (r2 (modulo (m .p)) (el m (b .u0)) (el m (b .u1)) (el m (b .v0)) (el m (b .v1)) a0 a1 c0 c1) (top2 (modulo (m .p)) (el m (b .u0)) (el m (b .u1)) (el m (b .v0)) (el m (b .v1)) a0 a1 c0 c1) (low2 (modulo (m .p)) (el m (b .u0)) (el m (b .u1)) (el m (b .v0)) (el m (b .v1)) a0 a1 c0 c1) (el m (b .u0)) (el m (b .u1)) (el m (b .v0)) (el m (b .v1)) a0 a1 r
     pub is : el m (r .z) ≢ K .zer → (x : Pair (modulo (m .p))) → Quotients a x
         → (f0 f1 f2 f3 : A) → Accepted (curve2 f0 f1 f2 f3 (el m f4)) → Valid (curve2 f0 f1 f2 f3 (el m f4)) x → Valid (curve2 f0 f1 f2 f3 (el m f4)) (pair m (Two b))
         → Quotients r (sum (curve2 f0 f1 f2 f3 (el m f4)) x (pair m (Two b)))
