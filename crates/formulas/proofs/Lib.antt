@@ -3,6 +3,8 @@ pub mod Turns
 pub mod Lists
 pub mod Formula
 pub mod Opened
+pub mod Coprime
+pub mod Coprime3
 pub mod Genus2
 pub mod Open3
 pub mod Close3

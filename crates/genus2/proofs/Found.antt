@@ -54,6 +54,7 @@ module _ (m : Modulus) where
   opens good a b x hx apart c hc s hs = record {
     ready = record { r = hx .settled; i = hx .eased .i; c0 = hs .c0; c1 = hs .c1 };
     apart = apart;
+    none = hx .none;
     through = λ nz fE. opened (K m) fE (ux m a) (vx m a) (ux m b) (vx m b) (lo m c) (lo m (x .i)) (hx .j) (hs .q) (lo m s) (el m (x .r)) (residue-field m good .arith .inv (el m (x .r)))
         (residue-field m good .mul-inv (el m (x .r)) nz) (hx .is) (hc .is) (hs .is);
   }
@@ -63,6 +64,7 @@ module _ (m : Modulus) where
   unfolding pair
   opens-twice good f2 f3 f4 a x hx c hc s hs = record {
     ready = record { r = hx .settled; i = hx .eased .i; c0 = hs .c0; c1 = hs .c1 };
+    none = hx .none;
     through = λ nz f0 f1 va. opened-twice (curve m f4 f0 f1 (el m f2) (el m f3)) (pair m (Two a)) va (hc .q) (lo m c) (lo m (x .i)) (hx .j) (hs .q) (lo m s) (el m (x .r))
         (residue-field m good .arith .inv (el m (x .r))) (residue-field m good .mul-inv (el m (x .r)) nz) (hx .is) (hc .tops f0 f1) (hs .is);
   }

@@ -20,9 +20,10 @@ use Rattle.divisor.specs.declared.Divisor.the-variants.{Two}
 use Rattle.divisor.specs.Divisors.{Held, pair}
 use Rattle.formulas.specs.declared.Sought.{Sought}
 use Rattle.formulas.specs.declared.Sought.the-variants.{Found, Special}
+use Rattle.formulas.specs.Conditions.{Coprime, Unfit}
 use Rattle.formulas.proofs.Opened.{Through}
 use Rattle.genus2.specs.declared.Opened.{Opened}
-use Rattle.steps2.specs.Steps.{K, KeptDuo, Apart, lo, ux, vx}
+use Rattle.steps2.specs.Steps.{K, KeptDuo, Apart, lo, ux, vx, twice}
 
 module _ (m : Modulus) where
   open CRing (K m) using (El as A, zer as 𝟘)
@@ -50,10 +51,12 @@ module _ (m : Modulus) where
   pub record Opens (a b : Quadratic) (o : Opened) : Type 0 where
     pub ready : Ready o
     pub apart : Apart m a b (o .i)
+    pub none : el m (o .r) ≡ 𝟘 → Coprime (K m) (ux m a) (ux m b) → ⊥
     pub through : el m (o .r) ≢ 𝟘 → (fE : P) → Composing fE a b o
 
   pub record OpensTwice (f2 f3 f4 : Residue) (a : Quadratic) (o : Opened) : Type 0 where
     pub ready : Ready o
+    pub none : el m (o .r) ≡ 𝟘 → Coprime (K m) (twice m a) (ux m a) → ⊥
     pub through : el m (o .r) ≢ 𝟘 → (f0 f1 : A) → Valid (curve f4 f0 f1 (el m f2) (el m f3)) (pair m (Two a)) → Composing (f (curve f4 f0 f1 (el m f2) (el m f3))) a a o
 
   -- d is held, and is the sum of both on every such curve that has them, where what was opened is their composition
@@ -73,11 +76,11 @@ module _ (m : Modulus) where
     pub is : (f0 f1 : A) → Accepted (curve f4 f0 f1 (el m f2) (el m f3)) → Valid (curve f4 f0 f1 (el m f2) (el m f3)) (pair m (Two a))
         → sum (curve f4 f0 f1 (el m f2) (el m f3)) (pair m (Two a)) (pair m (Two a)) ≡ pair m d
 
-  -- where nothing is found nothing is promised
+  -- where nothing is found the two u, or 2v and u, aren't coprime: a slope of any degree is taken
   abbrev pub Sum2 : Residue → Quadratic → Quadratic → Sought → Type 0
   Sum2 f4 a b (Found d) = IsSum f4 a b d
-  Sum2 f4 a b Special = Unit {0}
+  Sum2 f4 a b Special = Unfit m (ux m a) (ux m b) ⊥
 
   abbrev pub Double2 : Residue → Residue → Residue → Quadratic → Sought → Type 0
   Double2 f2 f3 f4 a (Found d) = IsDouble f2 f3 f4 a d
-  Double2 f2 f3 f4 a Special = Unit {0}
+  Double2 f2 f3 f4 a Special = Unfit m (twice m a) (ux m a) ⊥

@@ -13,6 +13,9 @@ use Rattle.opens3.specs.Opens.{SettledOpened}
 use Rattle.genus3.specs.Steps.{Divisible}
 
 module _ (m : Modulus) (good : Good m) (o : Opened) (h : SettledOpened m o) where
+  pub told : {k k' : Condition} → k ≡ k' → Looked m (o .r) (o .s .c2) k → Looked m (o .r) (o .s .c2) k'
+  told e h = subst (λ (t : Condition). Looked m (o .r) (o .s .c2) t) e h
+
   pub taken : (k : Condition) → Looked m (o .r) (o .s .c2) k → k ≡ Main → HasInverse m (o .r) × HasInverse m (o .s .c2)
   taken k l e =
       let n : Looked m (o .r) (o .s .c2) Main = subst (λ (x : Condition). Looked m (o .r) (o .s .c2) x) e l in

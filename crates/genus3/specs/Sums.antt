@@ -1,5 +1,6 @@
 -- Genus 3: what a sum by formula promises, of every curve with these coefficients that accepts the divisors: the rule's sum, where it finds one.
 use mathlib.Core.Path.{_≡_}
+use mathlib.Core.Logic.{_≢_}
 use Rattle.algebra.proofs.zmod.Zmod.{zmod}
 use Rattle.rules.specs.Curve.{f}
 use Rattle.rules.specs.Pair.{Valid}
@@ -14,8 +15,9 @@ use Rattle.divisor.specs.declared.Divisor.the-variants.{Three}
 use Rattle.divisor.specs.Divisors.{Held, pair}
 use Rattle.formulas.specs.declared.Sought.{Sought}
 use Rattle.formulas.specs.declared.Sought.the-variants.{Found, Special}
+use Rattle.formulas.specs.Conditions.{Unfit}
 use Rattle.opens3.specs.declared.Opened.{Opened}
-use Rattle.opens3.specs.Opens.{curveWith, Joins}
+use Rattle.opens3.specs.Opens.{curveWith, uOf, twice, Joins, Opens, OpensTwice}
 
 module _ (m : Modulus) where
   abbrev A : Type 0
@@ -32,9 +34,23 @@ module _ (m : Modulus) where
     pub is : (g0 g1 g2 g3 : A) → Accepted (curveWith m f4 f5 f6 g0 g1 g2 g3) → Valid (curveWith m f4 f5 f6 g0 g1 g2 g3) (pair m (Three a)) → Valid (curveWith m f4 f5 f6 g0 g1 g2 g3) (pair m (Three b))
         → sum (curveWith m f4 f5 f6 g0 g1 g2 g3) (pair m (Three a)) (pair m (Three b)) ≡ pair m d
 
+  -- the slope s'/r of two pairs, or of one with itself, has degree below 2: r isn't 0, and the top of s' is
+  pub record Short (a b : Cubic) : Type 0 where
+    pub o : Opened
+    pub opens : Opens m a b o
+    pub nonzero : el m (o .r) ≢ zmod (m .p) .zer
+    pub top : el m (o .s .c2) ≡ zmod (m .p) .zer
+
+  pub record ShortTwice (f3 f4 f5 f6 : Residue) (a : Cubic) : Type 0 where
+    pub o : Opened
+    pub opens : OpensTwice m f3 f4 f5 f6 a o
+    pub nonzero : el m (o .r) ≢ zmod (m .p) .zer
+    pub top : el m (o .s .c2) ≡ zmod (m .p) .zer
+
+  -- where nothing is found the two u, or 2v and u, aren't coprime, or the slope is short
   abbrev pub Sum3 : Residue → Residue → Residue → Cubic → Cubic → Sought → Type 0
   Sum3 f4 f5 f6 a b (Found d) = Found3 f4 f5 f6 a b d
-  Sum3 f4 f5 f6 a b Special = Unit {0}
+  Sum3 f4 f5 f6 a b Special = Unfit m (uOf m a) (uOf m b) (Short a b)
 
   pub record Twice3 (f3 f4 f5 f6 : Residue) (a : Cubic) (d : Divisor) : Type 0 where
     pub held : Held m d
@@ -43,4 +59,4 @@ module _ (m : Modulus) where
 
   abbrev pub Double3 : Residue → Residue → Residue → Residue → Cubic → Sought → Type 0
   Double3 f3 f4 f5 f6 a (Found d) = Twice3 f3 f4 f5 f6 a d
-  Double3 f3 f4 f5 f6 a Special = Unit {0}
+  Double3 f3 f4 f5 f6 a Special = Unfit m (twice m a) (uOf m a) (ShortTwice f3 f4 f5 f6 a)

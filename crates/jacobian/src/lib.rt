@@ -4,7 +4,7 @@ ghost use Rattle.rules.specs.Sum.{sum, double};
 ghost use Rattle.rules.specs.Pair.{opposite};
 ghost use Rattle.divisor.specs.Divisors.{pair};
 ghost use Rattle.curve.specs.Curves.{curveOf, Sound, Holds, Gives};
-ghost use Rattle.jacobian.specs.Tries.{Tried};
+ghost use Rattle.jacobian.specs.Tries.{UnfitSum, UnfitDouble, Tried};
 use curve::Curve;
 use divisor::Cubic;
 use divisor::Divisor;
@@ -14,7 +14,7 @@ use formulas::Sought;
 // By formula: genus 2 and weight 2.
 fn quick_two(c: Curve, a: Quadratic, b: Quadratic) -> Sought
     requires { ⌜ Sound c × (Holds c (Divisor.Two a) × Holds c (Divisor.Two b)) ⌝ }
-    ensures { λ r. ⌜ Tried c (sum (curveOf c) (pair (c .m) (Divisor.Two a)) (pair (c .m) (Divisor.Two b))) r ⌝ }
+    ensures { λ r. ⌜ Tried c (UnfitSum c (Divisor.Two a) (Divisor.Two b)) (sum (curveOf c) (pair (c .m) (Divisor.Two a)) (pair (c .m) (Divisor.Two b))) r ⌝ }
 {
     let m = c.m;
     let g = c.g;
@@ -26,7 +26,7 @@ fn quick_two(c: Curve, a: Quadratic, b: Quadratic) -> Sought
 
 fn twice_two(c: Curve, a: Quadratic) -> Sought
     requires { ⌜ Sound c × Holds c (Divisor.Two a) ⌝ }
-    ensures { λ r. ⌜ Tried c (sum (curveOf c) (pair (c .m) (Divisor.Two a)) (pair (c .m) (Divisor.Two a))) r ⌝ }
+    ensures { λ r. ⌜ Tried c (UnfitDouble c (Divisor.Two a)) (sum (curveOf c) (pair (c .m) (Divisor.Two a)) (pair (c .m) (Divisor.Two a))) r ⌝ }
 {
     let m = c.m;
     let g = c.g;
@@ -39,14 +39,14 @@ fn twice_two(c: Curve, a: Quadratic) -> Sought
 // By formula: weight 3, so genus 3.
 fn quick_three(c: Curve, a: Cubic, b: Cubic) -> Sought
     requires { ⌜ Sound c × (Holds c (Divisor.Three a) × Holds c (Divisor.Three b)) ⌝ }
-    ensures { λ r. ⌜ Tried c (sum (curveOf c) (pair (c .m) (Divisor.Three a)) (pair (c .m) (Divisor.Three b))) r ⌝ }
+    ensures { λ r. ⌜ Tried c (UnfitSum c (Divisor.Three a) (Divisor.Three b)) (sum (curveOf c) (pair (c .m) (Divisor.Three a)) (pair (c .m) (Divisor.Three b))) r ⌝ }
 {
     genus3::add(a, b, c.f4, c.f5, c.f6, c.m)
 }
 
 fn twice_three(c: Curve, a: Cubic) -> Sought
     requires { ⌜ Sound c × Holds c (Divisor.Three a) ⌝ }
-    ensures { λ r. ⌜ Tried c (sum (curveOf c) (pair (c .m) (Divisor.Three a)) (pair (c .m) (Divisor.Three a))) r ⌝ }
+    ensures { λ r. ⌜ Tried c (UnfitDouble c (Divisor.Three a)) (sum (curveOf c) (pair (c .m) (Divisor.Three a)) (pair (c .m) (Divisor.Three a))) r ⌝ }
 {
     genus3::double(a, c.f3, c.f4, c.f5, c.f6, c.m)
 }
@@ -54,7 +54,7 @@ fn twice_three(c: Curve, a: Cubic) -> Sought
 // Both of one weight that a formula takes, or nothing to add.
 fn quick_sum(c: Curve, a: Divisor, b: Divisor) -> Sought
     requires { ⌜ Sound c × (Holds c a × Holds c b) ⌝ }
-    ensures { λ r. ⌜ Tried c (sum (curveOf c) (pair (c .m) a) (pair (c .m) b)) r ⌝ }
+    ensures { λ r. ⌜ Tried c (UnfitSum c a b) (sum (curveOf c) (pair (c .m) a) (pair (c .m) b)) r ⌝ }
 {
     match a {
         Divisor::Neutral => Sought::Found(b),
@@ -80,7 +80,7 @@ fn quick_sum(c: Curve, a: Divisor, b: Divisor) -> Sought
 
 fn quick_double(c: Curve, a: Divisor) -> Sought
     requires { ⌜ Sound c × Holds c a ⌝ }
-    ensures { λ r. ⌜ Tried c (sum (curveOf c) (pair (c .m) a) (pair (c .m) a)) r ⌝ }
+    ensures { λ r. ⌜ Tried c (UnfitDouble c a) (sum (curveOf c) (pair (c .m) a) (pair (c .m) a)) r ⌝ }
 {
     match a {
         Divisor::Neutral => Sought::Special,

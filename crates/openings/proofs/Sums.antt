@@ -31,9 +31,12 @@ use Rattle.openings.specs.declared.Opening.the-variants.{Special}
 use Rattle.openings.specs.Openings.{FromTwo, Two?, Three?, Fit, under, Undoes, Opened, Under}
 
 -- r and top, by what `look` saw
+pub looked-known : (m : Modulus) (r top : Residue) {k k' : Condition} → k ≡ k' → Looked m r top k → Looked m r top k'
+looked-known m r top e l = subst (λ (x : Condition). Looked m r top x) e l
+
 pub both-units : (m : Modulus) → Good m → (r top : Residue) → Settled m r → Settled m top → (k : Condition) → Looked m r top k → k ≡ Main → HasInverse m r × HasInverse m top
 both-units m good r top hr ht k l e =
-    let n : Looked m r top Main = subst (λ (x : Condition). Looked m r top x) e l in
+    let n : Looked m r top Main = looked-known m r top e l in
     (record { good = good; kept = settled-kept m hr; nonzero = n .0 }, record { good = good; kept = settled-kept m ht; nonzero = n .1 })
 
 module _ (c : Curve) (h : Sound c) where

@@ -1,6 +1,7 @@
 -- A sum of two divisors opened: which two it was opened from, that what it divides by has an inverse, and what that is.
 use Prim.Native.Nat.{ℕ}
 use mathlib.Core.Path.{_≡_}
+use mathlib.Core.Logic.{_≢_, _⊎_}
 use Rattle.algebra.proofs.ring.CRing.{CRing}
 use Rattle.algebra.proofs.zmod.Zmod.{zmod}
 use Rattle.field.specs.declared.Modulus.{Modulus}
@@ -15,6 +16,7 @@ use Rattle.genus2.specs.Sums.{Opens as Opens2}
 use Rattle.opens3.specs.declared.Opened.{Opened as Opened3}
 use Rattle.opens3.specs.Opens.{Opens as Opens3}
 use Rattle.curve.specs.declared.Curve.{Curve}
+use Rattle.jacobian.specs.Tries.{UnfitSum}
 use Rattle.openings.specs.declared.Opening.{Opening}
 use Rattle.openings.specs.declared.Opening.the-variants.{Special, ByTwo, ByThree}
 
@@ -43,8 +45,16 @@ module _ (c : Curve) where
   Three? (Three x) (Two y) o = ⊥
   Three? (Three x) (Three y) o = Opens3 (c .m) x y o
 
+  -- genus 2, the slope is short: its formula has an inverse of its own
+  pub record ShortTwo (a b : Divisor) : Type 0 where
+    pub o : Opened2
+    pub opens : Two? a b o
+    pub nonzero : el (c .m) (o .r) ≢ zmod (c .m .p) .zer
+    pub top : el (c .m) (o .s .c1) ≡ zmod (c .m .p) .zer
+
+  -- nothing is opened only where no formula is to be taken, or that one
   abbrev pub From : Divisor → Divisor → Opening → Type 0
-  From a b Special = Unit {0}
+  From a b Special = UnfitSum c a b ⊎ ShortTwo a b
   From a b (ByTwo o) = Two? a b o
   From a b (ByThree o) = Three? a b o
 

@@ -12,6 +12,7 @@ use Rattle.algebra.proofs.list.Value.{pol, mon}
 use Rattle.algebra.proofs.ideal.Composed.{Composed}
 use Rattle.rules.specs.Curve.{Curve, f}
 use Rattle.rules.specs.Pair.{Valid}
+use Rattle.formulas.specs.Conditions.{Coprime}
 use Rattle.field.specs.declared.Modulus.{Modulus}
 use Rattle.field.specs.declared.Residue.{Residue}
 use Rattle.field.specs.Residues.{el, Kept, Settled}
@@ -74,12 +75,13 @@ module _ (m : Modulus) where
     pub i0 : Kept m (x .i0)
     pub low : el m (x .i0) ≡ el m (b .u1) * el m (x .e2) + el m (b .u2) * el m (x .e1) + el m (x .e0)
 
-  -- i·h = r modulo u
+  -- i·h = r modulo u; r is 0 only where h isn't coprime to u
   pub record Inverts (h : P) (b : Cubic) (x : Bezout) : Type 0 where
     pub inner-is : Inner b x
     pub settled : Settled m (x .r)
     pub j : P
     pub is : inner b x ⊗ h ⊕ j ⊗ uOf b ≡ C K (el m (x .r))
+    pub none : el m (x .r) ≡ 𝟘 → Coprime K h (uOf b) → ⊥
 
   pub record Gap (a b : Cubic) (c : Tri) : Type 0 where
     pub kept : KeptTri c
@@ -112,9 +114,11 @@ module _ (m : Modulus) where
 
   pub record Opens (a b : Cubic) (o : Opened) : Type 0 where
     pub settled : SettledOpened o
+    pub none : el m (o .r) ≡ 𝟘 → Coprime K (uOf a) (uOf b) → ⊥
     pub joins : el m (o .r) ≢ 𝟘 → (f' : P) → Joins f' a b o
 
   -- on every curve with these f3, f4, f5, f6 that has a
   pub record OpensTwice (f3 f4 f5 f6 : Residue) (a : Cubic) (o : Opened) : Type 0 where
     pub settled : SettledOpened o
+    pub none : el m (o .r) ≡ 𝟘 → Coprime K (twice a) (uOf a) → ⊥
     pub joins : el m (o .r) ≢ 𝟘 → (g0 g1 g2 : A) → Valid (curveWith f4 f5 f6 g0 g1 g2 (el m f3)) (pair m (Three a)) → Joins (f (curveWith f4 f5 f6 g0 g1 g2 (el m f3))) a a o

@@ -7,6 +7,7 @@ use Rattle.algebra.proofs.poly.Bound.{Below}
 use Rattle.algebra.proofs.poly.Poly.{poly, coef}
 use Rattle.algebra.proofs.poly.Term.{C}
 use Rattle.algebra.proofs.list.Value.{pol, mon}
+use Rattle.formulas.specs.Conditions.{Coprime}
 use Rattle.field.specs.declared.Modulus.{Modulus}
 use Rattle.field.specs.declared.Residue.{Residue}
 use Rattle.field.specs.Residues.{el, Kept, Settled, Stands}
@@ -80,12 +81,13 @@ module _ (m : Modulus) where
     pub e : Kept m (x .e)
     pub is : el m (x .i .c0) ≡ el m (b .u1) * el m (x .i .c1) + el m (x .e)
 
-  -- i·h = r modulo u of b
+  -- i·h = r modulo u of b; r is 0 only where h isn't coprime to it
   pub record Inverted (h : P) (b : Quadratic) (x : Bezout) : Type 0 where
     pub eased : Eased b x
     pub settled : Settled m (x .r)
     pub j : P
     pub is : lo (x .i) ⊗ h ⊕ j ⊗ ux b ≡ C K (el m (x .r))
+    pub none : el m (x .r) ≡ 𝟘 → Coprime K h (ux b) → ⊥
 
   -- what i is of two pairs: the new u is found by it too
   pub record Apart (a b : Quadratic) (i : Duo) : Type 0 where

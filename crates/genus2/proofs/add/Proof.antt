@@ -1,3 +1,4 @@
+use mathlib.Core.Logic.{inl}
 use borrow.Author.Needs.{needs}
 use Rattle.divisor.specs.declared.Divisor.the-variants.{One, Two}
 use Rattle.field.proofs.Laws.{settled-kept}
@@ -41,7 +42,7 @@ close-requires c κs = let s = c .before .before .before .before .before .before
     (s .pre .0, (search needs, (x .ensures .ready, (x .ensures .apart, (undoes (s .args .m) (x .result) (c .before .mul .result) (c .inverse2 .result) (c .before .mul .ensures) (c .inverse2 .ensures), s .pre .1 .1)))))
 
 returns : tie.Need-returns
-returns c = search needs
+returns c = let x = c .before .before .before .«open» in inl (x .ensures .none (told (c .before .before .before .before .args .m) (x .result) (c .enum-told .given .1) (c .before .before .look .ensures)))
 
 returns-2 : tie.Need-returns-2
 returns-2 c = let s = c .before .before .before .before .before .before in let x = c .before .before .before .before .before .«open» in

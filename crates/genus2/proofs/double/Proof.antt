@@ -1,3 +1,4 @@
+use mathlib.Core.Logic.{inl}
 use borrow.Author.Needs.{needs}
 use Rattle.divisor.specs.declared.Divisor.the-variants.{One, Two}
 use Rattle.field.proofs.Laws.{settled-kept}
@@ -41,7 +42,7 @@ close-twice-requires c κs = let s = c .before .before .before .before .before .
     (s .pre .0, (x .ensures .ready, (undoes (s .args .m) (x .result) (c .before .mul .result) (c .inverse2 .result) (c .before .mul .ensures) (c .inverse2 .ensures), search needs)))
 
 returns : tie.Need-returns
-returns c = search needs
+returns c = let x = c .before .before .before .open-twice in inl (x .ensures .none (told (c .before .before .before .before .args .m) (x .result) (c .enum-told .given .1) (c .before .before .look .ensures)))
 
 returns-2 : tie.Need-returns-2
 returns-2 c = let s = c .before .before .before .before .before .before in let x = c .before .before .before .before .before .open-twice in

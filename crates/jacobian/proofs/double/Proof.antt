@@ -3,7 +3,7 @@ use Rattle.formulas.specs.declared.Sought.{Sought}
 use Rattle.divisor.specs.Divisors.{pair}
 use Rattle.rules.specs.Sum.{sum}
 use Rattle.curve.specs.Curves.{curveOf}
-use Rattle.jacobian.specs.Tries.{Tried}
+use Rattle.jacobian.specs.Tries.{UnfitDouble, Tried}
 use Rattle.plain.proofs.Sums.{double-gives}
 use borrow.Author.Needs.{needs}
 use Rattle.jacobian.proofs.double.Statement.{statement}
@@ -31,7 +31,7 @@ double-requires c κs = search needs
 
 -- src/lib.rt:113:1
 returns : tie.Need-returns
-returns c = let e = c .before .before .before .before .args .c in double-gives e (c .before .before .before .before .args .a) _ (subst (λ (r : Sought). Tried e (sum (curveOf e) (pair (e .m) (c .before .before .before .before .args .a)) (pair (e .m) (c .before .before .before .before .args .a))) r) (c .before .q .given .1) (c .before .before .before .quick-double .ensures))
+returns c = let e = c .before .before .before .before .args .c in double-gives e (c .before .before .before .before .args .a) _ (subst (λ (r : Sought). Tried e (UnfitDouble e (c .before .before .before .before .args .a)) (sum (curveOf e) (pair (e .m) (c .before .before .before .before .args .a)) (pair (e .m) (c .before .before .before .before .args .a))) r) (c .before .q .given .1) (c .before .before .before .quick-double .ensures))
 
 -- src/lib.rt:113:1
 returns-2 : tie.Need-returns-2

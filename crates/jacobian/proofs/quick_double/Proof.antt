@@ -1,9 +1,8 @@
-use mathlib.Core.Path.{sym, subst}
+use Rattle.formulas.specs.declared.Sought.the-variants.{Special}
+use Rattle.jacobian.proofs.Quicks.{known-twice}
+use mathlib.Core.Path.{subst}
 use Rattle.divisor.specs.declared.Divisor.{Divisor}
-use Rattle.divisor.specs.Divisors.{pair}
-use Rattle.rules.specs.Sum.{sum}
-use Rattle.curve.specs.Curves.{curveOf, Holds}
-use Rattle.jacobian.specs.Tries.{Tried}
+use Rattle.curve.specs.Curves.{Holds}
 use borrow.Author.Needs.{needs}
 use Rattle.jacobian.proofs.quick_double.Statement.{statement}
 use Rattle.jacobian.proofs.quick_double.Tie as tie
@@ -31,16 +30,16 @@ twice-three-requires : tie.Need-twice-three-requires
 twice-three-requires c κs = (c .before .before .before .pre .0, subst (λ (d : Divisor). Holds (c .before .before .before .args .c) d) (c .before .a2 .given .1) (c .before .before .before .pre .1))
 
 returns : tie.Need-returns
-returns c = search needs
+returns c = known-twice (c .before .before .args .c) (c .before .before .args .a) Special (c .enum-told .given .1) tt
 
 returns-2 : tie.Need-returns-2
-returns-2 c = search needs
+returns-2 c = known-twice (c .before .before .args .c) (c .before .before .args .a) Special (c .enum-told2 .given .1) tt
 
 returns-3 : tie.Need-returns-3
-returns-3 c = let e = c .before .before .before .before .args .c in subst (λ (d : Divisor). Tried e (sum (curveOf e) (pair (e .m) d) (pair (e .m) d)) (c .twice-two .result)) (sym (c .before .before .a .given .1)) (c .twice-two .ensures)
+returns-3 c = known-twice (c .before .before .before .before .args .c) (c .before .before .before .before .args .a) (c .twice-two .result) (c .before .before .a .given .1) (c .twice-two .ensures)
 
 returns-4 : tie.Need-returns-4
-returns-4 c = let e = c .before .before .before .before .args .c in subst (λ (d : Divisor). Tried e (sum (curveOf e) (pair (e .m) d) (pair (e .m) d)) (c .twice-three .result)) (sym (c .before .before .a2 .given .1)) (c .twice-three .ensures)
+returns-4 c = known-twice (c .before .before .before .before .args .c) (c .before .before .before .before .args .a) (c .twice-three .result) (c .before .before .a2 .given .1) (c .twice-three .ensures)
 
 pub quick-double-spec : {M : Type 1} → statement M
 quick-double-spec =

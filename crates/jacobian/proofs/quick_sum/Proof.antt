@@ -1,5 +1,6 @@
+use Rattle.formulas.specs.declared.Sought.the-variants.{Special}
 use Rattle.jacobian.proofs.Quicks.{known, neutral-first}
-use mathlib.Core.Path.{sym, subst}
+use mathlib.Core.Path.{refl, subst}
 use Rattle.divisor.specs.declared.Divisor.{Divisor}
 use Rattle.divisor.specs.declared.Divisor.the-variants.{Two, Three}
 use Rattle.divisor.specs.Divisors.{pair}
@@ -60,28 +61,28 @@ returns : tie.Need-returns
 returns c = let s = c .before .before in neutral-first (s .args .c) (s .pre .0) (s .args .a) (s .args .b) (s .pre .1 .1) (c .enum-told .given .1)
 
 returns-2 : tie.Need-returns-2
-returns-2 c = search needs
+returns-2 c = known (c .before .before .args .c) (c .before .before .args .a) (c .before .before .args .b) Special (c .enum-told2 .given .1) refl tt
 
 returns-3 : tie.Need-returns-3
-returns-3 c = search needs
+returns-3 c = known (c .before .before .before .before .before .args .c) (c .before .before .before .before .before .args .a) (c .before .before .before .before .before .args .b) Special (c .before .before .before .a .given .1) (c .enum-told3 .given .1) tt
 
 returns-4 : tie.Need-returns-4
-returns-4 c = search needs
+returns-4 c = known (c .before .before .before .before .before .args .c) (c .before .before .before .before .before .args .a) (c .before .before .before .before .before .args .b) Special (c .before .before .before .a .given .1) (c .enum-told4 .given .1) tt
 
 returns-5 : tie.Need-returns-5
 returns-5 c = known (c .before .before .before .before .before .before .before .args .c) (c .before .before .before .before .before .before .before .args .a) (c .before .before .before .before .before .before .before .args .b) (c .quick-two .result) (c .before .before .before .before .before .a .given .1) (c .before .before .b .given .1) (c .quick-two .ensures)
 
 returns-6 : tie.Need-returns-6
-returns-6 c = search needs
+returns-6 c = known (c .before .before .before .before .before .args .c) (c .before .before .before .before .before .args .a) (c .before .before .before .before .before .args .b) Special (c .before .before .before .a .given .1) (c .enum-told5 .given .1) tt
 
 returns-7 : tie.Need-returns-7
-returns-7 c = search needs
+returns-7 c = known (c .before .before .before .before .before .args .c) (c .before .before .before .before .before .args .a) (c .before .before .before .before .before .args .b) Special (c .before .before .before .a2 .given .1) (c .enum-told6 .given .1) tt
 
 returns-8 : tie.Need-returns-8
-returns-8 c = search needs
+returns-8 c = known (c .before .before .before .before .before .args .c) (c .before .before .before .before .before .args .a) (c .before .before .before .before .before .args .b) Special (c .before .before .before .a2 .given .1) (c .enum-told7 .given .1) tt
 
 returns-9 : tie.Need-returns-9
-returns-9 c = search needs
+returns-9 c = known (c .before .before .before .before .before .args .c) (c .before .before .before .before .before .args .a) (c .before .before .before .before .before .args .b) Special (c .before .before .before .a2 .given .1) (c .enum-told8 .given .1) tt
 
 returns-10 : tie.Need-returns-10
 returns-10 c = known (c .before .before .before .before .before .before .before .args .c) (c .before .before .before .before .before .before .before .args .a) (c .before .before .before .before .before .before .before .args .b) (c .quick-three .result) (c .before .before .before .before .before .a2 .given .1) (c .before .before .b2 .given .1) (c .quick-three .ensures)

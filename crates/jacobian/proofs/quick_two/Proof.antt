@@ -17,7 +17,7 @@ returns c = let s = c .before .before .before in tried-two (s .args .c) (s .pre 
 
 -- src/lib.rt:15:1
 returns-2 : tie.Need-returns-2
-returns-2 c = search needs
+returns-2 c = λ g. absurd (c .if1 .left g)
 
 pub quick-two-spec : {M : Type 1} → statement M
 quick-two-spec = tie.close (tie.spec add-requires returns returns-2)

@@ -3,7 +3,7 @@ use Rattle.formulas.specs.declared.Sought.{Sought}
 use Rattle.divisor.specs.Divisors.{pair}
 use Rattle.rules.specs.Sum.{sum}
 use Rattle.curve.specs.Curves.{curveOf}
-use Rattle.jacobian.specs.Tries.{Tried}
+use Rattle.jacobian.specs.Tries.{UnfitSum, Tried}
 use borrow.Author.Needs.{needs}
 use Rattle.jacobian.proofs.sum.Statement.{statement}
 use Rattle.jacobian.proofs.sum.Tie as tie
@@ -30,7 +30,7 @@ sum-requires c κs = search needs
 
 -- src/lib.rt:102:1
 returns : tie.Need-returns
-returns c = let e = c .before .before .before .before .args .c in subst (λ (r : Sought). Tried e (sum (curveOf e) (pair (e .m) (c .before .before .before .before .args .a)) (pair (e .m) (c .before .before .before .before .args .b))) r) (c .before .q .given .1) (c .before .before .before .quick-sum .ensures)
+returns c = let e = c .before .before .before .before .args .c in subst (λ (r : Sought). Tried e (UnfitSum e (c .before .before .before .before .args .a) (c .before .before .before .before .args .b)) (sum (curveOf e) (pair (e .m) (c .before .before .before .before .args .a)) (pair (e .m) (c .before .before .before .before .args .b))) r) (c .before .q .given .1) (c .before .before .before .quick-sum .ensures)
 
 -- src/lib.rt:102:1
 returns-2 : tie.Need-returns-2

@@ -17,7 +17,7 @@ returns c = let s = c .before .before .before in twice-two (s .args .c) (s .pre 
 
 -- src/lib.rt:27:1
 returns-2 : tie.Need-returns-2
-returns-2 c = search needs
+returns-2 c = λ g. absurd (c .if1 .left g)
 
 pub twice-two-spec : {M : Type 1} → statement M
 twice-two-spec = tie.close (tie.spec double-requires returns returns-2)

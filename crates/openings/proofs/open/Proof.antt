@@ -1,4 +1,6 @@
-use mathlib.Core.Path.{subst}
+use mathlib.Core.Path.{refl, subst}
+use mathlib.Core.Logic.{inl}
+use Rattle.openings.specs.declared.Opening.the-variants.{Special}
 use Rattle.curve.specs.Curves.{Holds}
 use Rattle.openings.proofs.Sums.{opened-of}
 use borrow.Author.Needs.{needs}
@@ -67,19 +69,19 @@ open-three-requires c κs = let s = c .before .before .before .before .before .b
 
 -- src/lib.rt:56:1
 returns : tie.Need-returns
-returns c = search needs
+returns c = opened-of (c .before .before .args .c) (c .enum-told .given .1) refl Special (record { from = inl tt; fit = tt })
 
 -- src/lib.rt:56:1
 returns-2 : tie.Need-returns-2
-returns-2 c = search needs
+returns-2 c = opened-of (c .before .before .args .c) (c .enum-told2 .given .1) refl Special (record { from = inl tt; fit = tt })
 
 -- src/lib.rt:56:1
 returns-3 : tie.Need-returns-3
-returns-3 c = search needs
+returns-3 c = opened-of (c .before .before .before .before .before .args .c) (c .before .before .before .a .given .1) (c .enum-told3 .given .1) Special (record { from = inl tt; fit = tt })
 
 -- src/lib.rt:56:1
 returns-4 : tie.Need-returns-4
-returns-4 c = search needs
+returns-4 c = opened-of (c .before .before .before .before .before .args .c) (c .before .before .before .a .given .1) (c .enum-told4 .given .1) Special (record { from = inl tt; fit = tt })
 
 -- src/lib.rt:56:1
 returns-5 : tie.Need-returns-5
@@ -87,19 +89,19 @@ returns-5 c = let s = c .before .before .before .before .before .before .before 
 
 -- src/lib.rt:56:1
 returns-6 : tie.Need-returns-6
-returns-6 c = search needs
+returns-6 c = opened-of (c .before .before .before .before .before .args .c) (c .before .before .before .a .given .1) (c .enum-told5 .given .1) Special (record { from = inl tt; fit = tt })
 
 -- src/lib.rt:56:1
 returns-7 : tie.Need-returns-7
-returns-7 c = search needs
+returns-7 c = opened-of (c .before .before .before .before .before .args .c) (c .before .before .before .a2 .given .1) (c .enum-told6 .given .1) Special (record { from = inl tt; fit = tt })
 
 -- src/lib.rt:56:1
 returns-8 : tie.Need-returns-8
-returns-8 c = search needs
+returns-8 c = opened-of (c .before .before .before .before .before .args .c) (c .before .before .before .a2 .given .1) (c .enum-told7 .given .1) Special (record { from = inl tt; fit = tt })
 
 -- src/lib.rt:56:1
 returns-9 : tie.Need-returns-9
-returns-9 c = search needs
+returns-9 c = opened-of (c .before .before .before .before .before .args .c) (c .before .before .before .a2 .given .1) (c .enum-told8 .given .1) Special (record { from = inl tt; fit = tt })
 
 -- src/lib.rt:56:1
 returns-10 : tie.Need-returns-10

@@ -1,4 +1,5 @@
-use Rattle.openings.proofs.Sums.{both-units}
+use mathlib.Core.Logic.{inl, inr}
+use Rattle.openings.proofs.Sums.{looked-known, both-units}
 use borrow.Author.Needs.{needs}
 use Rattle.openings.proofs.open_two.Statement.{statement}
 use Rattle.openings.proofs.open_two.Tie as tie
@@ -29,11 +30,24 @@ enum-told-3 c = search needs
 
 -- src/lib.rt:25:1
 returns : tie.Need-returns
-returns c = search needs
+returns c =
+    let o = c .before .before .before .«open» in
+    let k = c .before .before .look in
+    record {
+      from = inl (λ g. inl (o .ensures .none (looked-known (c .before .before .before .before .before .args .c .m) (o .result .r) (o .result .s .c1) (c .enum-told .given .1) (k .ensures))));
+      fit = tt;
+    }
 
 -- src/lib.rt:25:1
 returns-2 : tie.Need-returns-2
-returns-2 c = search needs
+returns-2 c =
+    let o = c .before .before .before .«open» in
+    let k = c .before .before .look in
+    let l = looked-known (c .before .before .before .before .before .args .c .m) (o .result .r) (o .result .s .c1) (c .enum-told2 .given .1) (k .ensures) in
+    record {
+      from = inr (record { o = o .result; opens = record { genus = c .before .before .before .before .if1 .taken; opens = o .ensures }; nonzero = l .0; top = l .1 });
+      fit = tt;
+    }
 
 -- src/lib.rt:25:1
 returns-3 : tie.Need-returns-3
@@ -48,7 +62,7 @@ returns-3 c =
 
 -- src/lib.rt:25:1
 returns-4 : tie.Need-returns-4
-returns-4 c = search needs
+returns-4 c = record { from = inl (λ g. absurd (c .if1 .left g)); fit = tt }
 
 pub open-two-spec : {M : Type 1} → statement M
 open-two-spec =

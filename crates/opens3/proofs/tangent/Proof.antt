@@ -1,6 +1,7 @@
 use mathlib.Core.Path.{refl, ap₂, _∙_}
 use Rattle.algebra.proofs.zmod.Zmod.{zmod}
-use Rattle.field.proofs.Laws.{settled-kept}
+use Rattle.field.proofs.Laws.{residue-field, settled-kept}
+use Rattle.formulas.proofs.Coprime3.{square-none, r3-none-twice}
 use Rattle.formulas.proofs.Open3.{tangent-is}
 use Rattle.opens3.proofs.tangent.Statement.{statement}
 use Rattle.opens3.proofs.tangent.Tie as tie
@@ -48,20 +49,22 @@ returns : tie.Need-returns
 returns c =
     let s = c .before .before .before .before .before .before .before .before .before .before .before .before .before in
     let K = zmod (s .args .m .p) in
+    let h1 = c .before .before .before .before .before .before .before .before .before .before .before .before .cross .ensures .is in
+    let h2 = c .before .before .before .before .before .before .before .before .before .before .before .cross2 .ensures .is in
+    let h3 = c .before .before .before .before .before .before .before .before .before .add .ensures .is ∙ ap₂ (K .add) (c .before .before .before .before .before .before .before .before .before .before .cross3 .ensures .is) refl in
+    let h4 = c .before .before .before .before .before .before .before .before .cross4 .ensures .is in
+    let h5 = c .before .before .before .before .before .before .before .cross5 .ensures .is in
+    let h6 = c .before .before .before .before .before .before .cross6 .ensures .is in
+    let h7 = c .before .before .before .before .add2 .ensures .is ∙ ap₂ (K .add) (c .before .before .before .before .before .dot .ensures .is) refl in
+    let h8 = c .before .before .cross7 .ensures .is ∙ ap₂ (λ s t. K .add s (K .neg t)) refl (ap₂ (K .mul) refl (c .before .before .before .dot2 .ensures .is)) in
+    let h9 = c .settle .ensures .is ∙ (c .before .dbl .ensures .is) in
+    let is = tangent-is K _ _ _ _ _ _ _ _ _ _ _ _ _ _ _ h1 h2 h3 h4 h5 h6 h7 h8 h9 in
     record {
       inner-is = record { e0 = c .before .before .before .before .before .before .cross6 .ensures .kept; e1 = c .before .before .before .before .before .before .before .cross5 .ensures .kept; e2 = c .before .before .before .before .before .before .before .before .cross4 .ensures .kept; i0 = c .before .before .before .before .add2 .ensures .kept; low = (c .before .before .before .before .add2 .ensures .is ∙ ap₂ (K .add) (c .before .before .before .before .before .dot .ensures .is) refl) };
       settled = c .settle .ensures .settled;
       j = _;
-      is = tangent-is K _ _ _ _ _ _ _ _ _ _ _ _ _ _ _
-          (c .before .before .before .before .before .before .before .before .before .before .before .before .cross .ensures .is)
-          (c .before .before .before .before .before .before .before .before .before .before .before .cross2 .ensures .is)
-          (c .before .before .before .before .before .before .before .before .before .add .ensures .is ∙ ap₂ (K .add) (c .before .before .before .before .before .before .before .before .before .before .cross3 .ensures .is) refl)
-          (c .before .before .before .before .before .before .before .before .cross4 .ensures .is)
-          (c .before .before .before .before .before .before .before .cross5 .ensures .is)
-          (c .before .before .before .before .before .before .cross6 .ensures .is)
-          (c .before .before .before .before .add2 .ensures .is ∙ ap₂ (K .add) (c .before .before .before .before .before .dot .ensures .is) refl)
-          (c .before .before .cross7 .ensures .is ∙ ap₂ (λ s t. K .add s (K .neg t)) refl (ap₂ (K .mul) refl (c .before .before .before .dot2 .ensures .is)))
-          (c .settle .ensures .is ∙ (c .before .dbl .ensures .is));
+      is = is;
+      none = λ z. r3-none-twice K (residue-field (s .args .m) (s .pre .good) .one-ne) (square-none (residue-field (s .args .m) (s .pre .good))) _ _ _ _ _ _ _ _ _ _ _ _ _ _ _ h1 h2 h3 h4 h5 h6 h7 is z;
     }
 
 pub tangent-spec : {M : Type 1} → statement M

@@ -1,6 +1,7 @@
 use mathlib.Core.Path.{refl, ap, ap₂, _∙_}
 use Rattle.algebra.proofs.zmod.Zmod.{zmod}
-use Rattle.field.proofs.Laws.{settled-kept}
+use Rattle.field.proofs.Laws.{residue-field, settled-kept}
+use Rattle.formulas.proofs.Coprime.{r2-none}
 use Rattle.formulas.proofs.Genus2.{invert2-is}
 use Rattle.steps2.proofs.invert.Statement.{statement}
 use Rattle.steps2.proofs.invert.Tie as tie
@@ -27,19 +28,23 @@ settle-requires : tie.Need-settle-requires
 settle-requires c κs = c .dot .ensures .kept
 
 returns : tie.Need-returns
-returns c = let s = c .before .before .before .before .before .before .before in let K = zmod (s .args .m .p) in (
-  record {
-    eased = record { i = record { c0 = c .before .before .before .add .ensures .kept; c1 = c .before .before .before .before .before .before .sub .ensures .kept }; e = c .before .before .before .before .before .sub2 .ensures .kept; is = c .before .before .before .add .ensures .is ∙ ap₂ (K .add) (c .before .before .before .before .mul .ensures .is) refl };
-    settled = c .settle .ensures .settled;
-    j = _;
-    is = invert2-is K _ _ _ _ _ _ _ _
-        (c .before .before .before .before .before .before .sub .ensures .is)
-        (c .before .before .before .before .before .sub2 .ensures .is)
-        (c .before .before .before .add .ensures .is ∙ ap₂ (K .add) (c .before .before .before .before .mul .ensures .is) refl)
-        (c .settle .ensures .is ∙ c .before .dot .ensures .is ∙ ap₂ (K .add) refl (ap₂ (K .mul) (c .before .before .sqr .ensures .is) refl));
-  },
-  record { c1 = c .before .before .before .before .before .before .sub .ensures .is; c0 = c .before .before .before .add .ensures .is ∙ ap₂ (K .add) (c .before .before .before .before .mul .ensures .is) refl ∙ ap (K .add _) (c .before .before .before .before .before .sub2 .ensures .is) },
-)
+returns c =
+    let s = c .before .before .before .before .before .before .before in
+    let K = zmod (s .args .m .p) in
+    let h1 = c .before .before .before .before .before .before .sub .ensures .is in
+    let h3 = c .before .before .before .add .ensures .is ∙ ap₂ (K .add) (c .before .before .before .before .mul .ensures .is) refl in
+    let h0 = h3 ∙ ap (K .add _) (c .before .before .before .before .before .sub2 .ensures .is) in
+    let is = invert2-is K _ _ _ _ _ _ _ _ h1 (c .before .before .before .before .before .sub2 .ensures .is) h3
+    (c .settle .ensures .is ∙ c .before .dot .ensures .is ∙ ap₂ (K .add) refl (ap₂ (K .mul) (c .before .before .sqr .ensures .is) refl)) in (
+      record {
+        eased = record { i = record { c0 = c .before .before .before .add .ensures .kept; c1 = c .before .before .before .before .before .before .sub .ensures .kept }; e = c .before .before .before .before .before .sub2 .ensures .kept; is = h3 };
+        settled = c .settle .ensures .settled;
+        j = _;
+        is = is;
+        none = λ z. r2-none K (residue-field (s .args .m) (s .pre .0 .good) .one-ne) _ _ _ _ _ _ _ _ h1 h0 is z;
+      },
+      record { c1 = h1; c0 = h0 },
+    )
 
 pub invert-spec : {M : Type 1} → statement M
 invert-spec =

@@ -1,6 +1,7 @@
 use mathlib.Core.Path.{refl, ap, ap₂, _∙_}
 use Rattle.algebra.proofs.zmod.Zmod.{zmod}
-use Rattle.field.proofs.Laws.{settled-kept}
+use Rattle.field.proofs.Laws.{residue-field, settled-kept}
+use Rattle.formulas.proofs.Coprime.{r2-none-twice}
 use Rattle.steps2.proofs.Tables.{tangent-is}
 use Rattle.steps2.proofs.tangent.Statement.{statement}
 use Rattle.steps2.proofs.tangent.Tie as tie
@@ -24,15 +25,19 @@ settle-requires : tie.Need-settle-requires
 settle-requires c κs = c .dbl .ensures .kept
 
 returns : tie.Need-returns
-returns c = let s = c .before .before .before .before .before .before .before in let K = zmod (s .args .m .p) in record {
-  eased = record { i = record { c0 = c .before .before .before .before .add .ensures .kept; c1 = c .before .before .before .before .before .before .neg .ensures .kept }; e = settled-kept (s .args .m) (s .pre .0 .v .0); is = c .before .before .before .before .add .ensures .is ∙ ap₂ (K .add) (c .before .before .before .before .before .mul .ensures .is) refl };
-  settled = c .before .settle .ensures .settled;
-  j = _;
-  is = tangent-is K _ _ _ _ _ _ _ _ (s .pre .1 .is)
-      (c .before .before .before .before .before .before .neg .ensures .is)
-      (c .before .before .before .before .add .ensures .is ∙ ap₂ (K .add) (c .before .before .before .before .before .mul .ensures .is) refl)
-      (c .before .settle .ensures .is ∙ c .before .before .dbl .ensures .is ∙ ap (λ x. K .add x x) (c .before .before .before .dot .ensures .is));
-}
+returns c =
+    let s = c .before .before .before .before .before .before .before in
+    let K = zmod (s .args .m .p) in
+    let h1 = c .before .before .before .before .before .before .neg .ensures .is in
+    let h0 = c .before .before .before .before .add .ensures .is ∙ ap₂ (K .add) (c .before .before .before .before .before .mul .ensures .is) refl in
+    let is = tangent-is K _ _ _ _ _ _ _ _ (s .pre .1 .is) h1 h0 (c .before .settle .ensures .is ∙ c .before .before .dbl .ensures .is ∙ ap (λ x. K .add x x) (c .before .before .before .dot .ensures .is)) in
+    record {
+      eased = record { i = record { c0 = c .before .before .before .before .add .ensures .kept; c1 = c .before .before .before .before .before .before .neg .ensures .kept }; e = settled-kept (s .args .m) (s .pre .0 .v .0); is = h0 };
+      settled = c .before .settle .ensures .settled;
+      j = _;
+      is = is;
+      none = λ z. r2-none-twice K (residue-field (s .args .m) (s .pre .0 .good) .one-ne) _ _ _ _ _ _ _ _ h1 h0 is z;
+    }
 
 pub tangent-spec : {M : Type 1} → statement M
 tangent-spec =
