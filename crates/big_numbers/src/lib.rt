@@ -7,22 +7,20 @@ ghost use Rattle.rules.specs.Bytes.{number};
 ghost use Rattle.rules.specs.Calls.{listed};
 ghost use Rattle.witness.specs.Witness.{Stripped, MadeOf};
 ghost use Rattle.big_numbers.specs.Numbers.{Capped, DividedBy};
-
-// The bytes of a number.
-pub const SIZE: usize = 32;
+use refusals::MOST_SCALAR;
 
 pub struct Divided {
-    pub quotient: [u8; SIZE],
+    pub quotient: [u8; MOST_SCALAR],
     pub remainder: u64,
 }
 
 // The number of some bytes, with leading zeros.
-pub fn of(s: &[u8]) -> [u8; SIZE]
+pub fn of(s: &[u8]) -> [u8; MOST_SCALAR]
     requires { ⌜ length (now s) ≤ 32 ⌝ }
     ensures { λ r. ⌜ number r ≡ number (now (s .entry)) ⌝ }
 {
-    let mut n: [u8; SIZE] = [0; SIZE];
-    let from = SIZE - s.len();
+    let mut n: [u8; MOST_SCALAR] = [0; MOST_SCALAR];
+    let from = MOST_SCALAR - s.len();
     let mut k: usize = 0;
     while k < s.len() {
         n[from + k] = s[k];
@@ -32,12 +30,12 @@ pub fn of(s: &[u8]) -> [u8; SIZE]
 }
 
 // n where it is below 256, else 256.
-pub fn capped(n: [u8; SIZE]) -> u64
+pub fn capped(n: [u8; MOST_SCALAR]) -> u64
     ensures { λ r. ⌜ Capped (number n) r ⌝ }
 {
     let mut t: u64 = 0;
     let mut k: usize = 0;
-    while k < SIZE {
+    while k < MOST_SCALAR {
         if t != 0 {
             return 256;
         }
@@ -48,14 +46,14 @@ pub fn capped(n: [u8; SIZE]) -> u64
 }
 
 // From the highest byte to the lowest: what is left of those above goes on into the next.
-pub fn divide(n: [u8; SIZE], q: u64) -> Divided
+pub fn divide(n: [u8; MOST_SCALAR], q: u64) -> Divided
     requires { ⌜ (0 < q) × (q < 4294967296) ⌝ }
     ensures { λ r. ⌜ DividedBy (number n) q r ⌝ }
 {
-    let mut quotient: [u8; SIZE] = [0; SIZE];
+    let mut quotient: [u8; MOST_SCALAR] = [0; MOST_SCALAR];
     let mut left: u64 = 0;
     let mut k: usize = 0;
-    while k < SIZE {
+    while k < MOST_SCALAR {
         let t = left * 256 + big_endian::wide(n[k]);
         quotient[k] = (t / q) as u8;
         left = t % q;
@@ -68,7 +66,7 @@ pub fn divide(n: [u8; SIZE], q: u64) -> Divided
 }
 
 // n divided by q as often as it goes.
-fn without(n: [u8; SIZE], q: u64) -> [u8; SIZE]
+fn without(n: [u8; MOST_SCALAR], q: u64) -> [u8; MOST_SCALAR]
     requires { ⌜ (0 < number n) × ((1 < q) × (q < 4294967296)) ⌝ }
     ensures { λ r. ⌜ Stripped (number n) q (number r) ⌝ }
 {
@@ -83,7 +81,7 @@ fn without(n: [u8; SIZE], q: u64) -> [u8; SIZE]
 }
 
 // Whether n is made up of powers of just the listed primes, 4 bytes each, which are below 2^31 and rise, each of them dividing it.
-pub fn is_made_of(n: [u8; SIZE], primes: &[u8]) -> bool
+pub fn is_made_of(n: [u8; MOST_SCALAR], primes: &[u8]) -> bool
     requires { ⌜ 0 < number n ⌝ }
     ensures { λ r. ⌜ Decides r (MadeOf (number n) (listed (now (primes .entry)))) ⌝ }
 {

@@ -15,7 +15,7 @@ pub fn read_factors(curve: &[u8], a: &[u8], scalar: &[u8]) -> CurveAndDivisor
     if x.number != 0 {
         return x;
     }
-    if 32 < scalar.len() {
+    if refusals::MOST_SCALAR < scalar.len() {
         let c = x.curve;
         return CurveAndDivisor {
             number: refusals::SCALAR_LENGTH,

@@ -8,15 +8,12 @@ ghost use Rattle.curve.specs.Record.{recordOf};
 ghost use Rattle.folds.specs.Contracts.{ToMultiply};
 ghost use Rattle.call_one.specs.Answers.{CheckIs};
 ghost use Rattle.call_order.specs.Folds.{Folding, ToLook, Folded, NoneBelow};
-use big_numbers::SIZE;
 use call_one::Answer;
 use curve::Curve;
 use divisor::Divisor;
+use refusals::MOST_SCALAR;
 
-// The most bytes of a list of primes: 32 primes.
-const MOST: usize = 128;
-
-fn is_neutral_fold(c: Curve, a: Divisor, n: [u8; SIZE]) -> bool
+fn is_neutral_fold(c: Curve, a: Divisor, n: [u8; MOST_SCALAR]) -> bool
     requires { ⌜ Folding c a ⌝ }
     ensures { λ r. ⌜ Folded c a (number n) r ⌝ }
 {
@@ -27,7 +24,7 @@ fn is_neutral_fold(c: Curve, a: Divisor, n: [u8; SIZE]) -> bool
 }
 
 // Whether no n / q-fold is neutral, for each listed q.
-fn is_none_below(c: Curve, a: Divisor, n: [u8; SIZE], primes: &[u8]) -> bool
+fn is_none_below(c: Curve, a: Divisor, n: [u8; MOST_SCALAR], primes: &[u8]) -> bool
     requires { ⌜ ToLook c a (listed (now primes)) ⌝ }
     ensures { λ r. ⌜ NoneBelow c a (number n) (listed (now (primes .entry))) r ⌝ }
 {
@@ -53,7 +50,7 @@ fn is_order(c: Curve, a: Divisor, order: &[u8], primes: &[u8]) -> bool
     if primes.len() % 4 != 0 {
         return false;
     }
-    if MOST < primes.len() {
+    if refusals::MOST_LISTED < primes.len() {
         return false;
     }
     let n = big_numbers::of(order);
@@ -77,7 +74,7 @@ pub fn check_order(curve: &[u8], divisor: &[u8], order: &[u8], primes: &[u8]) ->
     if x.number != 0 {
         return Answer::Refused(x.number, x.place);
     }
-    if SIZE < order.len() {
+    if MOST_SCALAR < order.len() {
         return Answer::Refused(refusals::SCALAR_LENGTH, 0);
     }
     let c = x.curve;

@@ -61,7 +61,7 @@ fn witness_length(s: &[u8]) -> u64
     if k < 1 {
         return refusals::WITNESS;
     }
-    if 15 < k {
+    if refusals::MOST_WITNESS < k {
         return refusals::WITNESS;
     }
     if s.len() != 31 + 16 * g + 8 * k {

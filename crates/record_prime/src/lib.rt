@@ -11,6 +11,7 @@ ghost use Rattle.record_prime.specs.Primes.{PrimeIs};
 use curve::Curve;
 use field::Modulus;
 use field::ModulusRead;
+use refusals::MOST_WITNESS;
 
 pub enum PrimeRead {
     Modulo(Modulus),
@@ -44,11 +45,11 @@ fn is_odd_number(p: u64) -> bool
 }
 
 // k numbers in a row from byte a on, and zeros behind them.
-fn listed(s: &[u8], a: usize, k: usize) -> [u64; 15]
+fn listed(s: &[u8], a: usize, k: usize) -> [u64; MOST_WITNESS]
     requires { ⌜ (k ≤ 15) × (a + 8 * k ≤ length (now s)) ⌝ }
     ensures { λ r. ⌜ take k r ≡ words (now (s .entry)) a k ⌝ }
 {
-    let mut q: [u64; 15] = [0; 15];
+    let mut q: [u64; MOST_WITNESS] = [0; MOST_WITNESS];
     let mut i: usize = 0;
     while i < k {
         q[i] = big_endian::read64(s, a + 8 * i);

@@ -58,6 +58,14 @@ pub const MOST: usize = 4096;
 
 pub const MOST_COUNT: u64 = 4096;
 
+// The most bytes of a scalar or of an order.
+pub const MOST_SCALAR: usize = 32;
+
+// The most primes of a witness; the most bytes of an order's list, 32 primes of four.
+pub const MOST_WITNESS: usize = 15;
+
+pub const MOST_LISTED: usize = 128;
+
 // The largest p of a training curve.
 pub const LARGEST_TRAINING: u64 = 13;
 

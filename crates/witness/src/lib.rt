@@ -11,9 +11,7 @@ ghost use Rattle.witness.specs.Witness.{SmallPrime, Stripped, MadeOf, Al
 use field::Modulus;
 use field::Residue;
 use field::ResidueRead;
-
-// The most primes that are listed.
-pub const MOST: usize = 15;
+use refusals::MOST_WITNESS;
 
 // Whether q is a prime below 2^31.
 pub fn is_small_prime(q: u64) -> bool
@@ -38,7 +36,7 @@ fn without(n: u64, q: u64) -> u64
 }
 
 // Whether n is made up of powers of just the first k listed, primes below 2^31 that rise, each of them dividing it.
-pub fn is_made_of(n: u64, q: [u64; MOST], k: usize) -> bool
+pub fn is_made_of(n: u64, q: [u64; MOST_WITNESS], k: usize) -> bool
     requires { ⌜ (0 < n) × (k ≤ 15) ⌝ }
     ensures { λ r. ⌜ Decides r (MadeOf n (take k q)) ⌝ }
 {
@@ -64,7 +62,7 @@ pub fn is_made_of(n: u64, q: [u64; MOST], k: usize) -> bool
 }
 
 // Whether no power of a by n / q is 1, for each q of the first k listed.
-fn is_none_below(a: Residue, n: u64, q: [u64; MOST], k: usize, m: Modulus) -> bool
+fn is_none_below(a: Residue, n: u64, q: [u64; MOST_WITNESS], k: usize, m: Modulus) -> bool
     requires { ⌜ Kept m a × ((k ≤ 15) × AllSome (take k q)) ⌝ }
     ensures { λ r. ⌜ NoneBelow m a n (take k q) r ⌝ }
 {
@@ -79,7 +77,7 @@ fn is_none_below(a: Residue, n: u64, q: [u64; MOST], k: usize, m: Modulus) -> bo
 }
 
 // Whether a and the first k listed numbers witness that p is prime.
-pub fn accepts(p: u64, a: u64, q: [u64; MOST], k: usize) -> bool
+pub fn accepts(p: u64, a: u64, q: [u64; MOST_WITNESS], k: usize) -> bool
     requires { ⌜ Odd p × (k ≤ 15) ⌝ }
     ensures { λ r. ⌜ Decides r (Witnessed p a (take k q)) ⌝ }
 {
