@@ -39,7 +39,7 @@ from records import curve_record, divisor_record, in_4_bytes, pole_file, scan_re
 PRIMES = classes.PRIMES
 GENERA = (2, 3)
 # Of input, which stands in the repository, with the expected text and some 122,000 of the corners: a bound to keep the program quick, and to stay
-# within 26 parts. W-201's composite numbers are 112,000 of it, W-213's splits 245,000, W-211's steps 102,000, W-209's mixed scans and pole files 190,000.
+# within 26 parts. W-201's composite numbers are 112,000 of it, W-213's splits 246,000, W-211's steps 91,000, W-209's pole files 182,000.
 MOST_BYTES = 1600000
 ENOUGH = 20  # of each main kind of sum, per genus and prime
 NEUTRAL_RECORD = r.write_divisor(r.NEUTRAL)
@@ -1411,9 +1411,9 @@ def made(seed):
     put_orders(dice, collection, with_orders[1][::2] + with_orders[2] + [pools_of[3, 3][1], witnessed[3, 3]])
     put_refusals(dice, collection, [SPLIT], {1: faulty, 2: [witnessed[g, p] for g in GENERA for p in (7, 11)]})
     put_splits(dice, collection)
-    small = {1: [pools_of[key][k] for key in ((2, 7), (2, 11), (3, 5), (3, 7)) for k in (0, 1)] + faulty[4:8], 2: [witnessed[g, p] for g in GENERA for p in (5, 7)]}
-    small[2] += [witnessed[g, LARGEST] for g in GENERA]
-    put_refusals(dice, collection, [NEXT_DIVISOR], small)
+    with_census = {1: [pools_of[key][k] for key in ((2, 7), (2, 11), (3, 5), (3, 7)) for k in (0, 1)], 2: [witnessed[g, p] for g in GENERA for p in (5, 7)]}
+    without = {1: faulty[4:8], 2: [witnessed[g, LARGEST] for g in GENERA]}  # p is too large
+    put_refusals(dice, collection, [NEXT_DIVISOR], {version: with_census[version] + without[version] for version in (1, 2)})
     put_walks(dice, collection)
     put_mixed_scans(dice, collection, [pools_of[g, p][k] for g in GENERA for p, k in ((7, 1), (2147483647, 2))] + [witnessed[g, LARGEST] for g in GENERA])
     put_refusals(dice, collection, [WRITE_POLE_FILE, READ_POLE_FILE], {1: faulty, 2: [witnessed[g, p] for g in GENERA for p in (7, 11)]})
@@ -1806,7 +1806,8 @@ class Census:
         yield "splits, every divisor of a curve: " + ", ".join("g = %d, p = %d" % key for key in sorted(self.curves_split_whole()))
         for g, version in itertools.product(GENERA, (1, 2)):
             done = sorted((w, after or 24, n) for (h, v, w, after), n in self.by_weights() if (h, v) == (g, version))
-            yield "steps, g = %d, version %d, weights: " % (g, version) + ", ".join("from %d to %d %d" % step if step[1] != 24 else "24 %d" % step[2] for step in done)
+            words = ["from %d to %d %d" % step if step[1] != 24 else "24 %d" % step[2] for step in done]
+            yield "steps, g = %d, version %d, weights: " % (g, version) + ", ".join(words)
         yield "steps: " + ", ".join("%s %d" % (what, n) for what, n in sorted((k, n) for k, n in self.steps.items() if isinstance(k, str)))
         yield "walks from neutral to the last: " + ", ".join("g = %d, p = %d, version %d" % walk for walk in sorted(self.walks()))
         mixed = sum(1 for answers in self.scanned.values() if answers == {0, 20})
