@@ -3,8 +3,8 @@
 -- Open: `Least`, `Last`, `Answers`.
 use Prim.Native.Nat.{ℕ, zero, suc, _+_, _≤_, _<_}
 use mathlib.Core.Path.{_≡_, refl, sym, ap, ap₂, _∙_, subst}
-use mathlib.Core.List.{List, [], _∷_, _++_, flatMap, append-nil, List·Memᴰ, List·Memᴰ·head, List·Memᴰ·tail, List·Memᴰ·cases-cons, List·Memᴰ·not-nil, Memᴰ·append-left, Memᴰ·append-right, List·Memᴰ·append-cases}
-use mathlib.Core.Bool.{Bool, true, false, true≢false}
+use mathlib.Core.List.{List, [], _∷_, _++_, flatMap, List·Memᴰ, List·Memᴰ·head, List·Memᴰ·tail, List·Memᴰ·cases-cons, List·Memᴰ·not-nil, Memᴰ·append-left, Memᴰ·append-right, List·Memᴰ·append-cases}
+use mathlib.Core.Bool.{Bool, true, false}
 use mathlib.Core.Logic.{_↔_, _≢_, _⊎_, inl, inr}
 use native.Mathlib.Omega.{arith}
 use lib.ListN.{length, length-append}
@@ -16,8 +16,8 @@ use Rattle.rules.specs.Tests.{on-curve?}
 use Rattle.rules.specs.Lists.{equal?}
 use Rattle.rules.proofs.cantor.OnCurve.{on-curve-decides}
 use Rattle.rules.proofs.cantor.Pairs.{neutral-valid}
-use Rattle.rules.proofs.calls.Tests.{refused-taken, taken-inj}
-use Rattle.rules.specs.Census.{run, rows, passing, first, behind, pair-from, weighing, pairs, census, next, Lower, Below}
+use Rattle.rules.proofs.calls.Tests.{refused-taken}
+use Rattle.rules.specs.Census.{run, rows, passing, first, behind, pair-from, weighing, pairs, census, next, Below}
 use Rattle.rules.proofs.census.Rising.{All, Rising, all-of, all-at, mem-passing, passing-mem, passing-append, passing-yes, passing-none, rising-passing, before, beyond}
 use Rattle.rules.proofs.census.Lower.{lower-not, lower-trans}
 use Rattle.rules.proofs.census.Pairs.{pair-in, Named, pair-is, pairs-rising, weight-is, width-is}

@@ -1,12 +1,12 @@
 -- The order of rows of numbers. Gives: no row is below itself (`lower-not`), the order goes on (`lower-trans`); rows with the same front, or with fronts in order; rows of bytes are in the order of their numbers (`number-lower`), and so
 -- rows of numbers below 2^64 are in the order of their bytes (`bytes-lower`).
-use Prim.Native.Nat.{ℕ, zero, suc, _+_, _*_, _≤_, _<_}
-use mathlib.Core.Path.{_≡_, refl, sym, ap, _∙_, subst, subst₂}
+use Prim.Native.Nat.{ℕ, _+_, _*_, _<_}
+use mathlib.Core.Path.{_≡_, refl, sym, _∙_, subst}
 use mathlib.Core.List.{List, [], _∷_, _++_, foldl}
 use mathlib.Core.Logic.{_⊎_, inl, inr}
 use native.Mathlib.Decide.{decLt}
 use native.Mathlib.Omega.{arith}
-use lib.ListN.{length, getD}
+use lib.ListN.{length}
 use Rattle.rules.specs.Bytes.{number, word64, bytes64, all-bytes}
 use Rattle.rules.proofs.calls.Bytes.{word-bytes}
 use Rattle.rules.specs.Census.{Lower}

@@ -1,26 +1,24 @@
 -- Every pair that a record of the curve can name. Gives: a pair is among them exactly where v has as many numbers as u, at most g (`pair-in`, `pair-is`); they are in the order of weight and then of record bytes (`pairs-rising`); what stands behind a pair (`later`,
 -- `pairs-split`), and one turn of a counter over weight and numbers (`later-raise`, `later-heavier`, `later-none`).
 -- Open: `Small`.
-use Prim.Native.Nat.{ℕ, zero, suc, _+_, _-_, _*_, _≤_, _<_}
+use Prim.Native.Nat.{ℕ, zero, suc, _+_, _-_, _≤_, _<_}
 use mathlib.Core.Path.{_≡_, refl, sym, ap, ap₂, _∙_, subst, subst₂}
-use mathlib.Core.List.{List, [], _∷_, _++_, map, flatMap, map-append, append-assoc, append-nil, List·Memᴰ, List·Memᴰ·head, List·Memᴰ·tail}
+use mathlib.Core.List.{List, [], _∷_, _++_, map, flatMap, map-append, append-assoc, List·Memᴰ}
 use mathlib.Core.Bool.{true}
-use mathlib.Core.Logic.{_⊎_, inl, inr}
+use mathlib.Core.Logic.{inl, inr}
 use native.Mathlib.Nat.{zero-add}
 use native.Mathlib.Omega.{arith}
 use lib.Dec.{ltb}
-use lib.ListN.{length, take, drop, replicate, length-append, length-take, length-drop, length-replicate, take-append-drop}
+use lib.ListN.{length, take, drop, replicate, length-append, length-drop, take-append-drop}
 use lib.Seq.{length-take-le, take-at, drop-at}
 use borrow.Author.Tests.{ltb-true, lt-ltb}
-use Rattle.algebra.proofs.zmod.PrimeField.{modulo}
 use Rattle.rules.specs.Bytes.{bytes64, all-bytes}
-use Rattle.rules.specs.Pair.{Pair}
-use Rattle.rules.specs.Records.{both, CurveRecord, PairOf, made-of, below?, elements, numbers, divisor-bytes}
+use Rattle.rules.specs.Records.{CurveRecord, PairOf, made-of, below?, numbers, divisor-bytes}
 use Rattle.rules.proofs.calls.Tests.{both-true, true-both}
 use Rattle.rules.proofs.calls.Elements.{length-elements, length-numbers, numbers-elements, numbers-below}
 use Rattle.rules.proofs.calls.DivisorRecords.{made-numbers}
 use Rattle.rules.specs.Census.{run, rows, pair-from, weighing, pairs, Lower, Below}
-use Rattle.rules.proofs.census.Rising.{All, Rising, all-of, all-at, mem-map, map-mem, mem-each, each-mem, each-append, rising-map, rising-each, mem-run, run-mem, run-rising, run-split}
+use Rattle.rules.proofs.census.Rising.{All, Rising, mem-map, map-mem, mem-each, each-mem, each-append, rising-map, rising-each, mem-run, run-mem, run-rising, run-split}
 use Rattle.rules.proofs.census.Lower.{bytes-lower}
 use Rattle.rules.proofs.census.Rows.{row-is, row-in, rows-rising, rest, rows-split, Tops, rest-none, rows-first, rest-raise}
 

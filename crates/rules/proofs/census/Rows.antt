@@ -1,15 +1,15 @@
 -- The rows of n numbers below p. Gives: a row is among them exactly where it has n numbers, all below p (`row-in`, `row-is`); they are in order (`rows-rising`); what stands behind a row (`rest`, `rows-split`), and one turn of a counter: raising the last number
 -- that can be raised, with zeros behind it, gives the next row (`rest-raise`); where none can be raised, none follows (`rest-none`).
 -- Open: `Tops`.
-use Prim.Native.Nat.{ℕ, zero, suc, _+_, _-_, _≤_, _<_}
-use mathlib.Core.Path.{_≡_, refl, sym, ap, ap₂, _∙_, subst, subst₂}
-use mathlib.Core.List.{List, [], _∷_, _++_, map, flatMap, map-append, append-assoc, append-nil, List·Memᴰ, List·Memᴰ·head, List·Memᴰ·tail, List·Memᴰ·eq-of-singleton}
-use mathlib.Core.Logic.{_⊎_, inl, inr}
+use Prim.Native.Nat.{ℕ, zero, suc, _+_, _-_, _<_}
+use mathlib.Core.Path.{_≡_, refl, sym, ap, _∙_, subst, subst₂}
+use mathlib.Core.List.{List, [], _∷_, _++_, map, flatMap, map-append, append-assoc, List·Memᴰ, List·Memᴰ·head, List·Memᴰ·eq-of-singleton}
+use mathlib.Core.Logic.{inl, inr}
 use native.Mathlib.Omega.{arith}
 use native.Mathlib.Nat.{zero-add}
 use lib.ListN.{length, length-append, replicate, length-replicate}
 use Rattle.rules.specs.Census.{run, rows, Lower}
-use Rattle.rules.proofs.census.Rising.{All, Rising, all-at, mem-map, map-mem, mem-each, each-mem, each-append, rising-map, rising-each, mem-run, run-mem, run-rising, run-split}
+use Rattle.rules.proofs.census.Rising.{All, Rising, mem-map, map-mem, mem-each, each-mem, each-append, rising-map, rising-each, mem-run, run-mem, run-rising, run-split}
 
 module _ (p : ℕ) where
   -- those whose first number is x
