@@ -65,8 +65,8 @@ impl Divisor {
         }
     }
 
-    // The coefficients in a row, those of u first, then those of v, and zeros behind them. Where this row and the weight will do, nothing
-    // else need know the four cases.
+    // The coefficients in a row, those of u first, then those of v; what stands behind them isn't promised. Where this row and the weight
+    // will do, nothing else need know the four cases.
     pub fn row(self) -> [Residue; 6]
         ensures { λ r. ⌜ RowOf self r ⌝ }
     {

@@ -1,5 +1,5 @@
-// The group of a curve's divisors: sum, double, opposite. Each promise is an equation with a rule of the crate `rules`. This is the one place that picks between the
-// formulae and the plain sum.
+// The group of a curve's divisors: sum, double, opposite. Each promise is an equation with a rule of the crate `rules`. One sum is picked here, between the
+// formulae and the plain sum; sums that share an inverse are opened by formula in `openings`, which comes here for all that no formula takes.
 ghost use Rattle.rules.specs.Sum.{sum, double};
 ghost use Rattle.rules.specs.Pair.{opposite};
 ghost use Rattle.divisor.specs.Divisors.{pair};

@@ -1,7 +1,8 @@
 -- Document 01, "Numbers the tablet shows": each call as a function from the bytes lent to its whole answer and to every byte of the output as it
 -- returns. A call's rule is what it comes to, its checks in their order and then a result; `deliver` makes the answer of it, the same for every call: 13
--- where the output is too short, and a refusal has length 0, none of the call's own numbers, and leaves the output as it was. Here are the numbers 12 to 15, 19, 20 and 24 to 27 (24 stands in Census, 26 in Split);
--- 16 and 17 are the program's (texts), 21 to 23 the pole file's (pole_rule). At the end, of "The pole's list", the running total and the scan.
+-- where the output is too short, and a refusal has length 0, none of the call's own numbers, and leaves the output as it was. Here are the numbers 12
+-- to 15, 19, 20 and 24 to 27 (14 of a batch stands in Lists, 24 in Census, 26 in Split); 16 and 17 are the program's (text_rule), 21 to 23 the pole file's
+-- (pole_rule). At the end, of "The pole's list", the running total and the scan.
 use Prim.Native.Nat.{ℕ, _+_, _/_, _%_}
 use mathlib.Core.List.{List, [], _∷_, _++_}
 use mathlib.Core.Bool.{Bool, not}

@@ -1,5 +1,5 @@
 -- The curve record, of both versions. Gives: what a record that is taken says of its bytes (`curve-read`, `Formed`) and of its curve (`Accepts`); that p is prime
--- whichever way it was shown (`shown-prime`), by Lucas' test in version 2. (That reading and writing undo one another: CurveBytes.)
+-- whichever way it was shown (`shown-prime`), by Lucas' test in version 2. (That reading and writing undo one another: CurveWritten.)
 -- Open: `Shown`.
 use Prim.Native.Nat.{ℕ, suc, _+_, _*_, _%_, _≤_, _<_}
 use mathlib.Core.Path.{_≡_, refl, sym, ap, _∙_, subst}
