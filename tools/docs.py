@@ -1,98 +1,336 @@
 #!/usr/bin/env python3
-"""docs.py: holds docs/ to the tree. Exit 1 and a line for each thing that isn't so:
+"""docs.py: holds docs/ and README.md to the tree. Exit 1 and a line for each thing that isn't so.
 
-- every must-fail edit that docs/PROVED.md names is there, and every edit there is named (CRATE/NAME, and further names after a comma of the same crate);
-- every file that a step of docs/TOUR.md names is there, and every name in backquotes of the step stands in one of the step's files or in its crate's specs;
-- every name that stands alone in backquotes in docs/PROVED.md is in the tree's sources, or a crate, or one of the system's functions, `rattle_..`;
-- the two sums that docs/PROVED.md gives of what a reader must believe are those that believed.py prints;
-- the crates in README.md's table are those of crates.txt.
+Counts: every number in the words of STATED is what counts.py counts, and each page still has those words; the edits of specs/ by crate and by file;
+    what a reader must believe, file by file and in sum; the crates of the gate's times.
+Lists: the crates in README.md's table, the calls in its table and in docs/PROVED.md's, the folders of demo/ in README.md, every edit in docs/PROVED.md.
+Names, on every page: an edit CRATE/NAME, a crate, a file, a street of demo/ is there; what stands in backquotes is a name of the tree, in docs/PROVED.md
+    one of crates/; where a page says the file or the crate that has it, it is there. Of every note too: a decision that is cited by its number has the title
+    that is cited, and a contract's lines are the code's.
 
-It reads, and writes nothing."""
+Notes of docs/changes are history, and name what has gone since: but for that only those of HELD are held. Numbers of recorded runs (times, instructions,
+the judge's calls) say what was and aren't held, nor is any sentence between the names. It reads, and writes nothing."""
 import glob
 import os
 import re
-import subprocess
 import sys
 
-ROOT = os.path.normpath(os.path.join(os.path.dirname(os.path.abspath(__file__)), ".."))
-CRATES = [os.path.basename(p) for p in glob.glob(os.path.join(ROOT, "crates", "*"))]
+import counts
+import frames
+from counts import CRATES, ROOT, text
+
+HELD = ["W-209", "W-211", "W-212", "W-213"]
+NOTES = ["docs/changes/%s.md" % note for note in HELD if os.path.exists(os.path.join(ROOT, "docs/changes/%s.md" % note))]
+PAGES = ["README.md", "tools/README.md", "bindings/README.md"] + NOTES
+PAGES += ["docs/%s.md" % page for page in ("PROVED", "DECISIONS", "TESTING", "TOUR", "BENCH", "CONTRIBUTING")]
+EVERY = sorted(set(PAGES + [os.path.relpath(path, ROOT) for path in glob.glob(os.path.join(ROOT, "docs", "changes", "*.md"))]))
 wrong = []
 
+# ---- numbers in words
 
-def text(*path):
-    with open(os.path.join(ROOT, *path), encoding="utf-8") as file:
-        return file.read()
+ONES = "no one two three four five six seven eight nine ten eleven twelve thirteen fourteen fifteen sixteen seventeen eighteen nineteen".split()
+TENS = "twenty thirty forty fifty sixty seventy eighty ninety".split()
+WORDS = {word: n for n, word in enumerate(ONES)}
+WORDS.update({ten + ("-" + ONES[k] if k else ""): 20 + 10 * t + k for t, ten in enumerate(TENS) for k in range(10)})
+WORDS["none"] = 0
+NUMBER = r"(?<![\w,])((?:%s)|\d+(?:,\d{3})*)(?![\w-])" % "|".join(sorted(WORDS, key=len, reverse=True))
+
+
+def value(word):
+    word = word.lower().replace(",", "")
+    return WORDS[word] if word in WORDS else int(word)
+
+
+# ---- counts: a page, its words with N for each number, and what the numbers are
+
+STATED = [
+    ("README.md", "declares N calls", lambda: len(counts.declared())),
+    ("README.md", "some N vectors", lambda: round(len(counts.vectors()), -2)),
+    ("docs/PROVED.md", "none of the N exports", lambda: len(counts.exports())),
+    ("docs/PROVED.md", "`tablet`: the N exports", lambda: len(counts.exports())),
+    ("docs/PROVED.md", "all N exports are called", lambda: len(counts.exports())),
+    ("docs/PROVED.md", "`scenarios` runs N cases", counts.scenarios),
+    ("docs/PROVED.md", "`census_scenarios` runs N cases", lambda: counts.censuses()[0]),
+    ("docs/PROVED.md", "N whole censuses", lambda: counts.censuses()[2]),
+    ("docs/PROVED.md", "`vectors` runs N frames", lambda: len(counts.vectors())),
+    ("docs/PROVED.md", "N lines (tools/corners.py)", counts.corners),
+    ("docs/PROVED.md", "the N odd composite numbers below 3,000", counts.composites),
+    ("docs/PROVED.md", "N right orders and N wrong ones", lambda: counts.answered(frames.CHECK_ORDER, 0, 27)[1:]),
+    ("docs/PROVED.md", "N splits, N done and N refused 26", lambda: counts.answered(frames.SPLIT, 0, 26)),
+    ("docs/PROVED.md", "N steps of a census, N done, N refused 24 and N refused 25", lambda: counts.answered(frames.NEXT_DIVISOR, 0, 24, 25)),
+    ("docs/PROVED.md", "N scans, ", lambda: counts.answered(frames.SCAN)),
+    ("docs/PROVED.md", "N pole files written and read", lambda: sum(counts.pole_files())),
+    ("docs/PROVED.md", "N rows of arithmetic", lambda: counts.field_rows()[0]),
+    ("docs/PROVED.md", "N answers of the prime test, and N rows", lambda: counts.field_rows()[1:]),
+    ("docs/PROVED.md", "`poly_table` reads N pairs", counts.pairs_of_polynomials),
+    ("docs/PROVED.md", "N lines of ring laws", lambda: counts.believed()[1]),
+    ("docs/PROVED.md", "The whole gate: N crates, N must-fail edits, N programs, N passed", counts.gate),
+    ("docs/DECISIONS.md", "W-201's N composite numbers", counts.composites),
+    ("docs/TESTING.md", "N rows of arithmetic modulo six primes, N answers of the prime test, N rows", counts.field_rows),
+    ("docs/TESTING.md", "| `poly_table` | N pairs", counts.pairs_of_polynomials),
+    ("docs/TESTING.md", "N frames through the exported calls", lambda: len(counts.vectors())),
+    ("docs/TESTING.md", "N lines | tools/corners.py", counts.corners),
+    ("docs/TESTING.md", "curve A, N divisors", counts.census),
+    ("docs/TESTING.md", "N curves and files: N refusals, N whole censuses", lambda: counts.censuses()[:3]),
+    ("docs/TESTING.md", "13, N divisors", lambda: counts.censuses()[3]),
+    ("docs/TESTING.md", "| `scenarios` | N folders", counts.scenarios),
+    ("docs/TESTING.md", "all N sums and doubles of the vectors agree", counts.sums_done),
+    ("docs/TESTING.md", "below 3,000 for p, N of them", counts.composites),
+    ("docs/TESTING.md", "Orders among the vectors: N that are accepted and N that are refused 27", lambda: counts.answered(frames.CHECK_ORDER, 0, 27)[1:]),
+    ("docs/TESTING.md", "Splits among the vectors: N, of which N are done and N refused 26", lambda: counts.answered(frames.SPLIT, 0, 26)),
+    ("docs/TESTING.md", "Steps of a census among the vectors: N, of which N are done, N refused 24 and N refused 25",
+     lambda: counts.answered(frames.NEXT_DIVISOR, 0, 24, 25)),
+    ("docs/TESTING.md", "Scans among the vectors: N", lambda: counts.answered(frames.SCAN)),
+    ("docs/TESTING.md", "Pole files: N written and N read", counts.pole_files),
+    ("docs/TESTING.md", "of the judge, N in all and N examples", counts.rust_tests),
+]  # fmt: skip
+
+
+def check_counts():
+    for page, words, count in STATED:
+        want = count()
+        want = want if isinstance(want, tuple) else (want,)
+        stated = re.findall(NUMBER.join(map(re.escape, re.split(r"\bN\b", words))), text(page), re.I)
+        if not stated:
+            wrong.append('%s doesn\'t say "%s" any more, so that its number can\'t be held' % (page, words))
+        for found in stated:
+            found = (found,) if isinstance(found, str) else found
+            if tuple(map(value, found)) != want:
+                wrong.append('%s says "%s" with %s, and the tree has %s' % (page, words, ", ".join(found), ", ".join(map("{:,}".format, want))))
+
+
+def check_rule_edits():
+    """The sentence on edits of specs/: all, then by crate, `N of CRATE`, or CRATE/NAME for one."""
+    page = text("docs/PROVED.md")
+    stated = re.search(NUMBER + r" change a definition in specs/ \((.*?)\)", page, re.I)
+    if not stated:
+        wrong.append("PROVED.md doesn't say how many edits change a definition in specs/")
+        return
+    said = {crate: value(n) for n, crate in re.findall(NUMBER + r" of (\w+)", stated.group(2))}
+    for crate in re.findall(r"(\w+)/\w+", stated.group(2)):
+        said[crate] = said.get(crate, 0) + 1
+    there = counts.rule_edits()
+    if value(stated.group(1)) != sum(there.values()):
+        wrong.append("PROVED.md says that %s edits change a definition in specs/, and %d do" % (stated.group(1).lower(), sum(there.values())))
+    differ("PROVED.md, edits that change a definition in specs/", said, there)
+
+
+def check_rule_files():
+    """The sentence on the edits of rules by file: `N change specs/FILE`, further ones `N FILE`."""
+    stated = re.search(r"Of the edits of `rules` (.*?)\.", text("docs/PROVED.md"))
+    said = {file: value(n) for n, file in re.findall(NUMBER + r" (?:changes? )?(?:specs/)?([A-Z]\w+)", stated.group(1))} if stated else {}
+    differ("PROVED.md, edits of rules by file of specs/", {file: n for file, n in said.items() if n}, counts.edits_of("rules"))
+
+
+def check_believed():
+    """Each row: one number for each file, in order; a file without a folder is in the folder of the one before it."""
+    page = text("docs/PROVED.md")
+    (calls, theorem), _ = counts.believed()
+    for words in ("the contracts take %d." % sum(calls.values()), "| together | %d | |" % sum(calls.values()), "names %d lines more" % sum(theorem.values())):
+        if words not in page:
+            wrong.append("PROVED.md doesn't say `%s`, which is what believed.py counts" % words)
+    said = {}
+    for files, numbers in re.findall(r"^\| (.*?) \| ([\d +]+) \| .+\|$", page.split("| file | lines | what |")[1].split("| together |")[0], re.M):
+        folder, names = "", []
+        for name in re.split(r"[,;] ", files.replace("algebra: ", "algebra/proofs/").replace(", ring/", ", algebra/proofs/ring/")):
+            folder = os.path.dirname(name) or folder
+            names.append(os.path.join(folder, os.path.basename(name)))
+        said.update(zip(names, map(int, numbers.split(" + "))))
+    differ("PROVED.md, lines to be believed", said, calls)
+
+
+def differ(what, said, there):
+    for name in sorted(set(said) | set(there)):
+        if said.get(name, 0) != there.get(name, 0):
+            wrong.append("%s: of %s it says %s, and there are %d" % (what, name, said.get(name, "nothing"), there.get(name, 0)))
+
+
+# ---- lists that are whole
+
+
+def same(what, named, there):
+    wrong.extend("%s lacks %s" % (what, n) for n in sorted(set(there) - set(named)))
+    wrong.extend("%s names %s, and it isn't there" % (what, n) for n in sorted(set(named) - set(there)))
+
+
+def table(page, head):
+    """The first cells of the rows below a head."""
+    return "\n".join(re.findall(r"^\| (.*?) \|", text(page).split(head)[1].split("\n\n")[0], re.M))
+
+
+def check_lists():
+    same("README.md's table of crates", re.findall(r"`(\w+)`", table("README.md", "| crates | what they are |")), counts.listed())
+    same("README.md's table of calls", re.findall(r"`(yubi_\w+)`", table("README.md", "| call | answers")), counts.exports())
+    same("PROVED.md's table of wrong programs a call", re.findall(r"`(yubi_\w+)`", table("docs/PROVED.md", "| call | wrong programs |")), counts.exports())
+    same("include/yubisorade.h", counts.declared(), counts.exports())
+    same("README.md's demo/", re.findall(r"\bdemo/([\w-]+)", text("README.md")), counts.streets())
+    times = re.search(r"two crates at a time: (.*?)\.\n", text("docs/PROVED.md"))
+    same("PROVED.md's list of check times", re.findall(r"(\w+) \d+", times.group(1)) if times else [], counts.listed())
+
+
+def check_all_edits_named():
+    """CRATE/NAME, or in the table of edits on the rules NAME and a colon."""
+    page = text("docs/PROVED.md")
+    named = edits_on(page) | {"rules/" + name for name in re.findall(r"^\| (\w+): ", page, re.M)}
+    wrong.extend("the edit %s isn't named in PROVED.md" % n for n in sorted(set(counts.edits()) - named))
+
+
+# ---- names
+
+
+def edits_on(page):
+    """The edits that a page names: CRATE/NAME, and further names of the same crate behind a comma or `and`, each with a bracket behind it or without."""
+    there, named = counts.edits(), set()
+    further = r"((?:(?: \([^()]*\))?(?: and|,) [a-z_0-9]+(?![\w/`-]))*)"
+    for crate, first, more in re.findall(r"(?<![\w/.])(%s)/([a-z_0-9]+)(?![\w/]|\.\w)" % "|".join(CRATES) + further, page):
+        if first not in ("specs", "proofs", "src", "data", "stdout", "must-fail"):
+            named.add("%s/%s" % (crate, first))
+        named |= {"%s/%s" % (crate, name) for name in re.findall(r"[a-z_0-9]+", more) if "%s/%s" % (crate, name) in there}
+    return named
+
+
+def check_edits():
+    for page in PAGES:
+        wrong.extend("%s names the edit %s, and it isn't there" % (page, n) for n in sorted(edits_on(text(page)) - set(counts.edits())))
+
+
+def check_crates():
+    """`crate` or `crates`, and names in backquotes behind it; those of bindings/ are of Rust."""
+    there = set(CRATES) | {"yubisorade"} | set(os.listdir(os.path.join(ROOT, "bindings")))
+    for page in PAGES:
+        for names in re.findall(r"\bcrates? ((?:`\w+`(?:, | and )?)+)", text(page)):
+            wrong.extend("%s names the crate %s, and it isn't there" % (page, n) for n in re.findall(r"`(\w+)`", names) if n not in there)
+
+
+def check_files():
+    """Files of the tree by their path, with or without their ending; NAME stands for any crate."""
+    for page in PAGES:
+        for path in sorted(set(re.findall(r"(?<![\w/.<])((?:tools|bindings|include|docs|demo|bin|crates)/[\w./-]*\w)", text(page)))):
+            if "NAME" not in path and not glob.glob(os.path.join(ROOT, path) + "*"):
+                wrong.append("%s names %s, and it isn't there" % (page, path))
 
 
 def words(source):
     """The names of Rattle or antt that stand in a text, comments left out."""
-    return set(re.split(r"[\s(){},;.:=]+", re.sub(r"(--|//).*", "", source)))
+    return set(re.split(r"[\s(){},;.:=\[\]&<>]+", re.sub(r"(--|//).*", "", source)))
 
 
-def check_edits():
-    there = {"%s/%s" % (p.split(os.sep)[-3], os.path.basename(p)[:-5]) for p in glob.glob(os.path.join(ROOT, "crates/*/must-fail/*.edit"))}
-    page = text("docs", "PROVED.md")
-    named = set()
-    for crate in CRATES:
-        for first, more in re.findall(r"(?<![\w/])%s/([a-z_0-9]+)((?:(?: and|,) [a-z_0-9]+(?![\w/`(-]))*)" % crate, page):
-            names = [first] + re.findall(r"[a-z_0-9]+", more.replace(" and ", ", "))
-            named |= {"%s/%s" % (crate, name) for name in names if "%s/%s" % (crate, name) in there or name == first}
-    named = {n for n in named if n.split("/")[1] not in ("specs", "proofs", "src", "must-fail")}
-    wrong.extend("PROVED.md names the edit %s, and it isn't there" % n for n in sorted(named - there))
-    named_short = set(re.findall(r"[a-z_0-9]+", page))
-    wrong.extend("the edit %s isn't named in PROVED.md" % n for n in sorted(there - named) if n.split("/")[1] not in named_short)
+def defined(source):
+    """The names that a text of Rattle or antt defines: functions, types, constants; signatures, fields, constructors, records."""
+    code = re.findall(r"^\s*(?:pub )?(?:extern \"C\" )?(?:fn|struct|enum|const) (\w+)", source, re.M)
+    signed = re.findall(r"^\s*(?:(?:abbrev|unfoldable|pub|record|data) )*([^\s(){},;:]+)(?: \{[^}]*\}| \([^)]*\))* :(?:\s|$)", source, re.M)
+    return set(code) | set(signed)
 
 
-def check_tour():
-    page = text("docs", "TOUR.md")
-    for step in re.findall(r"^\d+\. (.*(?:\n   .*)*)", page, re.M):
-        files = [f for f in re.findall(r"(?<![\w/])((?:%s)/[\w/.]+)" % "|".join(CRATES), step)]
-        found, crates = "", set()
-        for name in files:
-            name = name.rstrip(".")
-            if not os.path.isfile(os.path.join(ROOT, "crates", name)):
-                wrong.append("TOUR.md names %s, and it isn't there" % name)
-                continue
-            found += text("crates", name)
-            crates.add(name.split("/")[0])
-        for crate in crates:
-            for path in glob.glob(os.path.join(ROOT, "crates", crate, "specs", "*.antt")):
-                found += text(path)
-        stand = words(found)
-        for name in re.findall(r"`([^`]+)`", step):
-            last = re.split(r"[.:]+", name)[-1]
-            if last not in stand and name not in CRATES and not name.startswith("&"):
-                wrong.append("TOUR.md names `%s`, and it doesn't stand in %s" % (name, ", ".join(files) or "a file of its step"))
+PATHS = [p for e in ("antt", "rt") for p in glob.glob(os.path.join(ROOT, "crates", "**", "*." + e), recursive=True)]
+SOURCES = {os.path.relpath(p, os.path.join(ROOT, "crates")): words(text(p)) for p in PATHS}
+DEFINED = {os.path.relpath(p, os.path.join(ROOT, "crates")): defined(text(p)) for p in PATHS}
+PLACEHOLDERS = {"xOf", "x-of"}  # docs/CONTRIBUTING.md: how a name is made
+
+
+def outside():
+    """The words of header, bindings, tools and commands, the edits' names, and the files' own names."""
+    found = PLACEHOLDERS | {name.split("/")[1] for name in counts.edits()} | set(re.findall(r"\w+", text(".ci", "run")))
+    for folder in ("include", "bindings", "tools", "bin", "demo", "docs"):
+        for path in glob.glob(os.path.join(ROOT, folder, "**"), recursive=True):
+            found |= {os.path.basename(path), os.path.basename(path).split(".")[0]}
+            if path.endswith((".h", ".c", ".rs", ".sh", ".py")) and not path.endswith("docs.py"):
+                found |= set(re.findall(r"[\w-]+", text(path)))
+    return found
+
+
+def names_in(page):
+    """What stands alone in backquotes and looks like a name, with its parts."""
+    for name in sorted(set(re.findall(r"`([A-Za-z][\w'?.:-]*)`", page))):
+        if not name.startswith("rattle_"):
+            yield name, [part for part in re.split(r"[.:]+", name) if part]
 
 
 def check_names():
-    sources = glob.glob(os.path.join(ROOT, "crates", "**", "*.antt"), recursive=True) + glob.glob(os.path.join(ROOT, "crates", "**", "*.rt"), recursive=True)
-    stand = set().union(*(words(text(path)) for path in sources)) | set(CRATES)
-    for name in sorted(set(re.findall(r"`([A-Za-z][\w'?.:-]*)`", text("docs", "PROVED.md")))):
-        if not name.startswith("rattle_") and any(part not in stand for part in re.split(r"[.:]+", name) if part):
-            wrong.append("PROVED.md names `%s`, and nothing in crates/ has that name" % name)
+    crates = set().union(*SOURCES.values()) | set(CRATES)
+    anywhere = crates | outside()
+    for page in PAGES:
+        stand, where = (crates, "crates/") if page == "docs/PROVED.md" else (anywhere, "the tree")
+        for name, parts in names_in(text(page)):
+            if name not in stand and any(part not in stand for part in parts):
+                wrong.append("%s names `%s`, and nothing in %s has that name" % (page, name, where))
 
 
-def check_crates():
-    listed = {line.split(":")[0].strip() for line in text("crates.txt").splitlines() if line and not line.startswith("#")}
-    rows = re.findall(r"^\| (`.*?) \|", text("README.md").split("| crates | what they are |")[1].split("\n\n")[0], re.M)
-    named = {name for row in rows for name in re.findall(r"`(\w+)`", row)}
-    wrong.extend("README.md's table lacks the crate %s" % n for n in sorted(listed - named))
-    wrong.extend("README.md's table names %s, and crates.txt doesn't" % n for n in sorted(named - listed))
+def defined_at(path):
+    """The names that are defined in what a page's path stands for: a crate, a folder, or a file without its ending, from any folder on.
+    None where there is no such."""
+    found = [w for p, w in DEFINED.items() if p.startswith(path + "/") or re.search(r"(^|/)%s(\.\w+|/.*)?$" % re.escape(path), p)]
+    return set().union(*found) if found else None
 
 
-def check_believed():
-    printed = subprocess.run([sys.executable, os.path.join(ROOT, "tools", "believed.py")], capture_output=True, text=True, check=True).stdout
-    calls, theorem = re.findall(r"^together +(\d+)", printed, re.M)
-    for words_of_it in ("the contracts take %s." % calls, "| together | %s | |" % calls, "names %s lines more" % theorem):
-        if words_of_it not in text("docs", "PROVED.md"):
-            wrong.append("PROVED.md doesn't say `%s`, which is what believed.py counts" % words_of_it)
+def check_sources():
+    """Files and folders below crates/, as a page has them: from the crate on, or from specs/, proofs/ or a folder of rules' laws on.
+    A name in capitals stands for any; an edit's name isn't a file's."""
+    below = r"(?<![\w/.])((?:(?:%s)/)?(?:specs|proofs|src|calls|cantor|census)(?:/\w+)+(?:\.(?:rt|antt))?)" % "|".join(CRATES)
+    for page in PAGES:
+        for path in sorted(set(re.findall(below, text(page)))):
+            if defined_at(path) is None and path not in counts.edits() and not re.search(r"(^|/)[A-Z]+(/|$)", path):
+                wrong.append("%s names %s, and it isn't there" % (page, path))
 
 
-check_edits()
-check_tour()
-check_names()
-check_believed()
-check_crates()
+# `name`, `other` (FILE); FILE `name`, `other`; CRATE `name` at the beginning of a cell or behind a comma, where it is no word of a sentence
+NAMED = r"((?:`[^`]+`(?:, | and )?)+)"
+BEFORE = re.compile(NAMED + r" ?\(((?:specs|proofs|calls|cantor|census|%s)(?:/\w+)+)\)" % "|".join(CRATES))
+AFTER = re.compile(r"(?:(?<![\w/])((?:specs|proofs|calls|cantor|census|%s)(?:/\w+)+)|(?:\| |; |, )(%s)) %s" % ("|".join(CRATES), "|".join(CRATES), NAMED))
+
+
+def check_places():
+    for page in PAGES:
+        said = [(path, names) for names, path in BEFORE.findall(text(page))] + [(path or crate, names) for path, crate, names in AFTER.findall(text(page))]
+        for path, names in said:
+            stand = defined_at(path)
+            for name, parts in names_in(names):
+                if stand is not None and parts[-1] not in stand and name not in CRATES:
+                    wrong.append("%s says that `%s` stands in %s, and it doesn't" % (page, name, path))
+
+
+def check_functions():
+    """Rows of docs/PROVED.md that begin with `CRATE`: `function`, `function`; CRATE's code has them."""
+    for cell in re.findall(r"^\| (`\w+`: .*?) \|", text("docs/PROVED.md"), re.M):
+        for crate, names in re.findall(r"`(\w+)`: %s" % NAMED, cell):
+            for name, parts in names_in(names):
+                if parts[-1] not in DEFINED.get(crate + "/src/lib.rt", ()):
+                    wrong.append("PROVED.md says that `%s` stands in the code of %s, and it doesn't" % (name, crate))
+
+
+def check_tour():
+    """What a step has in backquotes stands in the step's files, or in specs/ of their crates."""
+    for step in re.findall(r"^\d+\. (.*(?:\n   .*)*)", text("docs/TOUR.md"), re.M):
+        files = [f.rstrip(".") for f in re.findall(r"(?<![\w/])((?:%s)/[\w/.]+)" % "|".join(CRATES), step)]
+        crates = {f.split("/")[0] for f in files}
+        stand = set().union(*(w for p, w in SOURCES.items() if p in files or (p.split("/")[0] in crates and p.split("/")[1] == "specs")))
+        for name in re.findall(r"`([^`]+)`", step):
+            if re.split(r"[.:]+", name)[-1] not in stand and name not in CRATES and not name.startswith("&"):
+                wrong.append("TOUR.md names `%s`, and it doesn't stand in %s" % (name, ", ".join(files) or "a file of its step"))
+
+
+def check_decisions():
+    """A decision is cited with its title: docs/DECISIONS.md, NUMBER, "TITLE"; so one that moved is seen. Of every note."""
+    titles = {int(n): title.rstrip(".") for n, title in re.findall(r"^(\d+)\. \*\*(.*?)\*\*", text("docs/DECISIONS.md"), re.M)}
+    for page in EVERY:
+        for number, title in re.findall(r'DECISIONS\.md, (\d+)(?:, "(.*?)")?', text(page)):
+            if titles.get(int(number)) != title:
+                wrong.append('%s cites decision %s as "%s", and its title is "%s"' % (page, number, title, titles.get(int(number), "none")))
+
+
+def check_contracts():
+    """Lines of a contract that a page or any note has are lines of the code."""
+    code = {line.strip() for path in PATHS if path.endswith(".rt") for line in text(path).splitlines()}
+    for page in EVERY:
+        for line in re.findall(r"^ {4,}((?:requires|ensures) \{.*)", text(page), re.M):
+            if line.strip() not in code:
+                wrong.append("%s has the line `%s`, and no code has it" % (page, line.strip()))
+
+
+for check in (
+    check_counts, check_rule_edits, check_rule_files, check_believed, check_lists, check_all_edits_named, check_edits, check_crates, check_files,
+    check_sources, check_names, check_places, check_functions, check_tour, check_decisions, check_contracts,
+):  # fmt: skip
+    check()
 print("\n".join(wrong) if wrong else "docs/ and README.md agree with the tree")
 sys.exit(1 if wrong else 0)
