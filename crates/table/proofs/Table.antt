@@ -4,7 +4,7 @@
 -- taken, as c, and P of it; `TookBoth s a P` that then the divisor record was, as x, and P of both. What is asked is written out in rules/proofs: exactly/ (curves, divisors), calls/Decided (`Marked`, `Witness`, `Whole`), calls/Orders (`Ordered`), calls/SplitRoots
 -- (`NoSplit`), census/Census (`Last`), calls/Batches and exactly/Batches (`MadeOf`, `GoesOn`), and in pole_rule/proofs/Misfits (`CutShort`) and text_rule/proofs/FileNumbers (`Readable`, `Short`).
 use Prim.Native.Nat.{ℕ, _≤_, _<_}
-use mathlib.Core.Path.{_≡_}
+use mathlib.Core.Path.{_≡_, sym, ap, subst}
 use mathlib.Core.List.{List}
 use mathlib.Core.Bool.{Bool}
 use mathlib.Core.Logic.{_↔_, _⊎_}
@@ -16,9 +16,11 @@ use Rattle.rules.specs.Multiple.{multiple}
 use Rattle.rules.specs.Checks.{Checked, refused, taken, go-on}
 use Rattle.rules.specs.Records.{CurveRecord, curve, PairOf, made-of, version-of, curve-of, read-curve, us-at, vs-at, divisor-at, read-divisor}
 use Rattle.rules.specs.Lists.{Batch, batch}
-use Rattle.rules.specs.Calls.{Result, put, deliver, multiply-call, check-order, split-call, next-call, Running, resume, scan-call}
+use Rattle.rules.specs.Calls.{Result, deliver, multiply-call, check-order, split-call, next-call, Running, resume, scan-call}
 use Rattle.rules.proofs.calls.Written.{answered}
-use Rattle.rules.proofs.calls.Delivered.{put-short}
+use Rattle.rules.proofs.calls.Tests.{taken-inj}
+use Rattle.rules.proofs.calls.Refusals.{numbered-taken}
+use Rattle.rules.proofs.calls.Delivered.{put-room, put-short, delivered}
 use Rattle.rules.proofs.calls.Given.{_and_}
 use Rattle.rules.proofs.calls.Decided.{Marked, Whole}
 use Rattle.rules.proofs.calls.Reached.{TookCurve, TookBoth, staged}
@@ -44,7 +46,8 @@ pub record Table : Type 1 where
   -- ---- every call: what it reads first is refused with n, or it is taken and what follows answers n
   pub in-order : {N A : Type 0} (none : N) (out : List ℕ) (n : ℕ) (x : Checked A) (go : A → Checked (Result N))
       → (answered (deliver none out (go-on x go)) ≡ n) ↔ (((k : ℕ) × (x ≡ refused n k)) ⊎ ((a : A) × (x ≡ taken a) × (answered (deliver none out (go a)) ≡ n)))
-  -- ---- 0: done
+  -- ---- 0: done; its checks passed, and there is room for the result
+  pub zero : {N : Type 0} (none : N) (out : List ℕ) (r : Result N) → (answered (deliver none out (taken r)) ≡ 0) ↔ (length (r .bytes) ≤ length out)
   pub zero-curve : (s : List ℕ) → (read-curve s ≡ taken (curve-of s))
       ↔ (Six s and Marked s and Versioned s and Genus s and ToCount s and Count s and Long s and Odd s and Witnessed s and Below s and SquareFree (curve (curve-of s)))
   pub zero-divisor : (c : CurveRecord) (k : ℕ) (whole : Bool) (s : List ℕ) (a : ℕ) → (divisor-at c k whole s a ≡ taken (made-of c (us-at s a) (vs-at s a)))
@@ -82,7 +85,7 @@ pub record Table : Type 1 where
   pub twelve : (s a scalar out : List ℕ) → (answered (multiply-call s a scalar out) ≡ 12) ↔ TookBoth s a (λ c x. ¬ (length scalar ≤ 32))
   pub twelve-order : (s a order primes : List ℕ) → (check-order s a order primes .number ≡ 12) ↔ TookBoth s a (λ c x. ¬ (length order ≤ 32))
   -- ---- 13: output shorter than the result, of any call whose checks passed
-  pub thirteen : {N : Type 0} (none : N) (out : List ℕ) (r : Result N) → (answered (put none out r) ≡ 13) ↔ (length out < length (r .bytes))
+  pub thirteen : {N : Type 0} (none : N) (out : List ℕ) (r : Result N) → (answered (deliver none out (taken r)) ≡ 13) ↔ (length out < length (r .bytes))
   -- ---- 14: a batch goes on after 4,096 good records, or a running total already holds 4,096
   pub fourteen-batch : {A : Type 0} (c : CurveRecord) (step : A → PairOf c → A) (s : List ℕ) (from : A) → (batch c step s from ≡ refused 14 0) ↔ GoesOn c 4096 s
   pub fourteen : (c : CurveRecord) (t : Running) → (resume c t ≡ refused 14 0) ↔ (Whole c t and ¬ (t .count < 4096))
@@ -117,9 +120,17 @@ pub record Table : Type 1 where
   -- ---- 27: n isn't the divisor's order, or the list hasn't its primes
   pub twenty-seven : (s a order primes : List ℕ) → (check-order s a order primes .number ≡ 27) ↔ TookBoth s a (λ c x. (length order ≤ 32) and ¬ Ordered c x order primes)
 
+-- 0 where there is room
+room-given : {N : Type 0} (none : N) (out : List ℕ) (r : Result N) → (answered (deliver none out (taken r)) ≡ 0) ↔ (length (r .bytes) ≤ length out)
+room-given {N} none out r = (
+  λ e. let k = delivered none out (taken r) (numbered-taken r) e in subst (λ (x : Result N). length (x .bytes) ≤ length out) (sym (taken-inj (k .is))) (k .room),
+  λ l. ap answered (put-room none out r l),
+)
+
 pub table : Table
 table = record {
   in-order = λ none out n x go. staged none out n x go;
+  zero = room-given;
   zero-curve = curve-taken;
   zero-divisor = divisor-taken;
   zero-batch = λ c step s from. batch-taken c step s from;
