@@ -164,7 +164,7 @@ def check_lists():
     same("PROVED.md's table of wrong programs a call", re.findall(r"`(yubi_\w+)`", table("docs/PROVED.md", "| call | wrong programs |")), counts.exports())
     same("include/yubisorade.h", counts.declared(), counts.exports())
     same("README.md's demo/", re.findall(r"\bdemo/([\w-]+)", text("README.md")), counts.streets())
-    times = re.search(r"two crates at a time: (.*?)\.\n", text("docs/PROVED.md"))
+    times = re.search(r"two crates at a time:\n(.*?)\.\n", text("docs/PROVED.md"), re.S)
     same("PROVED.md's list of check times", re.findall(r"(\w+) \d+", times.group(1)) if times else [], counts.listed())
 
 
