@@ -26,10 +26,10 @@ import re
 import sys
 
 ROOT = os.path.join(os.path.dirname(os.path.abspath(__file__)), "..", "crates")
-CALLS = [("tablet", 'extern "C" fn'), ("scan_lent", "pub fn scan("), ("texts", "pub fn tally"), ("lines", "pub fn refusal")]
+CALLS = [("tablet", 'extern "C" fn'), ("scan_lent", "pub fn scan("), ("text_tally", "pub fn tally"), ("text_lines", "pub fn refusal")]
 THEOREM = ("rules/proofs/Demand3", ["Demand3", "demand3"])
 ORDER = [
-    "rules/specs", "signed", "c_answers", "scan_flat", "scan_lent", "scans", "divisor", "field", "digits", "lines", "texts",
+    "rules/specs", "signed", "tablet_answers", "scan_flat", "scan_lent", "scans", "divisor", "field", "digits", "text_lines", "text_tally",
     "algebra/proofs/ring", "algebra/proofs/list/Ops", "algebra/proofs/zmod", "algebra/proofs/poly/Series", "algebra/proofs/poly/Bound", "algebra/proofs/poly/Poly",
     "algebra/proofs/poly", "algebra/proofs/list", "algebra", "rules/proofs/Demand3", "rules/proofs",
 ]  # fmt: skip

@@ -4,7 +4,7 @@ corner of document 01, with a star or without, run through the calls, one line e
 
     python3 tools/corners.py             writes the data; vectors.py writes the expected text, which ends with the corners'
     python3 tools/corners.py --check     writes nothing: the data must be what it would write, and the expected text end so
-    --input PATH, --expected PATH        other files than crates/vectors/data/corners (in parts, corners.a and corners.b) and crates/vectors/stdout
+    --input PATH, --expected PATH        other files than crates/test_vectors/data/corners (in parts, corners.a and corners.b) and crates/test_vectors/stdout
 
 The format is frames.py's, with a label before each frame. What document 01 says of a corner stands in corner_table.py;
 reference.py's answer must agree with it or nothing is written.
@@ -268,7 +268,7 @@ def made():
 def main():
     parser = argparse.ArgumentParser(description="makes or checks the street corners", epilog="see the head of the file")
     parser.add_argument("--check", action="store_true")
-    root = os.path.join(os.path.dirname(os.path.abspath(__file__)), "..", "crates", "vectors")
+    root = os.path.join(os.path.dirname(os.path.abspath(__file__)), "..", "crates", "test_vectors")
     parser.add_argument("--input", default=os.path.normpath(os.path.join(root, "data", "corners")))
     parser.add_argument("--expected", default=os.path.normpath(os.path.join(root, "stdout")))
     options = parser.parse_args()

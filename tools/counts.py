@@ -68,12 +68,12 @@ def gate():
 
 def scenarios():
     """A case has two arguments, its curve and its batch."""
-    return len(lines("crates", "scenarios", "args")) // 2
+    return len(lines("crates", "test_tally", "args")) // 2
 
 
 def censuses():
     """Cases, refusals, whole censuses, divisors printed: a case is its path, then a refusal or a line a divisor."""
-    cases, printed = lines("crates", "census_scenarios", "args"), lines("crates", "census_scenarios", "stdout")
+    cases, printed = lines("crates", "test_census", "args"), lines("crates", "test_census", "stdout")
     refused = sum(1 for line in printed if line.startswith("refused "))
     return len(cases), refused, len(cases) - refused, len(printed) - len(cases) - refused
 
@@ -85,13 +85,13 @@ def census():
 @functools.lru_cache(None)
 def vectors():
     """The frames but the corners, and the number that each answers."""
-    found = frames.decoded(frames.read_parts(os.path.join(ROOT, "crates", "vectors", "data", "vectors")))
-    return list(zip(found, (int(line.split()[0]) for line in lines("crates", "vectors", "stdout"))))
+    found = frames.decoded(frames.read_parts(os.path.join(ROOT, "crates", "test_vectors", "data", "vectors")))
+    return list(zip(found, (int(line.split()[0]) for line in lines("crates", "test_vectors", "stdout"))))
 
 
 def corners():
     """The lines with a label in front: all that follow the other frames' lines."""
-    return len(lines("crates", "vectors", "stdout")) - len(vectors())
+    return len(lines("crates", "test_vectors", "stdout")) - len(vectors())
 
 
 def answered(operation, *numbers):
@@ -116,7 +116,7 @@ def composites():
 
 def field_rows():
     """Arithmetic, prime tests, edges: the edges begin where a modulus stands alone, and have one so for each."""
-    rows = [line.split() for line in lines("crates", "field_table", "stdout")]
+    rows = [line.split() for line in lines("crates", "test_tables", "stdout")]
     first = next(i for i, row in enumerate(rows) if len(row) == 1)
     tests = sum(1 for row in rows if len(row) == 2)
     return first - tests, tests, sum(1 for row in rows[first:] if len(row) > 1)

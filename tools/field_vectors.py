@@ -1,7 +1,7 @@
 #!/usr/bin/env python3
-"""field_vectors.py: what crates/field_table must print, by Python's own whole numbers and from the definitions only.
+"""field_vectors.py: what crates/test_tables must print, by Python's own whole numbers and from the definitions only.
 
-    python3 tools/field_vectors.py > crates/field_table/stdout
+    python3 tools/field_vectors.py > crates/test_tables/stdout
 """
 PRIMES = [3, 5, 7, 11, 65537, 2147483647]
 TRIED = [

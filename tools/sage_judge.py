@@ -4,7 +4,7 @@
 
     python3 tools/sage_judge.py [MOST]     judges at most MOST sums and doubles (400), spread over the whole file
 
-Frames and answers are those of crates/vectors, data/vectors and stdout, which the program `vectors` is held to. Without Sage it
+Frames and answers are those of crates/test_vectors, data/vectors and stdout, which the program `vectors` is held to. Without Sage it
 says so and exits 0: nothing was judged then. Exit 1 if Sage finds another sum.
 """
 import os
@@ -15,7 +15,7 @@ import reference as r
 from frames import ADD, DOUBLE, decoded, read_parts
 
 AGAIN = "SAGE_JUDGE_AGAIN"
-CRATE = os.path.join(os.path.dirname(os.path.abspath(__file__)), "..", "crates", "vectors")
+CRATE = os.path.join(os.path.dirname(os.path.abspath(__file__)), "..", "crates", "test_vectors")
 
 
 def done():

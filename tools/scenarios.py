@@ -3,7 +3,7 @@
 `scenarios` has a folder for each case of the program `tally`, with its `curve` and its `batch` or without, and what the program prints for
 each after a line with the two paths; `census_scenarios` has a curve for each case of the program `census`, and what that prints after the path.
 
-    python3 tools/scenarios.py             writes data, args and stdout of crates/scenarios and crates/census_scenarios, data and stdout of crates/census
+    python3 tools/scenarios.py             writes data, args and stdout of crates/test_tally and crates/test_census, data and stdout of crates/census
     python3 tools/scenarios.py --check     writes nothing: all of it must be what it would write
 
 What a folder prints is reference.py's answer for that folder, read from the disk; what a training curve prints, census.py's, that tries every
@@ -244,7 +244,7 @@ def write_census(home):
     write_all(home, {"stdout": census_text(os.path.join(home, "data", "curve"))})
 
 
-MADE = {"scenarios": write_scenarios, "census_scenarios": write_censuses, "census": write_census}
+MADE = {"test_tally": write_scenarios, "test_census": write_censuses, "census": write_census}
 
 
 def content_of(home):

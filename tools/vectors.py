@@ -5,8 +5,8 @@ ends with the lines of the street corners, whose input corners.py makes.
     python3 tools/vectors.py SEED             writes both files and prints the census
     python3 tools/vectors.py SEED --check     writes nothing: reads both files again, answers every frame again, sums
                                               again by ideals.py, makes all anew from SEED, compares, prints the census
-    --input PATH, --expected PATH             other files than crates/vectors/data/vectors (in parts, vectors.a, vectors.b and
-                                              on) and crates/vectors/stdout
+    --input PATH, --expected PATH             other files than crates/test_vectors/data/vectors (in parts, vectors.a, vectors.b and
+                                              on) and crates/test_vectors/stdout
 
 Exit 1 if the census falls short of what it must cover (`shortfalls` below) or if a check fails. The format is
 described in frames.py, the answers are reference.py's. The same SEED gives the same bytes.
@@ -1847,7 +1847,7 @@ def main():
     parser = argparse.ArgumentParser(description="makes or checks the test vectors", epilog="see the head of the file")
     parser.add_argument("seed")
     parser.add_argument("--check", action="store_true")
-    root = os.path.join(os.path.dirname(os.path.abspath(__file__)), "..", "crates", "vectors")
+    root = os.path.join(os.path.dirname(os.path.abspath(__file__)), "..", "crates", "test_vectors")
     parser.add_argument("--input", default=os.path.normpath(os.path.join(root, "data", "vectors")))
     parser.add_argument("--expected", default=os.path.normpath(os.path.join(root, "stdout")))
     options = parser.parse_args()

@@ -2,42 +2,42 @@
 // say no more than safety asks.
 ghost use mathlib.Core.Path.{_≡_};
 ghost use lib.ListN.{length};
-use c_answers::YubiAnswer;
-use c_answers::YubiMultiple;
-use c_answers::YubiPole;
-use c_answers::YubiRepeat;
-use c_answers::YubiTotal;
 use scan_flat::YubiRunning;
 use scan_flat::YubiScanned;
+use tablet_answers::YubiAnswer;
+use tablet_answers::YubiMultiple;
+use tablet_answers::YubiPole;
+use tablet_answers::YubiRepeat;
+use tablet_answers::YubiTotal;
 
 pub fn checked(text: &mut [u8], a: YubiAnswer) -> usize {
     let values = [a.number, a.place, a.length];
-    prints::plain(text, &values)
+    test_text::plain(text, &values)
 }
 
 pub fn written(text: &mut [u8], a: YubiAnswer, out: &[u8]) -> usize {
     let values = [a.number, a.place, a.length];
-    prints::with_output(text, &values, out)
+    test_text::with_output(text, &values, out)
 }
 
 pub fn multiplied(text: &mut [u8], a: YubiMultiple, out: &[u8]) -> usize {
     let values = [a.number, a.place, a.length, a.doublings, a.additions];
-    prints::with_output(text, &values, out)
+    test_text::with_output(text, &values, out)
 }
 
 pub fn totalled(text: &mut [u8], a: YubiTotal, out: &[u8]) -> usize {
     let values = [a.number, a.place, a.length, a.count];
-    prints::with_output(text, &values, out)
+    test_text::with_output(text, &values, out)
 }
 
 pub fn repeated(text: &mut [u8], a: YubiRepeat) -> usize {
     let values = [a.number, a.place, a.length, a.first, a.second];
-    prints::plain(text, &values)
+    test_text::plain(text, &values)
 }
 
 pub fn pole_read(text: &mut [u8], a: YubiPole, out: &[u8]) -> usize {
     let values = [a.number, a.place, a.length, a.pole as u64];
-    prints::with_output(text, &values, out)
+    test_text::with_output(text, &values, out)
 }
 
 pub fn scanned(text: &mut [u8], a: YubiScanned) -> usize {
@@ -56,29 +56,29 @@ pub fn scanned(text: &mut [u8], a: YubiScanned) -> usize {
         t.count,
         t.pole as u64,
     ];
-    prints::plain(text, &values)
+    test_text::plain(text, &values)
 }
 
 pub fn running(s: &[u8]) -> YubiRunning
     requires { ⌜ length (now s) ≡ 68 ⌝ }
 {
     YubiRunning {
-        weight: big_endian::read64(s, 0),
-        u0: big_endian::read64(s, 8),
-        u1: big_endian::read64(s, 16),
-        u2: big_endian::read64(s, 24),
-        v0: big_endian::read64(s, 32),
-        v1: big_endian::read64(s, 40),
-        v2: big_endian::read64(s, 48),
-        count: big_endian::read64(s, 56),
-        pole: big_endian::read32(s, 64) as u32,
+        weight: record_bytes::read64(s, 0),
+        u0: record_bytes::read64(s, 8),
+        u1: record_bytes::read64(s, 16),
+        u2: record_bytes::read64(s, 24),
+        v0: record_bytes::read64(s, 32),
+        v1: record_bytes::read64(s, 40),
+        v2: record_bytes::read64(s, 48),
+        count: record_bytes::read64(s, 56),
+        pole: record_bytes::read32(s, 64) as u32,
     }
 }
 
 pub fn pole(s: &[u8]) -> u32
     requires { ⌜ length (now s) ≡ 4 ⌝ }
 {
-    big_endian::read32(s, 0) as u32
+    record_bytes::read32(s, 0) as u32
 }
 
 pub fn is_fresh(t: YubiRunning) -> bool {

@@ -12,8 +12,8 @@ use borrow.Author.Tests.{ne-eqb}
 use Rattle.rules.specs.Bytes.{number, word32, words32}
 use Rattle.field.specs.Primes.{Decides}
 use Rattle.field.proofs.Decide.{decided-no}
-use Rattle.witness.specs.Witness.{SmallPrime, Stripped, MadeOf}
-use Rattle.witness.proofs.Listed.{Out, out-turn, out-less, out-end, Left, left-begin, not-above, not-prime, not-divided, left-turn, left-end}
+use Rattle.field_witness.specs.Witness.{SmallPrime, Stripped, MadeOf}
+use Rattle.field_witness.proofs.Listed.{Out, out-turn, out-less, out-end, Left, left-begin, not-above, not-prime, not-divided, left-turn, left-end}
 use Rattle.big_numbers.specs.declared.Divided.{Divided}
 use Rattle.big_numbers.specs.Numbers.{Capped, DividedBy}
 

@@ -5,7 +5,7 @@ ghost use lib.ListN.{length};
 ghost use Rattle.field.specs.Primes.{Decides};
 ghost use Rattle.rules.specs.Bytes.{number};
 ghost use Rattle.rules.specs.Calls.{listed};
-ghost use Rattle.witness.specs.Witness.{Stripped, MadeOf};
+ghost use Rattle.field_witness.specs.Witness.{Stripped, MadeOf};
 ghost use Rattle.big_numbers.specs.Numbers.{Capped, DividedBy};
 use refusals::MOST_SCALAR;
 
@@ -39,7 +39,7 @@ pub fn capped(n: [u8; MOST_SCALAR]) -> u64
         if t != 0 {
             return 256;
         }
-        t = big_endian::wide(n[k]);
+        t = record_bytes::wide(n[k]);
         k += 1;
     }
     t
@@ -54,7 +54,7 @@ pub fn divide(n: [u8; MOST_SCALAR], q: u64) -> Divided
     let mut left: u64 = 0;
     let mut k: usize = 0;
     while k < MOST_SCALAR {
-        let t = left * 256 + big_endian::wide(n[k]);
+        let t = left * 256 + record_bytes::wide(n[k]);
         quotient[k] = (t / q) as u8;
         left = t % q;
         k += 1;
@@ -90,11 +90,11 @@ pub fn is_made_of(n: [u8; MOST_SCALAR], primes: &[u8]) -> bool
     let mut last: u64 = 0;
     let mut i: usize = 0;
     while i < k {
-        let x = big_endian::read32(primes, 4 * i);
+        let x = record_bytes::read32(primes, 4 * i);
         if x <= last {
             return false;
         }
-        if !witness::is_small_prime(x) {
+        if !field_witness::is_small_prime(x) {
             return false;
         }
         let d = divide(left, x);

@@ -12,7 +12,7 @@ use Rattle.record_divisor.specs.declared.DivisorRead.the-variants.{Taken, Refus
 use Rattle.record_divisor.specs.Read.{DivisorIs}
 use Rattle.record_curve.specs.declared.CurveRead.{CurveRead}
 use Rattle.record_curve.specs.Read.{CurveIs}
-use Rattle.call_one.proofs.Turns.{Going, begins, ends, full, refuses, turns}
+use Rattle.call_answer.proofs.Turns.{Going, begins, ends, full, refuses, turns}
 use Rattle.rules.specs.Calls.{counted, check-batch}
 use Rattle.call_batch.specs.declared.BatchRead.{BatchRead}
 use Rattle.call_batch.specs.declared.BatchRead.the-variants.{Taken as TakenBatch, Refused as RefusedBatch}

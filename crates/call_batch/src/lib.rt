@@ -27,7 +27,7 @@ fn count_on(c: Curve, s: &[u8]) -> BatchRead
                 return BatchRead::Refused(n, k + 1);
             }
         }
-        a = a + 1 + 16 * (big_endian::wide(s[a]) as usize);
+        a = a + 1 + 16 * (record_bytes::wide(s[a]) as usize);
         k += 1;
     }
     BatchRead::Taken(k)

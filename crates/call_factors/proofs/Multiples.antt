@@ -22,12 +22,12 @@ use Rattle.divisor.proofs.Laws.{weight-is}
 use Rattle.curve.specs.Record.{recordOf}
 use Rattle.folds.specs.declared.Multiple.{Multiple}
 use Rattle.folds.specs.Contracts.{Multiplied as IsMultiple}
-use Rattle.call_one.specs.declared.Answer.{Answer}
-use Rattle.call_one.specs.declared.Answer.the-variants.{Done, Refused}
-use Rattle.call_one.specs.declared.CurveAndDivisor.{CurveAndDivisor}
-use Rattle.call_one.specs.Answers.{FirstRead, OneIs, PutIs}
-use Rattle.call_one.proofs.Firsts.{one-stops, one-goes}
-use Rattle.call_one.proofs.Written.{goes-on, stopped-as, wrote-none as put-none, wrote-all as put-all}
+use Rattle.call_answer.specs.declared.Answer.{Answer}
+use Rattle.call_answer.specs.declared.Answer.the-variants.{Done, Refused}
+use Rattle.call_answer.specs.declared.CurveAndDivisor.{CurveAndDivisor}
+use Rattle.call_answer.specs.Answers.{FirstRead, OneIs, PutIs}
+use Rattle.call_answer.proofs.Firsts.{one-stops, one-goes}
+use Rattle.call_answer.proofs.Written.{goes-on, stopped-as, wrote-none as put-none, wrote-all as put-all}
 use Rattle.call_factors.specs.Multiples.{MultipleIs, FactorsIs, countsOf, WroteMultiple}
 
 -- ---- a divisor's weight

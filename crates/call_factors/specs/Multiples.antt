@@ -13,9 +13,9 @@ use Rattle.divisor.specs.Divisors.{pair}
 use Rattle.curve.specs.Record.{recordOf}
 use Rattle.folds.specs.declared.Multiple.{Multiple}
 use Rattle.folds.specs.Contracts.{ToMultiply}
-use Rattle.call_one.specs.declared.Answer.{Answer}
-use Rattle.call_one.specs.declared.CurveAndDivisor.{CurveAndDivisor}
-use Rattle.call_one.specs.Answers.{AnswerIs}
+use Rattle.call_answer.specs.declared.Answer.{Answer}
+use Rattle.call_answer.specs.declared.CurveAndDivisor.{CurveAndDivisor}
+use Rattle.call_answer.specs.Answers.{AnswerIs}
 
 abbrev pub MultipleIs : Answer → List ℕ → Reply (ℕ × ℕ) → Type 0
 MultipleIs r out rule = AnswerIs (λ (x : ℕ × ℕ). x) r out rule

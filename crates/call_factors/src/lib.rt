@@ -1,8 +1,8 @@
 // What every multiplication reads, checks, writes and answers, whichever the engine: the call but for the multiple itself.
 ghost use Rattle.divisor.specs.Divisors.{Held};
 ghost use Rattle.call_factors.specs.Multiples.{FactorsIs, WroteMultiple};
-use call_one::Answer;
-use call_one::CurveAndDivisor;
+use call_answer::Answer;
+use call_answer::CurveAndDivisor;
 use divisor::Divisor;
 use field::Modulus;
 use folds::Multiple;
@@ -11,7 +11,7 @@ use folds::Multiple;
 pub fn read_factors(curve: &[u8], a: &[u8], scalar: &[u8]) -> CurveAndDivisor
     ensures { λ r. ⌜ FactorsIs (now (curve .entry)) (now (a .entry)) (now (scalar .entry)) r ⌝ }
 {
-    let x = call_one::read_curve_and_divisor(curve, a);
+    let x = call_answer::read_curve_and_divisor(curve, a);
     if x.number != 0 {
         return x;
     }
@@ -48,7 +48,7 @@ pub fn write_multiple(y: Multiple, m: Modulus, out: &mut [u8]) -> Answer
     if w == 0 {
         return Answer::Refused(refusals::EMPTY_KEY, 0);
     }
-    let n = call_one::write_out(e, m, out);
+    let n = call_answer::write_out(e, m, out);
     if n == 0 {
         return Answer::Refused(refusals::OUTPUT_LENGTH, 0);
     }

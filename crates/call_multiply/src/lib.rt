@@ -3,7 +3,7 @@ ghost use Rattle.rules.specs.Bytes.{number};
 ghost use Rattle.rules.specs.Calls.{multiply-call};
 ghost use Rattle.folds.specs.Contracts.{ToMultiply, Multiplied};
 ghost use Rattle.call_factors.specs.Multiples.{MultipleIs};
-use call_one::Answer;
+use call_answer::Answer;
 use curve::Curve;
 use divisor::Divisor;
 use folds::Multiple;
@@ -15,9 +15,9 @@ pub fn quicker(c: Curve, a: Divisor, s: &[u8]) -> Multiple
 {
     let g = c.g;
     if g == 2 {
-        return free_multiple::of(c, a, s);
+        return multiple::of(c, a, s);
     }
-    multiple::of(c, a, s)
+    multiple_affine::of(c, a, s)
 }
 
 pub fn multiply(curve: &[u8], a: &[u8], scalar: &[u8], out: &mut [u8]) -> Answer
@@ -42,5 +42,5 @@ pub fn multiply_inversion_free(curve: &[u8], a: &[u8], scalar: &[u8], out: &mut 
     }
     let c = x.curve;
     let d = x.divisor;
-    call_factors::write_multiple(free_multiple::of(c, d, scalar), c.m, out)
+    call_factors::write_multiple(multiple::of(c, d, scalar), c.m, out)
 }

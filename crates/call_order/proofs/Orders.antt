@@ -10,11 +10,11 @@ use Rattle.rules.proofs.calls.Written.{only}
 use Rattle.rules.proofs.calls.Orders.{Tested, checks-long, checks-pass, checks-fail}
 use Rattle.divisor.specs.Divisors.{pair}
 use Rattle.curve.specs.Record.{recordOf}
-use Rattle.call_one.specs.declared.Answer.the-variants.{Done, Refused}
-use Rattle.call_one.specs.declared.CurveAndDivisor.{CurveAndDivisor}
-use Rattle.call_one.specs.Answers.{CheckIs, FirstRead, OneIs}
-use Rattle.call_one.proofs.Firsts.{one-stops, one-goes}
-use Rattle.call_one.proofs.Written.{answer}
+use Rattle.call_answer.specs.declared.Answer.the-variants.{Done, Refused}
+use Rattle.call_answer.specs.declared.CurveAndDivisor.{CurveAndDivisor}
+use Rattle.call_answer.specs.Answers.{CheckIs, FirstRead, OneIs}
+use Rattle.call_answer.proofs.Firsts.{one-stops, one-goes}
+use Rattle.call_answer.proofs.Written.{answer}
 
 module _ (s a order primes : List ℕ) (x : CurveAndDivisor) (h : OneIs s a x) where
   abbrev c : CurveRecord

@@ -10,7 +10,7 @@ use Rattle.divisor.specs.Divisors.{pair}
 use Rattle.curve.specs.declared.Curve.{Curve}
 use Rattle.curve.specs.Curves.{Sound, Holds}
 use Rattle.curve.specs.Record.{recordOf}
-use Rattle.witness.specs.Witness.{AllSome}
+use Rattle.field_witness.specs.Witness.{AllSome}
 
 abbrev pub fold? : Curve → Divisor → ℕ → Bool
 fold? c a = neutral-fold? (recordOf c) (pair (c .m) a)

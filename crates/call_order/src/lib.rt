@@ -6,9 +6,9 @@ ghost use Rattle.field.specs.Primes.{Decides};
 ghost use Rattle.divisor.specs.Divisors.{pair};
 ghost use Rattle.curve.specs.Record.{recordOf};
 ghost use Rattle.folds.specs.Contracts.{ToMultiply};
-ghost use Rattle.call_one.specs.Answers.{CheckIs};
+ghost use Rattle.call_answer.specs.Answers.{CheckIs};
 ghost use Rattle.call_order.specs.Folds.{Folding, ToLook, Folded, NoneBelow};
-use call_one::Answer;
+use call_answer::Answer;
 use curve::Curve;
 use divisor::Divisor;
 use refusals::MOST_SCALAR;
@@ -31,7 +31,7 @@ fn is_none_below(c: Curve, a: Divisor, n: [u8; MOST_SCALAR], primes: &[u8]) -> b
     let k = primes.len() / 4;
     let mut j: usize = 0;
     while j < k {
-        let q = big_endian::read32(primes, 4 * j);
+        let q = record_bytes::read32(primes, 4 * j);
         let d = big_numbers::divide(n, q);
         let m = d.quotient;
         if is_neutral_fold(c, a, m) {
@@ -70,7 +70,7 @@ fn is_order(c: Curve, a: Divisor, order: &[u8], primes: &[u8]) -> bool
 pub fn check_order(curve: &[u8], divisor: &[u8], order: &[u8], primes: &[u8]) -> Answer
     ensures { λ r. ⌜ CheckIs r (check-order (now (curve .entry)) (now (divisor .entry)) (now (order .entry)) (now (primes .entry))) ⌝ }
 {
-    let x = call_one::read_curve_and_divisor(curve, divisor);
+    let x = call_answer::read_curve_and_divisor(curve, divisor);
     if x.number != 0 {
         return Answer::Refused(x.number, x.place);
     }

@@ -9,9 +9,9 @@ use Rattle.rules.specs.Calls.{Result, deliver, repeat-call}
 use Rattle.rules.proofs.calls.Refusals.{on-taken, on-refused}
 use Rattle.record_curve.specs.declared.CurveRead.{CurveRead}
 use Rattle.record_curve.specs.Read.{CurveIs}
-use Rattle.call_one.specs.declared.Answer.{Answer}
-use Rattle.call_one.specs.declared.Answer.the-variants.{Refused}
-use Rattle.call_one.proofs.Written.{goes-on, stopped-as}
+use Rattle.call_answer.specs.declared.Answer.{Answer}
+use Rattle.call_answer.specs.declared.Answer.the-variants.{Refused}
+use Rattle.call_answer.proofs.Written.{goes-on, stopped-as}
 use Rattle.call_repeat.specs.Repeats.{no-repeat, repeat-rule, RepeatIs}
 
 module _ (s b : List ℕ) (r : CurveRead) (h : CurveIs s r) where

@@ -20,9 +20,9 @@ use Rattle.curve.specs.Record.{recordOf}
 use Rattle.record_divisor.specs.declared.DivisorRead.{DivisorRead}
 use Rattle.record_divisor.specs.declared.DivisorRead.the-variants.{Taken, Refused}
 use Rattle.record_divisor.specs.Read.{DivisorIs}
-use Rattle.call_one.specs.declared.Answer.the-variants.{Done, Refused as RefusedAnswer}
-use Rattle.call_one.proofs.Written.{goes-on, stopped-as}
-use Rattle.call_one.proofs.Turns.{Going, begins, read-taken, ends, full, refuses, turns}
+use Rattle.call_answer.specs.declared.Answer.the-variants.{Done, Refused as RefusedAnswer}
+use Rattle.call_answer.proofs.Written.{goes-on, stopped-as}
+use Rattle.call_answer.proofs.Turns.{Going, begins, read-taken, ends, full, refuses, turns}
 use Rattle.call_repeat.specs.declared.Repeat.{Repeat as Found}
 use Rattle.call_repeat.specs.declared.Repeat.the-variants.{Pair as FoundPair, Nothing as FoundNothing}
 use Rattle.call_repeat.specs.Rows.{pairAt, SameIn, Row, Rows, placesOf}

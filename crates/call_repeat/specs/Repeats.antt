@@ -7,8 +7,8 @@ use Rattle.rules.specs.Lists.{Batch, batch, Repeat, first-repeat}
 use Rattle.rules.specs.Calls.{Result, Reply, deliver}
 use Rattle.curve.specs.declared.Curve.{Curve}
 use Rattle.curve.specs.Record.{recordOf}
-use Rattle.call_one.specs.declared.Answer.{Answer}
-use Rattle.call_one.specs.Answers.{AnswerIs}
+use Rattle.call_answer.specs.declared.Answer.{Answer}
+use Rattle.call_answer.specs.Answers.{AnswerIs}
 
 -- the divisors of a batch in a list
 abbrev pub list-rule : (c : Curve) → List ℕ → Checked (Batch (List (PairOf (recordOf c))))

@@ -10,7 +10,7 @@ ghost use Rattle.curve.specs.Curves.{Sound};
 ghost use Rattle.call_repeat.specs.Repeats.{repeat-rule, RepeatIs};
 ghost use Rattle.call_repeat.specs.Chains.{mix, chainOf, Whole, Excludes, lowest32, lowest64};
 ghost use Rattle.call_repeat.specs.Rows.{Row, SameAs, SameIn, Rows, placesOf};
-use call_one::Answer;
+use call_answer::Answer;
 use curve::Curve;
 use record_divisor::DivisorRead;
 
@@ -32,11 +32,11 @@ fn chain(s: &[u8], a: usize) -> usize
     requires { ⌜ Whole (now s) a ⌝ }
     ensures { λ r. ⌜ r ≡ chainOf (us-at (now (s .entry)) a) ⌝ }
 {
-    let w = big_endian::wide(s[a]) as usize;
+    let w = record_bytes::wide(s[a]) as usize;
     let mut h: u64 = 0;
     let mut k: usize = 0;
     while k < w {
-        h = mixed(h, big_endian::read64(s, a + 1 + 8 * k));
+        h = mixed(h, record_bytes::read64(s, a + 1 + 8 * k));
         k += 1;
     }
     (h / 1048576) as usize
@@ -48,10 +48,10 @@ fn low32(s: &[u8], a: usize) -> u64
     ensures within { λ r. ⌜ r < 4294967296 ⌝ }
     ensures word { λ r. ⌜ r ≡ lowest32 (now (s .entry)) a ⌝ }
 {
-    big_endian::wide(s[a])
+    record_bytes::wide(s[a])
         + 256
-            * (big_endian::wide(s[a + 1])
-                + 256 * (big_endian::wide(s[a + 2]) + 256 * big_endian::wide(s[a + 3])))
+            * (record_bytes::wide(s[a + 1])
+                + 256 * (record_bytes::wide(s[a + 2]) + 256 * record_bytes::wide(s[a + 3])))
 }
 
 fn low64(s: &[u8], a: usize) -> u64
@@ -95,7 +95,7 @@ fn alike(c: Curve, s: &[u8], a: usize, b: usize) -> bool
 {
     match record_divisor::divisor_at(c, false, s, a) {
         DivisorRead::Taken(x) => match record_divisor::divisor_at(c, false, s, b) {
-            DivisorRead::Taken(y) => repeat::same(x, y, c.m),
+            DivisorRead::Taken(y) => divisor_repeat::same(x, y, c.m),
             DivisorRead::Refused(_) => false,
         },
         DivisorRead::Refused(_) => false,
@@ -154,7 +154,7 @@ fn repeat_of(c: Curve, s: &[u8]) -> Answer
                 return Answer::Refused(number, (n + 1) as u64);
             }
         }
-        a = a + 1 + 16 * (big_endian::wide(s[a]) as usize);
+        a = a + 1 + 16 * (record_bytes::wide(s[a]) as usize);
         n += 1;
     }
     match search(c, s, &places, n) {

@@ -16,13 +16,13 @@ use Rattle.divisor.specs.declared.Divisor.{Divisor}
 use Rattle.divisor.specs.declared.Divisor.the-variants.{Neutral, One, Two, Three}
 use Rattle.divisor.specs.Divisors.{weightOf, pair}
 use Rattle.curve.specs.Record.{recordOf}
-use Rattle.splitting.specs.Splits.{PartsOf}
-use Rattle.call_one.specs.declared.Answer.{Answer}
-use Rattle.call_one.specs.declared.Answer.the-variants.{Done, Refused}
-use Rattle.call_one.specs.declared.CurveAndDivisor.{CurveAndDivisor}
-use Rattle.call_one.specs.Answers.{FirstRead, OneIs, Wrote}
-use Rattle.call_one.proofs.Firsts.{one-stops, one-goes}
-use Rattle.call_one.proofs.Written.{divisor-length, refused-as, goes-on, put-none, put-all, wrote-none, wrote-all}
+use Rattle.divisor_split.specs.Splits.{PartsOf}
+use Rattle.call_answer.specs.declared.Answer.{Answer}
+use Rattle.call_answer.specs.declared.Answer.the-variants.{Done, Refused}
+use Rattle.call_answer.specs.declared.CurveAndDivisor.{CurveAndDivisor}
+use Rattle.call_answer.specs.Answers.{FirstRead, OneIs, Wrote}
+use Rattle.call_answer.proofs.Firsts.{one-stops, one-goes}
+use Rattle.call_answer.proofs.Written.{divisor-length, refused-as, goes-on, put-none, put-all, wrote-none, wrote-all}
 
 module _ (s a out : List ℕ) (x : CurveAndDivisor) (h : OneIs s a x) where
   abbrev c : CurveRecord

@@ -3,11 +3,11 @@ ghost use mathlib.Core.List.{_++_};
 ghost use Rattle.rules.specs.Calls.{split-call, write};
 ghost use Rattle.rules.specs.Records.{divisor-bytes};
 ghost use Rattle.divisor.specs.Divisors.{pair, Held};
-ghost use Rattle.call_one.specs.Answers.{Wrote};
-use call_one::Answer;
+ghost use Rattle.call_answer.specs.Answers.{Wrote};
+use call_answer::Answer;
 use divisor::Divisor;
+use divisor_split::Parted;
 use field::Modulus;
-use splitting::Parted;
 
 // Two records, one after the other, at the front of the output; 13 where it is shorter.
 fn write_both(a: Divisor, b: Divisor, m: Modulus, out: &mut [u8]) -> Answer
@@ -27,13 +27,13 @@ fn write_both(a: Divisor, b: Divisor, m: Modulus, out: &mut [u8]) -> Answer
 pub fn split(curve: &[u8], a: &[u8], out: &mut [u8]) -> Answer
     ensures { λ r. ⌜ Wrote r (now (out .exit)) (split-call (now (curve .entry)) (now (a .entry)) (now (out .entry))) ⌝ }
 {
-    let x = call_one::read_curve_and_divisor(curve, a);
+    let x = call_answer::read_curve_and_divisor(curve, a);
     if x.number != 0 {
         return Answer::Refused(x.number, x.place);
     }
     let c = x.curve;
     let d = x.divisor;
-    match splitting::split(d, c.m) {
+    match divisor_split::split(d, c.m) {
         Parted::Parts(y, z) => write_both(y, z, c.m, out),
         Parted::NoParts => Answer::Refused(refusals::NO_ROOT, 0),
     }

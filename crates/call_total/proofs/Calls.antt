@@ -15,9 +15,9 @@ use Rattle.curve.specs.Curves.{Holds}
 use Rattle.record_curve.specs.declared.CurveRead.{CurveRead}
 use Rattle.curve.specs.Record.{recordOf}
 use Rattle.record_curve.specs.Read.{CurveIs}
-use Rattle.call_one.specs.declared.Answer.the-variants.{Done as DoneTotal, Refused as RefusedTotal}
-use Rattle.call_one.specs.Answers.{PutIs}
-use Rattle.call_one.proofs.Written.{goes-on, stopped-as, wrote-none, wrote-all}
+use Rattle.call_answer.specs.declared.Answer.the-variants.{Done as DoneTotal, Refused as RefusedTotal}
+use Rattle.call_answer.specs.Answers.{PutIs}
+use Rattle.call_answer.proofs.Written.{goes-on, stopped-as, wrote-none, wrote-all}
 use Rattle.call_total.specs.declared.TotalRead.{TotalRead}
 use Rattle.call_total.specs.declared.TotalRead.the-variants.{Done, Refused}
 use Rattle.call_total.specs.Totals.{TotalIs, TotalAnswerIs}

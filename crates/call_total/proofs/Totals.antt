@@ -27,16 +27,16 @@ use Rattle.curve.specs.Curves.{curveOf, Sound, Holds, Gives}
 use Rattle.curve.specs.Record.{recordOf}
 use Rattle.openings.specs.declared.Opening.{Opening}
 use Rattle.openings.specs.Openings.{Opened, Under, Undoes}
-use Rattle.lanes.specs.declared.Waiting.{Waiting}
-use Rattle.lanes.specs.Lanes.{Waits, together, lane, waiter}
-use Rattle.lanes.proofs.Side.{ends as undone}
-use Rattle.lanes.proofs.Rows.{at, prods, Row, prods-more, backs, prods-less, row-begin, row-more, row-less, row-total}
+use Rattle.sum_lanes.specs.declared.Waiting.{Waiting}
+use Rattle.sum_lanes.specs.Lanes.{Waits, together, lane, waiter}
+use Rattle.sum_lanes.proofs.Side.{ends as undone}
+use Rattle.sum_lanes.proofs.Rows.{at, prods, Row, prods-more, backs, prods-less, row-begin, row-more, row-less, row-total}
 use Rattle.record_divisor.specs.declared.DivisorRead.{DivisorRead}
 use Rattle.record_divisor.specs.declared.DivisorRead.the-variants.{Taken, Refused}
 use Rattle.record_divisor.specs.Read.{DivisorIs}
 use Rattle.call_total.specs.declared.TotalRead.the-variants.{Done, Refused as RefusedTotal}
 use Rattle.call_total.specs.Totals.{TotalIs}
-use Rattle.call_one.proofs.Turns.{Going, begins, read-taken, ends, full, refuses, turns}
+use Rattle.call_answer.proofs.Turns.{Going, begins, read-taken, ends, full, refuses, turns}
 
 -- t is the total so far, from first to last
 pub record Totalling (c : Curve) (s : List ℕ) (sums : List Divisor) (next : List Waiting) (n k a : ℕ) : Type 0 where

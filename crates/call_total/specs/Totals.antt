@@ -11,8 +11,8 @@ use Rattle.divisor.specs.Divisors.{pair}
 use Rattle.curve.specs.declared.Curve.{Curve}
 use Rattle.curve.specs.Curves.{curveOf, Holds}
 use Rattle.curve.specs.Record.{recordOf}
-use Rattle.call_one.specs.declared.Answer.{Answer}
-use Rattle.call_one.specs.Answers.{AnswerIs}
+use Rattle.call_answer.specs.declared.Answer.{Answer}
+use Rattle.call_answer.specs.Answers.{AnswerIs}
 use Rattle.call_total.specs.declared.TotalRead.{TotalRead}
 use Rattle.call_total.specs.declared.TotalRead.the-variants.{Done, Refused}
 

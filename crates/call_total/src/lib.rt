@@ -2,13 +2,13 @@
 ghost use Rattle.rules.specs.Calls.{total-call};
 ghost use Rattle.curve.specs.Curves.{Sound};
 ghost use Rattle.call_total.specs.Totals.{TotalIs, TotalAnswerIs};
-use call_one::Answer;
+use call_answer::Answer;
 use curve::Curve;
 use divisor::Divisor;
 use field::Residue;
-use lanes::LANES;
-use lanes::Waiting;
 use record_divisor::DivisorRead;
+use sum_lanes::LANES;
+use sum_lanes::Waiting;
 
 // The total of a batch and how many records it has, or a number and its place.
 pub enum TotalRead {
@@ -25,7 +25,7 @@ pub fn total_of(c: Curve, s: &[u8]) -> TotalRead
     let m = c.m;
     let one = Residue::one(m);
     let z = Divisor::neutral();
-    let nobody = lanes::nobody(one);
+    let nobody = sum_lanes::nobody(one);
     let mut sums = [z; LANES];
     let mut next = [nobody; LANES];
     let mut all = one;
@@ -53,7 +53,7 @@ pub fn total_of(c: Curve, s: &[u8]) -> TotalRead
                 return TotalRead::Refused(e, k + 1);
             }
         }
-        a = a + 1 + 16 * (big_endian::wide(s[a]) as usize);
+        a = a + 1 + 16 * (record_bytes::wide(s[a]) as usize);
         k += 1;
         n += 1;
         if n == LANES {
@@ -70,8 +70,8 @@ pub fn total_of(c: Curve, s: &[u8]) -> TotalRead
             all = one;
         }
     }
-    let x = lanes::waiting_total(c, next, n);
-    let y = lanes::lane_total(c, sums);
+    let x = sum_lanes::waiting_total(c, next, n);
+    let y = sum_lanes::lane_total(c, sums);
     TotalRead::Done(jacobian::sum(c, x, y), k)
 }
 
@@ -87,7 +87,7 @@ pub fn total_batch(curve: &[u8], batch: &[u8], out: &mut [u8]) -> Answer
     }
     match total_of(c, batch) {
         TotalRead::Done(t, k) => {
-            let n = call_one::write_out(t, c.m, out);
+            let n = call_answer::write_out(t, c.m, out);
             if n == 0 {
                 return Answer::Refused(refusals::OUTPUT_LENGTH, 0);
             }

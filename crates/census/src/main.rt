@@ -1,4 +1,4 @@
 // The program: prints the census of the training curve in the file `curve` in the current directory.
 fn main() {
-    files::print_census(b"curve");
+    text_files::print_census(b"curve");
 }

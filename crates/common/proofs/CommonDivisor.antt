@@ -14,9 +14,9 @@ use Rattle.poly.specs.Polys.{P, pol, Ok, Is}
 use Rattle.poly.specs.Contracts.{IsMonic}
 use Rattle.poly.proofs.Lengths.{none-is}
 use Rattle.poly.proofs.Monic.{monic-ne, monic-one}
-use Rattle.euclid.specs.declared.Line.{Line}
-use Rattle.euclid.specs.declared.RightLine.{RightLine}
-use Rattle.euclid.specs.Euclid.{Xgcd, XgcdRight}
+use Rattle.poly_euclid.specs.declared.Line.{Line}
+use Rattle.poly_euclid.specs.declared.RightLine.{RightLine}
+use Rattle.poly_euclid.specs.Euclid.{Xgcd, XgcdRight}
 use Rattle.common.specs.Common.{ToCommon, Common}
 
 module _ (m : Modulus) where

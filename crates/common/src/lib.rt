@@ -1,9 +1,9 @@
 // The greatest common divisor that a composition takes out: of u1, u2 and v1 + v2, with its cofactors.
 ghost use Rattle.common.specs.Common.{ToCommon, Common};
-use euclid::xgcd;
-use euclid::xgcd_right;
 use field::Modulus;
 use poly::Poly;
+use poly_euclid::xgcd;
+use poly_euclid::xgcd_right;
 
 // d = s1 * u1 + s2 * u2 + s3 * (v1 + v2) for some s1, which nothing needs.
 pub struct Bezout3 {

@@ -25,7 +25,7 @@ use Rattle.poly.specs.Polys.{pol, Ok, Is}
 use Rattle.poly.specs.Contracts.{IsMonic}
 use Rattle.poly.proofs.Lengths.{none-is}
 use Rattle.poly.proofs.Division.{monic-of}
-use Rattle.euclid.specs.Euclid.{Gcd}
+use Rattle.poly_euclid.specs.Euclid.{Gcd}
 use Rattle.few.proofs.Few.{next-term}
 use Rattle.roots_laws.proofs.Factor.{same-degree}
 use Rattle.roots_laws.proofs.Value.{ev, ev-hom, linear, root-iff, root-factor, root-rest}

@@ -15,7 +15,7 @@ fn common(u: MonicCubic, r: Rest, m: Modulus) -> Poly
 {
     let a = few::parabola(u.u0, u.u1, u.u2, m).put(3, Residue::one(m), m);
     let b = few::parabola(r.c0.settle(m), r.c1.settle(m), r.c2.settle(m), m);
-    euclid::gcd(a, b, m)
+    poly_euclid::gcd(a, b, m)
 }
 
 // What u shares with x^p - x.

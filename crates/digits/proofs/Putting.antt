@@ -5,7 +5,7 @@ use mathlib.Core.List.{List, [], _∷_, _++_}
 use native.Mathlib.Omega.{arith}
 use lib.ListN.{length, take, length-append}
 use lib.Seq.{sets, take-length}
-use Rattle.big_endian.proofs.Writing.{sets-append}
+use Rattle.record_bytes.proofs.Writing.{sets-append}
 use Rattle.digits.specs.Put.{PutAt, Room}
 
 pub put-none : (out : List ℕ) (a : ℕ) → PutAt out a [] out a

@@ -2,10 +2,10 @@
 use Prim.Native.Nat.{ℕ, _+_, _*_, _%_, _<_}
 use mathlib.Core.Path.{_≡_, refl, _∙_}
 use native.Mathlib.Omega.{arith}
-use Rattle.wide.specs.Words.{word}
-use Rattle.wide.specs.Reduced.{Turns, Reduced}
-use Rattle.montgomery.specs.Constants.{Same, Words, Squared}
-use Rattle.montgomery.proofs.Constants.{cube-is}
+use Rattle.field_words.specs.Words.{word}
+use Rattle.field_words.specs.Reduced.{Turns, Reduced}
+use Rattle.field_montgomery.specs.Constants.{Same, Words, Squared}
+use Rattle.field_montgomery.proofs.Constants.{cube-is}
 use Rattle.field.specs.Primes.{OddPrime}
 use Rattle.field.specs.Constants.{Odd, OfNumber}
 

@@ -5,15 +5,15 @@ use mathlib.Core.List.{[], _∷_}
 use Rattle.algebra.proofs.ring.CRing.{CRing}
 use Rattle.algebra.proofs.ring.Quote.{ring, quote, by}
 use Rattle.algebra.proofs.zmod.Zmod.{zmod, emb, emb-mul}
-use Rattle.wide.specs.Words.{word}
+use Rattle.field_words.specs.Words.{word}
 use Rattle.field.specs.declared.Modulus.{Modulus}
 use Rattle.field.specs.declared.Residue.{Residue}
 use Rattle.halving.specs.declared.Shifted.{Shifted}
-use Rattle.montgomery.specs.Back.{back}
+use Rattle.field_montgomery.specs.Back.{back}
 use Rattle.field.specs.Residues.{el, HasInverse, Inverts}
 use Rattle.halving.specs.Almost.{Invertible, AlmostIs}
-use Rattle.montgomery.specs.Powers.{ToFinish, Finished}
-use Rattle.montgomery.proofs.Back.{back-word}
+use Rattle.field_montgomery.specs.Powers.{ToFinish, Finished}
+use Rattle.field_montgomery.proofs.Back.{back-word}
 
 module _ (m : Modulus) (a : Residue) (u : HasInverse m a) where
   open CRing (zmod (m .p)) using (El as A, add as _⊕_, mul as _⊗_, neg as ng, zer as 𝟘, one as 𝟙, zer-add)

@@ -10,9 +10,9 @@ use Rattle.algebra.proofs.zmod.Zmod.{zmod, emb, emb-inj, emb-zero}
 use Rattle.algebra.proofs.zmod.PrimeField.{prime-field, two-ne-zero}
 use Rattle.field.specs.declared.Modulus.{Modulus}
 use Rattle.field.specs.declared.Residue.{Residue}
-use Rattle.montgomery.specs.Back.{back}
+use Rattle.field_montgomery.specs.Back.{back}
 use Rattle.field.specs.Residues.{el, Ring, Good, Kept, Settled, Stands, Settles, Everywhere}
-use Rattle.montgomery.proofs.Back.{back-word, back-cancel}
+use Rattle.field_montgomery.proofs.Back.{back-word, back-cancel}
 
 module _ (m : Modulus) where
   -- the residues of a good modulus are a field, over the very ring that the contracts speak of

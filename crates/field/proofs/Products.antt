@@ -8,17 +8,17 @@ use Rattle.algebra.proofs.ring.CRing.{CRing}
 use Rattle.algebra.proofs.ring.Power.{power}
 use Rattle.algebra.proofs.ring.Quote.{ring, quote, by}
 use Rattle.algebra.proofs.zmod.Zmod.{zmod, emb, num, num-of, emb-add, emb-mul, emb-zero}
-use Rattle.wide.specs.Words.{word}
-use Rattle.wide.specs.Reduced.{Reduced, Reducible}
+use Rattle.field_words.specs.Words.{word}
+use Rattle.field_words.specs.Reduced.{Reduced, Reducible}
 use Rattle.field.specs.declared.Modulus.{Modulus}
 use Rattle.field.specs.declared.Residue.{Residue}
-use Rattle.montgomery.specs.Back.{back}
+use Rattle.field_montgomery.specs.Back.{back}
 use Rattle.field.specs.Residues.{el, Ring, Kept, Stands, Settles}
-use Rattle.montgomery.specs.Constants.{Same}
-use Rattle.montgomery.specs.Powers.{ToPower, Powered}
+use Rattle.field_montgomery.specs.Constants.{Same}
+use Rattle.field_montgomery.specs.Powers.{ToPower, Powered}
 use Rattle.field.proofs.Laws.{positive}
-use Rattle.montgomery.proofs.Back.{reduced-is, back-word, product-is}
-use Rattle.wide.proofs.Bounds.{one-product, two-products}
+use Rattle.field_montgomery.proofs.Back.{reduced-is, back-word, product-is}
+use Rattle.field_words.proofs.Bounds.{one-product, two-products}
 use Rattle.field.proofs.Sums.{held, same-sum}
 
 module _ (m : Modulus) where

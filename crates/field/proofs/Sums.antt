@@ -6,12 +6,12 @@ use native.Mathlib.Omega.{arith}
 use Rattle.algebra.proofs.ring.CRing.{CRing, neg-zer}
 use Rattle.algebra.proofs.ring.Quote.{ring, quote, by}
 use Rattle.algebra.proofs.zmod.Zmod.{zmod, emb, emb-add, emb-zero}
-use Rattle.wide.proofs.Modulo.{same-element}
+use Rattle.field_words.proofs.Modulo.{same-element}
 use Rattle.field.specs.declared.Modulus.{Modulus}
 use Rattle.field.specs.declared.Residue.{Residue}
-use Rattle.montgomery.specs.Back.{back}
+use Rattle.field_montgomery.specs.Back.{back}
 use Rattle.field.specs.Residues.{el, Ring, Kept, Settled, Stands, Settles, Halves}
-use Rattle.montgomery.specs.Constants.{Same}
+use Rattle.field_montgomery.specs.Constants.{Same}
 use Rattle.field.proofs.Laws.{positive, settled-unique, zero-at}
 
 module _ (m : Modulus) where

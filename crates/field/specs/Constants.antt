@@ -1,7 +1,7 @@
 -- A modulus made of a number.
 use Prim.Native.Nat.{ℕ, _%_, _≤_}
 use mathlib.Core.Path.{_≡_}
-use Rattle.wide.specs.Reduced.{top}
+use Rattle.field_words.specs.Reduced.{top}
 use Rattle.field.specs.declared.Modulus.{Modulus}
 use Rattle.field.specs.Residues.{Ring}
 

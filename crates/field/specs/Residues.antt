@@ -5,9 +5,9 @@ use mathlib.Core.Path.{_≡_}
 use mathlib.Core.Logic.{_≢_}
 use Rattle.algebra.proofs.zmod.Prime.{Prime}
 use Rattle.algebra.proofs.zmod.Zmod.{zmod, emb}
-use Rattle.wide.specs.Words.{word}
-use Rattle.wide.specs.Reduced.{Turns}
-use Rattle.montgomery.specs.Back.{back}
+use Rattle.field_words.specs.Words.{word}
+use Rattle.field_words.specs.Reduced.{Turns}
+use Rattle.field_montgomery.specs.Back.{back}
 use Rattle.field.specs.declared.Modulus.{Modulus}
 use Rattle.field.specs.declared.Residue.{Residue}
 

@@ -38,7 +38,7 @@ impl Modulus {
     pub fn read(p: u64) -> ModulusRead
         ensures { λ r. ⌜ ModulusIs p r ⌝ }
     {
-        if primes::is_odd_prime(p) {
+        if field_primes::is_odd_prime(p) {
             ModulusRead::Modulo(Modulus::of(p))
         } else {
             ModulusRead::NoPrime
@@ -50,11 +50,11 @@ impl Modulus {
         requires { ⌜ Odd p ⌝ }
         ensures { λ r. ⌜ OfNumber p r ⌝ }
     {
-        let q = wide::turn(p);
-        let one = montgomery::word(p);
-        let x = montgomery::squared(one, p, q);
-        let square = montgomery::lower(x, p);
-        let cube = montgomery::lower(wide::product(square, square, p, q), p);
+        let q = field_words::turn(p);
+        let one = field_montgomery::word(p);
+        let x = field_montgomery::squared(one, p, q);
+        let square = field_montgomery::lower(x, p);
+        let cube = field_montgomery::lower(field_words::product(square, square, p, q), p);
         Modulus {
             p: p,
             twice: p + p,
@@ -99,8 +99,8 @@ impl Residue {
         ensures { λ r. ⌜ ResidueIs m n r ⌝ }
     {
         if n < m.p {
-            let x = wide::product(n, m.square, m.p, m.turn);
-            ResidueRead::Below(Residue(montgomery::lower(x, m.p)))
+            let x = field_words::product(n, m.square, m.p, m.turn);
+            ResidueRead::Below(Residue(field_montgomery::lower(x, m.p)))
         } else {
             ResidueRead::TooLarge
         }
@@ -110,7 +110,7 @@ impl Residue {
         requires { ⌜ Settled m self ⌝ }
         ensures { λ r. ⌜ r ≡ num (m .p) (el m self) ⌝ }
     {
-        montgomery::lower(wide::product(self.0, 1, m.p, m.turn), m.p)
+        field_montgomery::lower(field_words::product(self.0, 1, m.p, m.turn), m.p)
     }
 
     // A number kept from an earlier call, under whatever modulus, and back.
@@ -141,7 +141,7 @@ impl Residue {
         requires { ⌜ Kept m self ⌝ }
         ensures { λ r. ⌜ Settles m r (el m self) ⌝ }
     {
-        Residue(montgomery::lower(self.0, m.p))
+        Residue(field_montgomery::lower(self.0, m.p))
     }
 
     pub fn is_zero(self, m: Modulus) -> bool
@@ -223,7 +223,7 @@ impl Residue {
         requires { ⌜ Kept m self × Kept m other ⌝ }
         ensures { λ r. ⌜ Stands m r (zmod (m .p) .mul (el m self) (el m other)) ⌝ }
     {
-        Residue(wide::product(self.0, other.0, m.p, m.turn))
+        Residue(field_words::product(self.0, other.0, m.p, m.turn))
     }
 
     pub fn sqr(self, m: Modulus) -> Residue
@@ -238,14 +238,14 @@ impl Residue {
         requires { ⌜ Kept m self × Kept m b × Kept m c ⌝ }
         ensures { λ r. ⌜ Stands m r (zmod (m .p) .mul (el m self) (zmod (m .p) .add (el m b) (el m c))) ⌝ }
     {
-        Residue(wide::product(b.0 + c.0, self.0, m.p, m.turn))
+        Residue(field_words::product(b.0 + c.0, self.0, m.p, m.turn))
     }
 
     pub fn mul_diff(self, b: Residue, c: Residue, m: Modulus) -> Residue
         requires { ⌜ Kept m self × Kept m b × Kept m c ⌝ }
         ensures { λ r. ⌜ Stands m r (zmod (m .p) .mul (el m self) (zmod (m .p) .add (el m b) (zmod (m .p) .neg (el m c)))) ⌝ }
     {
-        Residue(wide::product(b.0 + m.twice - c.0, self.0, m.p, m.turn))
+        Residue(field_words::product(b.0 + m.twice - c.0, self.0, m.p, m.turn))
     }
 
     // self * b + c * d and self * b - c * d, by one reduction.
@@ -253,14 +253,14 @@ impl Residue {
         requires { ⌜ Kept m self × Kept m b × Kept m c × Kept m d ⌝ }
         ensures { λ r. ⌜ Stands m r (zmod (m .p) .add (zmod (m .p) .mul (el m self) (el m b)) (zmod (m .p) .mul (el m c) (el m d))) ⌝ }
     {
-        Residue(wide::products(self.0, b.0, c.0, d.0, m.p, m.turn))
+        Residue(field_words::products(self.0, b.0, c.0, d.0, m.p, m.turn))
     }
 
     pub fn cross(self, b: Residue, c: Residue, d: Residue, m: Modulus) -> Residue
         requires { ⌜ Kept m self × Kept m b × Kept m c × Kept m d ⌝ }
         ensures { λ r. ⌜ Stands m r (zmod (m .p) .add (zmod (m .p) .mul (el m self) (el m b)) (zmod (m .p) .neg (zmod (m .p) .mul (el m c) (el m d)))) ⌝ }
     {
-        Residue(wide::products(self.0, b.0, m.twice - c.0, d.0, m.p, m.turn))
+        Residue(field_words::products(self.0, b.0, m.twice - c.0, d.0, m.p, m.turn))
     }
 
     // self to the n, modulo any odd number.
@@ -268,7 +268,7 @@ impl Residue {
         requires { ⌜ Kept m self ⌝ }
         ensures { λ r. ⌜ Stands m r (power (zmod (m .p)) (el m self) n) ⌝ }
     {
-        Residue(montgomery::power(self.0, n, m.one, m.p, m.turn))
+        Residue(field_montgomery::power(self.0, n, m.one, m.p, m.turn))
     }
 
     pub fn inverse(self, m: Modulus) -> Residue
@@ -276,6 +276,6 @@ impl Residue {
         ensures { λ r. ⌜ Inverts m self r ⌝ }
     {
         let x = halving::almost(self.0, m.p);
-        Residue(montgomery::finish(x.s, x.k, m.p, m.turn, m.square, m.cube))
+        Residue(field_montgomery::finish(x.s, x.k, m.p, m.turn, m.square, m.cube))
     }
 }

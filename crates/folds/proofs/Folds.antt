@@ -19,7 +19,7 @@ use Rattle.divisor.proofs.Laws.{neutral-is}
 use Rattle.curve.specs.declared.Curve.{Curve}
 use Rattle.curve.specs.Curves.{curveOf, Sound, Holds, Gives}
 use Rattle.curve.proofs.Contains.{accepted, neutral-holds}
-use Rattle.recoding.specs.Recoded.{digit}
+use Rattle.scalar.specs.Recoded.{digit}
 
 module _ (c : Curve) (h : Sound c) (a : Divisor) (ha : Holds c a) where
   abbrev E : RuleCurve

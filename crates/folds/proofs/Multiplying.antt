@@ -12,11 +12,11 @@ use Rattle.divisor.specs.declared.Divisor.the-variants.{Neutral}
 use Rattle.divisor.specs.Divisors.{pair}
 use Rattle.curve.specs.declared.Curve.{Curve}
 use Rattle.curve.specs.Curves.{curveOf, Sound, Holds, Gives}
-use Rattle.recoding.specs.declared.Digits.{Digits}
-use Rattle.recoding.specs.Recoded.{upper, Recoded}
+use Rattle.scalar.specs.declared.Digits.{Digits}
+use Rattle.scalar.specs.Recoded.{upper, Recoded}
 use Rattle.folds.specs.Contracts.{Stepped}
 use Rattle.folds.proofs.Counted.{none}
-use Rattle.recoding.proofs.Upper.{upper-more, upper-all, upper-first}
+use Rattle.scalar.proofs.Upper.{upper-more, upper-all, upper-first}
 use Rattle.folds.proofs.Folds.{zero-fold, itself}
 
 pub record Multiplying (c : Curve) (a : Divisor) (d : List ℕ) (l : ℕ) (r : Divisor) (k : ℕ) : Type 0 where

@@ -12,7 +12,7 @@ use Rattle.divisor.specs.declared.Divisor.{Divisor}
 use Rattle.divisor.specs.Divisors.{pair}
 use Rattle.curve.specs.declared.Curve.{Curve}
 use Rattle.curve.specs.Curves.{curveOf, Sound, Holds, Gives}
-use Rattle.recoding.specs.Recoded.{digit}
+use Rattle.scalar.specs.Recoded.{digit}
 use Rattle.folds.specs.declared.Multiple.{Multiple}
 
 -- b is a's opposite

@@ -25,15 +25,15 @@ pub fn cut(s: &[u8]) -> Frame
             output: 0,
         };
     }
-    let first = HEAD + big_endian::read32(s, 1) as usize;
-    let second = first + big_endian::read32(s, 5) as usize;
-    let total = second + big_endian::read32(s, 9) as usize;
-    let end = total + big_endian::read32(s, 17) as usize;
+    let first = HEAD + record_bytes::read32(s, 1) as usize;
+    let second = first + record_bytes::read32(s, 5) as usize;
+    let total = second + record_bytes::read32(s, 9) as usize;
+    let end = total + record_bytes::read32(s, 17) as usize;
     Frame {
         first: first,
         second: second,
         total: total,
         end: end,
-        output: big_endian::read32(s, 13) as usize,
+        output: record_bytes::read32(s, 13) as usize,
     }
 }

@@ -11,11 +11,11 @@ use lib.Pow.{pow-add, pow-mono}
 use Rattle.algebra.proofs.ring.CRing.{CRing, neg-neg, mul-zer}
 use Rattle.algebra.proofs.ring.Quote.{ring, quote, by}
 use Rattle.algebra.proofs.zmod.Zmod.{zmod, emb, emb-add, emb-mul, emb-zero, emb-one, emb-p}
-use Rattle.wide.specs.Words.{word}
-use Rattle.wide.specs.Reduced.{top}
-use Rattle.wide.specs.Newton.{Zeros}
+use Rattle.field_words.specs.Words.{word}
+use Rattle.field_words.specs.Reduced.{top}
+use Rattle.field_words.specs.Newton.{Zeros}
 use Rattle.halving.specs.Almost.{Invertible, AlmostIs}
-use Rattle.wide.proofs.Bounds.{eight}
+use Rattle.field_words.proofs.Bounds.{eight}
 
 module _ (p a : ℕ) where
   open CRing (zmod p) using (El as A, add as _⊕_, mul as _⊗_, neg as ng, zer as 𝟘, one as 𝟙)

@@ -4,7 +4,7 @@ use mathlib.Core.Path.{_≡_}
 use mathlib.Core.Logic.{_≢_}
 use Rattle.algebra.proofs.zmod.Prime.{Prime}
 use Rattle.algebra.proofs.zmod.Zmod.{zmod, emb}
-use Rattle.wide.specs.Reduced.{top}
+use Rattle.field_words.specs.Reduced.{top}
 use Rattle.halving.specs.declared.Shifted.{Shifted}
 
 pub record Invertible (p a : ℕ) : Type 0 where

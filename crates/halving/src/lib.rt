@@ -14,7 +14,7 @@ pub fn almost(a: u64, p: u64) -> Shifted
     requires { ⌜ Invertible p a ⌝ }
     ensures { λ r. ⌜ AlmostIs p a r ⌝ }
 {
-    let mut k = wide::twos(a);
+    let mut k = field_words::twos(a);
     let mut u = p;
     let mut v = a >> k;
     let mut r: u64 = 0;
@@ -23,7 +23,7 @@ pub fn almost(a: u64, p: u64) -> Shifted
         if u < v {
             v = v - u;
             s = s + r;
-            let w = wide::twos(v);
+            let w = field_words::twos(v);
             v = v >> w;
             r = r << w;
             k = k + w;
@@ -31,7 +31,7 @@ pub fn almost(a: u64, p: u64) -> Shifted
         }
         u = u - v;
         r = r + s;
-        let w = wide::twos(u);
+        let w = field_words::twos(u);
         u = u >> w;
         s = s << w;
         k = k + w;

@@ -17,14 +17,14 @@ use Rattle.field.specs.declared.Modulus.{Modulus}
 use Rattle.field.specs.Residues.{el}
 use Rattle.divisor.specs.declared.Divisor.{Divisor}
 use Rattle.divisor.specs.declared.Divisor.the-variants.{Neutral, Two, Three}
-use Rattle.formulas.specs.declared.Sought.{Sought}
-use Rattle.formulas.specs.declared.Sought.the-variants.{Found, Special}
+use Rattle.sum_formulas.specs.declared.Sought.{Sought}
+use Rattle.sum_formulas.specs.declared.Sought.the-variants.{Found, Special}
 use Rattle.divisor.specs.declared.Quadratic.{Quadratic}
 use Rattle.divisor.specs.declared.Cubic.{Cubic}
 use Rattle.divisor.specs.Divisors.{elements, pair, Held, Opposed}
 use Rattle.divisor.proofs.Laws.{neutral-is}
-use Rattle.genus2.specs.Sums.{Sum2, Double2}
-use Rattle.genus3.specs.Sums.{Sum3, Double3}
+use Rattle.sum_genus2.specs.Sums.{Sum2, Double2}
+use Rattle.sum_genus3.specs.Sums.{Sum3, Double3}
 use Rattle.curve.specs.declared.Curve.{Curve}
 use Rattle.curve.specs.Curves.{lows, curveOf, Sound, Holds, Gives}
 use Rattle.curve.proofs.Above.{up-to, of-genus}

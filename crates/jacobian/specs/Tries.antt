@@ -4,12 +4,12 @@ use Rattle.algebra.proofs.zmod.PrimeField.{modulo}
 use Rattle.rules.specs.Pair.{Pair}
 use Rattle.divisor.specs.declared.Divisor.{Divisor}
 use Rattle.divisor.specs.declared.Divisor.the-variants.{Neutral, One, Two, Three}
-use Rattle.formulas.specs.declared.Sought.{Sought}
-use Rattle.formulas.specs.declared.Sought.the-variants.{Found, Special}
-use Rattle.formulas.specs.Conditions.{Unfit}
-use Rattle.steps2.specs.Steps.{ux, twice as twice2}
-use Rattle.opens3.specs.Opens.{uOf, twice as twice3}
-use Rattle.genus3.specs.Sums.{Short, ShortTwice}
+use Rattle.sum_formulas.specs.declared.Sought.{Sought}
+use Rattle.sum_formulas.specs.declared.Sought.the-variants.{Found, Special}
+use Rattle.sum_formulas.specs.Conditions.{Unfit}
+use Rattle.sum_genus2_steps.specs.Steps.{ux, twice as twice2}
+use Rattle.sum_genus3_open.specs.Opens.{uOf, twice as twice3}
+use Rattle.sum_genus3.specs.Sums.{Short, ShortTwice}
 use Rattle.curve.specs.declared.Curve.{Curve}
 use Rattle.curve.specs.Curves.{Gives}
 

@@ -9,7 +9,7 @@ use curve::Curve;
 use divisor::Cubic;
 use divisor::Divisor;
 use divisor::Quadratic;
-use formulas::Sought;
+use sum_formulas::Sought;
 
 // By formula: genus 2 and weight 2.
 fn quick_two(c: Curve, a: Quadratic, b: Quadratic) -> Sought
@@ -19,7 +19,7 @@ fn quick_two(c: Curve, a: Quadratic, b: Quadratic) -> Sought
     let m = c.m;
     let g = c.g;
     if g == 2 {
-        return genus2::add(a, b, c.f4, m);
+        return sum_genus2::add(a, b, c.f4, m);
     }
     Sought::Special
 }
@@ -31,7 +31,7 @@ fn twice_two(c: Curve, a: Quadratic) -> Sought
     let m = c.m;
     let g = c.g;
     if g == 2 {
-        return genus2::double(a, c.f2, c.f3, c.f4, m);
+        return sum_genus2::double(a, c.f2, c.f3, c.f4, m);
     }
     Sought::Special
 }
@@ -41,14 +41,14 @@ fn quick_three(c: Curve, a: Cubic, b: Cubic) -> Sought
     requires { ⌜ Sound c × (Holds c (Divisor.Three a) × Holds c (Divisor.Three b)) ⌝ }
     ensures { λ r. ⌜ Tried c (UnfitSum c (Divisor.Three a) (Divisor.Three b)) (sum (curveOf c) (pair (c .m) (Divisor.Three a)) (pair (c .m) (Divisor.Three b))) r ⌝ }
 {
-    genus3::add(a, b, c.f4, c.f5, c.f6, c.m)
+    sum_genus3::add(a, b, c.f4, c.f5, c.f6, c.m)
 }
 
 fn twice_three(c: Curve, a: Cubic) -> Sought
     requires { ⌜ Sound c × Holds c (Divisor.Three a) ⌝ }
     ensures { λ r. ⌜ Tried c (UnfitDouble c (Divisor.Three a)) (sum (curveOf c) (pair (c .m) (Divisor.Three a)) (pair (c .m) (Divisor.Three a))) r ⌝ }
 {
-    genus3::double(a, c.f3, c.f4, c.f5, c.f6, c.m)
+    sum_genus3::double(a, c.f3, c.f4, c.f5, c.f6, c.m)
 }
 
 // Both of one weight that a formula takes, or nothing to add.
@@ -98,7 +98,7 @@ pub fn sum(c: Curve, a: Divisor, b: Divisor) -> Divisor
     let q = quick_sum(c, a, b);
     match q {
         Sought::Found(d) => d,
-        Sought::Special => plain::sum(c, a, b),
+        Sought::Special => sum_plain::sum(c, a, b),
     }
 }
 
@@ -109,7 +109,7 @@ pub fn double(c: Curve, a: Divisor) -> Divisor
     let q = quick_double(c, a);
     match q {
         Sought::Found(d) => d,
-        Sought::Special => plain::double(c, a),
+        Sought::Special => sum_plain::double(c, a),
     }
 }
 

@@ -1,7 +1,7 @@
 // For tests: a flat running total of one's own, lent to the exported scan, as C lends one.
 ghost use Rattle.scan_flat.specs.Flats.{scanned-as, FlatScanIs};
-use c_answers::YubiAnswer;
 use scan_flat::YubiRunning;
+use tablet_answers::YubiAnswer;
 
 pub struct Lent {
     pub total: YubiRunning,

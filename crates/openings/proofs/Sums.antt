@@ -13,16 +13,16 @@ use Rattle.divisor.specs.declared.Divisor.the-variants.{Two, Three}
 use Rattle.divisor.specs.declared.Quadratic.{Quadratic}
 use Rattle.divisor.specs.declared.Cubic.{Cubic}
 use Rattle.divisor.specs.Divisors.{pair}
-use Rattle.formulas.specs.declared.Condition.{Condition}
-use Rattle.formulas.specs.declared.Condition.the-variants.{Main}
-use Rattle.formulas.specs.declared.Sought.the-variants.{Found}
-use Rattle.formulas.specs.Conditions.{Looked}
-use Rattle.genus2.specs.declared.Opened.{Opened as Opened2}
-use Rattle.genus2.specs.Sums.{Closes as Closes2}
-use Rattle.genus2.proofs.Found.{is-sum}
-use Rattle.opens3.specs.declared.Opened.{Opened as Opened3}
-use Rattle.opens3.specs.Opens.{curveWith, Opens as Opens3}
-use Rattle.genus3.specs.Sums.{Closes as Closes3}
+use Rattle.sum_formulas.specs.declared.Condition.{Condition}
+use Rattle.sum_formulas.specs.declared.Condition.the-variants.{Main}
+use Rattle.sum_formulas.specs.declared.Sought.the-variants.{Found}
+use Rattle.sum_formulas.specs.Conditions.{Looked}
+use Rattle.sum_genus2.specs.declared.Opened.{Opened as Opened2}
+use Rattle.sum_genus2.specs.Sums.{Closes as Closes2}
+use Rattle.sum_genus2.proofs.Found.{is-sum}
+use Rattle.sum_genus3_open.specs.declared.Opened.{Opened as Opened3}
+use Rattle.sum_genus3_open.specs.Opens.{curveWith, Opens as Opens3}
+use Rattle.sum_genus3.specs.Sums.{Closes as Closes3}
 use Rattle.curve.specs.declared.Curve.{Curve}
 use Rattle.curve.specs.Curves.{curveOf, Sound, Holds, Gives}
 use Rattle.jacobian.proofs.Quicks.{tried-two, tried-three}

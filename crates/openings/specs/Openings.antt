@@ -11,10 +11,10 @@ use Rattle.divisor.specs.declared.Divisor.{Divisor}
 use Rattle.divisor.specs.declared.Divisor.the-variants.{Neutral, One, Two, Three}
 use Rattle.divisor.specs.declared.Quadratic.{Quadratic}
 use Rattle.divisor.specs.declared.Cubic.{Cubic}
-use Rattle.genus2.specs.declared.Opened.{Opened as Opened2}
-use Rattle.genus2.specs.Sums.{Opens as Opens2}
-use Rattle.opens3.specs.declared.Opened.{Opened as Opened3}
-use Rattle.opens3.specs.Opens.{Opens as Opens3}
+use Rattle.sum_genus2.specs.declared.Opened.{Opened as Opened2}
+use Rattle.sum_genus2.specs.Sums.{Opens as Opens2}
+use Rattle.sum_genus3_open.specs.declared.Opened.{Opened as Opened3}
+use Rattle.sum_genus3_open.specs.Opens.{Opens as Opens3}
 use Rattle.curve.specs.declared.Curve.{Curve}
 use Rattle.jacobian.specs.Tries.{UnfitSum}
 use Rattle.openings.specs.declared.Opening.{Opening}

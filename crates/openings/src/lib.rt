@@ -12,13 +12,13 @@ use divisor::Divisor;
 use divisor::Quadratic;
 use field::Modulus;
 use field::Residue;
-use formulas::Condition;
+use sum_formulas::Condition;
 
 // What stands before the division.
 pub enum Opening {
     Special,
-    ByTwo(genus2::Opened),
-    ByThree(opens3::Opened),
+    ByTwo(sum_genus2::Opened),
+    ByThree(sum_genus3_open::Opened),
 }
 
 // In genus 2 s' of lower degree isn't opened: it has an inverse of its own.
@@ -28,8 +28,8 @@ fn open_two(c: Curve, a: Quadratic, b: Quadratic) -> Opening
 {
     let g = c.g;
     if g == 2 {
-        let o = genus2::open(a, b, c.m);
-        let k = formulas::look(o.r, o.s.c1, c.m);
+        let o = sum_genus2::open(a, b, c.m);
+        let k = sum_formulas::look(o.r, o.s.c1, c.m);
         match k {
             Condition::Special => Opening::Special,
             Condition::Flat => Opening::Special,
@@ -44,8 +44,8 @@ fn open_three(c: Curve, a: Cubic, b: Cubic) -> Opening
     requires { ⌜ Sound c × (Holds c (Divisor.Three a) × Holds c (Divisor.Three b)) ⌝ }
     ensures { λ r. ⌜ Opened c (Divisor.Three a) (Divisor.Three b) r ⌝ }
 {
-    let o = opens3::open(a, b, c.m);
-    let k = formulas::look(o.r, o.s.c2, c.m);
+    let o = sum_genus3_open::open(a, b, c.m);
+    let k = sum_formulas::look(o.r, o.s.c2, c.m);
     match k {
         Condition::Special => Opening::Special,
         Condition::Flat => Opening::Special,
@@ -91,7 +91,7 @@ pub fn under(o: Opening, m: Modulus) -> Residue
     }
 }
 
-fn close_two(c: Curve, a: Divisor, b: Divisor, o: genus2::Opened, i: Residue) -> Divisor
+fn close_two(c: Curve, a: Divisor, b: Divisor, o: sum_genus2::Opened, i: Residue) -> Divisor
     requires { ⌜ Sound c × (Holds c a × (Holds c b × (Two? c a b o × (Fit (c .m) (ByTwo o) × Undoes (c .m) (ByTwo o) i)))) ⌝ }
     ensures { λ r. ⌜ Gives c r (sum (curveOf c) (pair (c .m) a) (pair (c .m) b)) ⌝ }
 {
@@ -102,7 +102,7 @@ fn close_two(c: Curve, a: Divisor, b: Divisor, o: genus2::Opened, i: Residue) ->
             match b {
                 Divisor::Neutral => jacobian::sum(c, a, b),
                 Divisor::One(_) => jacobian::sum(c, a, b),
-                Divisor::Two(y) => Divisor::Two(genus2::close(x, y, o, i, c.f4, c.m)),
+                Divisor::Two(y) => Divisor::Two(sum_genus2::close(x, y, o, i, c.f4, c.m)),
                 Divisor::Three(_) => jacobian::sum(c, a, b),
             }
         }
@@ -110,7 +110,7 @@ fn close_two(c: Curve, a: Divisor, b: Divisor, o: genus2::Opened, i: Residue) ->
     }
 }
 
-fn close_three(c: Curve, a: Divisor, b: Divisor, o: opens3::Opened, i: Residue) -> Divisor
+fn close_three(c: Curve, a: Divisor, b: Divisor, o: sum_genus3_open::Opened, i: Residue) -> Divisor
     requires { ⌜ Sound c × (Holds c a × (Holds c b × (Three? c a b o × (Fit (c .m) (ByThree o) × Undoes (c .m) (ByThree o) i)))) ⌝ }
     ensures { λ r. ⌜ Gives c r (sum (curveOf c) (pair (c .m) a) (pair (c .m) b)) ⌝ }
 {
@@ -123,7 +123,7 @@ fn close_three(c: Curve, a: Divisor, b: Divisor, o: opens3::Opened, i: Residue) 
                 Divisor::Neutral => jacobian::sum(c, a, b),
                 Divisor::One(_) => jacobian::sum(c, a, b),
                 Divisor::Two(_) => jacobian::sum(c, a, b),
-                Divisor::Three(y) => Divisor::Three(genus3::close(
+                Divisor::Three(y) => Divisor::Three(sum_genus3::close(
                     x,
                     y,
                     o,

@@ -23,7 +23,7 @@ fn number(s: &[u8], at: usize) -> u64 {
     if s.len() - 4 < at {
         return 0;
     }
-    big_endian::read32(s, at)
+    record_bytes::read32(s, at)
 }
 
 fn length(s: &[u8], at: usize) -> usize
@@ -122,8 +122,8 @@ fn division(a: Poly, b: Poly, m: Modulus)
 fn gcds(a: Poly, b: Poly, m: Modulus)
     requires { ⌜ Ok m a × Ok m b ⌝ }
 {
-    show(b"gcd", euclid::gcd(a, b, m), m);
-    let x = euclid::xgcd(a, b, m);
+    show(b"gcd", poly_euclid::gcd(a, b, m), m);
+    let x = poly_euclid::xgcd(a, b, m);
     show(b"again", x.r, m);
     show(b"s", x.s, m);
     show(b"t", x.t, m);
@@ -133,7 +133,7 @@ fn alone(a: Poly, m: Modulus)
     requires { ⌜ Ok m a ⌝ }
 {
     show(b"derivative", a.derivative(m), m);
-    if euclid::is_square_free(a, m) {
+    if poly_euclid::is_square_free(a, m) {
         io::write_all(OUT, b"square-free\n");
     } else {
         io::write_all(OUT, b"repeated factor\n");

@@ -26,10 +26,10 @@ use Rattle.curve.specs.Curves.{Shaped, Sound, lows, curveOf}
 use Rattle.curve.specs.Record.{recordOf}
 use Rattle.curve.proofs.Above.{up-to}
 use Rattle.few.specs.Few.{OfCurve}
-use Rattle.big_endian.proofs.Rows.{words-append, below-append}
+use Rattle.record_bytes.proofs.Rows.{words-append, below-append}
 use Rattle.record_numbers.specs.declared.Residues.{Residues}
 use Rattle.record_numbers.specs.Read.{ResiduesIs}
-use Rattle.record_head.specs.Heads.{low-rule}
+use Rattle.record_curve_head.specs.Heads.{low-rule}
 use Rattle.record_curve.specs.Read.{ToRead, CoefficientsIs}
 
 module _ (s : List ℕ) (g : ℕ) (m : Modulus) (h : ToRead s g m) where

@@ -7,8 +7,8 @@ use lib.ListN.{getD}
 use Rattle.rules.specs.Records.{refused, read-curve}
 use Rattle.rules.proofs.calls.CurveRecords.{genus-is}
 use Rattle.field.specs.declared.Modulus.{Modulus}
-use Rattle.record_head.specs.Heads.{Headed, HeadIs, low-rule}
-use Rattle.record_prime.specs.Primes.{PrimeTaken, PrimeRefused}
+use Rattle.record_curve_head.specs.Heads.{Headed, HeadIs, low-rule}
+use Rattle.record_curve_prime.specs.Primes.{PrimeTaken, PrimeRefused}
 use Rattle.record_curve.specs.declared.CurveRead.{CurveRead}
 use Rattle.record_curve.specs.Read.{CurveIs, ToRead, CoefficientsIs}
 

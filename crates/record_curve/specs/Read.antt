@@ -8,7 +8,7 @@ use Rattle.field.specs.declared.Modulus.{Modulus}
 use Rattle.field.specs.Residues.{Good}
 use Rattle.curve.specs.Curves.{Sound}
 use Rattle.curve.specs.Record.{recordOf}
-use Rattle.record_head.specs.Heads.{low-rule}
+use Rattle.record_curve_head.specs.Heads.{low-rule}
 use Rattle.record_curve.specs.declared.CurveRead.{CurveRead}
 
 -- a curve read, or a number other than 0

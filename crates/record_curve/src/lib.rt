@@ -4,7 +4,7 @@ ghost use Rattle.record_curve.specs.Read.{CurveIs, ToRead, CoefficientsI
 use curve::Curve;
 use field::Modulus;
 use field::Residue;
-use record_prime::PrimeRead;
+use record_curve_prime::PrimeRead;
 
 // The number is 0 where the curve was taken.
 pub struct CurveRead {
@@ -34,7 +34,7 @@ fn read_coefficients(s: &[u8], g: usize, m: Modulus) -> CurveRead
     };
     if low.below {
         if high.below {
-            if euclid::is_square_free(few::f_of(c), m) {
+            if poly_euclid::is_square_free(few::f_of(c), m) {
                 return CurveRead {
                     number: 0,
                     curve: c,
@@ -77,12 +77,12 @@ fn no_curve(number: u64) -> CurveRead
 pub fn read_curve(s: &[u8]) -> CurveRead
     ensures { λ r. ⌜ CurveIs (now (s .entry)) r ⌝ }
 {
-    let number = record_head::head_number(s);
+    let number = record_curve_head::head_number(s);
     if number != 0 {
         return no_curve(number);
     }
-    match record_prime::read_prime(s) {
-        PrimeRead::Modulo(m) => read_coefficients(s, big_endian::wide(s[5]) as usize, m),
+    match record_curve_prime::read_prime(s) {
+        PrimeRead::Modulo(m) => read_coefficients(s, record_bytes::wide(s[5]) as usize, m),
         PrimeRead::Refused(n) => no_curve(n),
     }
 }

@@ -18,7 +18,7 @@ use Rattle.divisor.proofs.Rows.{row-u, row-v}
 use Rattle.curve.specs.declared.Curve.{Curve}
 use Rattle.curve.specs.Curves.{curveOf, Sound, Divided}
 use Rattle.curve.specs.Record.{recordOf}
-use Rattle.big_endian.proofs.Rows.{below-append, words-append, length-row}
+use Rattle.record_bytes.proofs.Rows.{below-append, words-append, length-row}
 use Rattle.record_divisor.specs.declared.DivisorRead.the-variants.{Taken, Refused}
 use Rattle.record_numbers.specs.declared.Residues.{Residues}
 use Rattle.record_numbers.specs.Read.{ResiduesIs}

@@ -31,7 +31,7 @@ pub fn divisor_at(c: Curve, whole: bool, s: &[u8], a: usize) -> DivisorRead
     if s.len() <= a {
         return DivisorRead::Refused(refusals::DIVISOR_LENGTH); // empty
     }
-    let w = big_endian::wide(s[a]) as usize;
+    let w = record_bytes::wide(s[a]) as usize;
     let g = c.g;
     if g < w {
         return DivisorRead::Refused(refusals::WEIGHT);

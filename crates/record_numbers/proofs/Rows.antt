@@ -15,7 +15,7 @@ use Rattle.field.specs.declared.Modulus.{Modulus}
 use Rattle.field.specs.declared.Residue.{Residue}
 use Rattle.field.specs.Residues.{Settled, Settles}
 use Rattle.divisor.specs.Divisors.{elements as values, AllSettled}
-use Rattle.big_endian.proofs.Rows.{all-below, one-above}
+use Rattle.record_bytes.proofs.Rows.{all-below, one-above}
 use Rattle.record_numbers.specs.Read.{ResiduesIs}
 
 -- ---- the loop: the first k numbers are below p, and r holds them

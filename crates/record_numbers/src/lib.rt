@@ -21,7 +21,7 @@ pub fn residues_at(s: &[u8], a: usize, n: usize, m: Modulus) -> Residues
     let mut r = [z; 6];
     let mut k: usize = 0;
     while k < n {
-        match Residue::read(big_endian::read64(s, a + 8 * k), m) {
+        match Residue::read(record_bytes::read64(s, a + 8 * k), m) {
             ResidueRead::Below(x) => {
                 r[k] = x;
             }

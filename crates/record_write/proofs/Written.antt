@@ -13,7 +13,7 @@ use Rattle.divisor.specs.declared.Divisor.{Divisor}
 use Rattle.divisor.specs.Divisors.{weightOf, pair}
 use Rattle.divisor.proofs.Laws.{weight-le, weight-is}
 use Rattle.record_write.specs.Write.{NumbersOf}
-use Rattle.big_endian.proofs.Writing.{all-append}
+use Rattle.record_bytes.proofs.Writing.{all-append}
 
 pub divisor-written : (m : Modulus) (d : Divisor) (out x : List ℕ) (w : ℕ) → w ≡ weightOf d → NumbersOf m d x
     → sets (set out 0 (w % 256)) 1 (all-bytes (take (2 * w) x)) ≡ sets out 0 (divisor-bytes (m .p) (pair m d))

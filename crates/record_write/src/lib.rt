@@ -39,5 +39,5 @@ pub fn write_divisor(d: Divisor, m: Modulus, out: &mut [u8])
     let w = d.weight();
     let x = numbers_of(d, m);
     out[0] = (w % 256) as u8;
-    big_endian::write_words(out, 1, x, 2 * w);
+    record_bytes::write_words(out, 1, x, 2 * w);
 }

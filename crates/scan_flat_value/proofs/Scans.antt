@@ -10,9 +10,9 @@ use Rattle.scan_total.specs.declared.Running.{Running}
 use Rattle.record_curve.specs.declared.CurveRead.{CurveRead}
 use Rattle.curve.specs.Record.{recordOf}
 use Rattle.record_curve.specs.Read.{CurveIs}
-use Rattle.scan_value.specs.declared.ScanAnswer.{ScanAnswer}
-use Rattle.scan_value.specs.declared.ScanAnswer.the-variants.{Done, Refused}
-use Rattle.scan_value.specs.Scans.{runningOf, scannedOf}
+use Rattle.scan_record.specs.declared.ScanAnswer.{ScanAnswer}
+use Rattle.scan_record.specs.declared.ScanAnswer.the-variants.{Done, Refused}
+use Rattle.scan_record.specs.Scans.{runningOf, scannedOf}
 use Rattle.scan_flat.specs.declared.YubiRunning.{YubiRunning}
 use Rattle.scan_flat.specs.declared.YubiScanned.{YubiScanned}
 use Rattle.scan_flat.specs.Flats.{flat-running, unflat, Flattened, Cut, scanned-as, flat-scanned, FlatScanIs}

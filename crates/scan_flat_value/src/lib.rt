@@ -2,8 +2,8 @@
 ghost use Rattle.scan_flat.specs.Flats.{FlatScanIs};
 use scan_flat::YubiRunning;
 use scan_flat::YubiScanned;
+use scan_record::ScanAnswer;
 use scan_total::Running;
-use scan_value::ScanAnswer;
 
 pub fn scan(t: YubiRunning, curve: &[u8], record: &[u8]) -> YubiScanned
     ensures { λ r. ⌜ FlatScanIs t (now (curve .entry)) (now («record» .entry)) r ⌝ }
@@ -25,7 +25,7 @@ pub fn scan(t: YubiRunning, curve: &[u8], record: &[u8]) -> YubiScanned
         pole: t.pole,
     };
     if scan_flat::same(scan_flat::flatten_running(r), t) {
-        match scan_value::scan_on(c, r, record) {
+        match scan_record::scan_on(c, r, record) {
             ScanAnswer::Done(x) => YubiScanned {
                 number: 0,
                 place: 0,

@@ -7,7 +7,7 @@ use Rattle.field.proofs.Raw.{same-raw}
 use Rattle.divisor.specs.Divisors.{us, vs}
 use Rattle.divisor.proofs.Laws.{same-coefficients}
 use Rattle.scan_total.specs.declared.Running.{Running}
-use Rattle.scan_value.specs.Scans.{runningOf}
+use Rattle.scan_record.specs.Scans.{runningOf}
 use Rattle.scan_lent.specs.declared.Report.{Report}
 use Rattle.scan_lent.specs.Lent.{ScanIs}
 

@@ -11,7 +11,7 @@ use Rattle.field.specs.Residues.{raw}
 use Rattle.divisor.specs.Divisors.{us, vs}
 use Rattle.scan_total.specs.declared.Running.{Running}
 use Rattle.scan_total.specs.Totals.{Fresh}
-use Rattle.scan_value.specs.Scans.{runningOf}
+use Rattle.scan_record.specs.Scans.{runningOf}
 use Rattle.scan_lent.specs.declared.Report.{Report}
 use Rattle.scan_lent.specs.Lent.{ScanIs}
 use Rattle.rules.proofs.calls.Sequences.{Scan, AllScans, last-total, took, sequence-total}

@@ -4,9 +4,9 @@ use mathlib.Core.Path.{_≡_, refl, subst}
 use mathlib.Core.List.{List}
 use Rattle.rules.specs.Calls.{scan-call}
 use Rattle.scan_total.specs.declared.Running.{Running}
-use Rattle.scan_value.specs.declared.ScanAnswer.{ScanAnswer}
-use Rattle.scan_value.specs.declared.ScanAnswer.the-variants.{Done, Refused}
-use Rattle.scan_value.specs.Scans.{runningOf, scannedOf}
+use Rattle.scan_record.specs.declared.ScanAnswer.{ScanAnswer}
+use Rattle.scan_record.specs.declared.ScanAnswer.the-variants.{Done, Refused}
+use Rattle.scan_record.specs.Scans.{runningOf, scannedOf}
 use Rattle.scan_lent.specs.Lent.{ScanIs}
 
 module _ (t : Running) (s a : List ℕ) (x : ScanAnswer) (h : scannedOf t x ≡ scan-call (runningOf t) s a) where

@@ -5,7 +5,7 @@ use mathlib.Core.Path.{_≡_}
 use mathlib.Core.List.{List, []}
 use Rattle.rules.specs.Calls.{Answer, Running as RuleRunning, Reply, scan-call}
 use Rattle.scan_total.specs.declared.Running.{Running}
-use Rattle.scan_value.specs.Scans.{runningOf}
+use Rattle.scan_record.specs.Scans.{runningOf}
 use Rattle.scan_lent.specs.declared.Report.{Report}
 
 -- the scan writes no output

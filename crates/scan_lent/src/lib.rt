@@ -1,7 +1,7 @@
 // The running total, lent to the scan and changed in place. The work is by value, in `scan_by_value`; the function over a `&mut` only stores what it gave.
 ghost use Rattle.scan_lent.specs.Lent.{ScanIs};
+use scan_record::ScanAnswer;
 use scan_total::Running;
-use scan_value::ScanAnswer;
 
 // A scan writes no output: its length is always 0.
 pub struct Report {
@@ -17,7 +17,7 @@ pub struct Step {
 pub fn scan_by_value(t: Running, curve: &[u8], record: &[u8]) -> Step
     ensures { λ r. ⌜ ScanIs t (now (curve .entry)) (now («record» .entry)) (r .report) (r .total) ⌝ }
 {
-    match scan_value::scan(t, curve, record) {
+    match scan_record::scan(t, curve, record) {
         ScanAnswer::Done(x) => Step {
             total: x,
             report: Report {

@@ -8,12 +8,12 @@ use Rattle.rules.specs.Calls.{check-curve, check-divisor, rewrite-curve, rewrit
 use Rattle.rules.specs.Calls.{check-order, split-call, next-call, fresh}
 use Rattle.rules.proofs.CallLaws.{one-answer}
 use Rattle.pole_rule.specs.PoleFile.{read-file, write-file}
-use Rattle.c_answers.specs.declared.YubiAnswer.{YubiAnswer}
-use Rattle.c_answers.specs.declared.YubiMultiple.{YubiMultiple}
-use Rattle.c_answers.specs.declared.YubiTotal.{YubiTotal}
-use Rattle.c_answers.specs.declared.YubiRepeat.{YubiRepeat}
-use Rattle.c_answers.specs.declared.YubiPole.{YubiPole}
-use Rattle.c_answers.specs.Flat.{flat, flat-multiple, flat-total, flat-repeat, flat-pole}
+use Rattle.tablet_answers.specs.declared.YubiAnswer.{YubiAnswer}
+use Rattle.tablet_answers.specs.declared.YubiMultiple.{YubiMultiple}
+use Rattle.tablet_answers.specs.declared.YubiTotal.{YubiTotal}
+use Rattle.tablet_answers.specs.declared.YubiRepeat.{YubiRepeat}
+use Rattle.tablet_answers.specs.declared.YubiPole.{YubiPole}
+use Rattle.tablet_answers.specs.Flat.{flat, flat-multiple, flat-total, flat-repeat, flat-pole}
 use Rattle.scan_flat.specs.declared.YubiRunning.{YubiRunning}
 use Rattle.scan_flat.specs.declared.YubiScanned.{YubiScanned}
 use Rattle.scan_flat.specs.Flats.{flat-running, scanned-as, FlatScanIs}

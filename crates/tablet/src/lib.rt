@@ -6,28 +6,28 @@ ghost use Rattle.rules.specs.Calls.{check-order, split-call, next-call};
 ghost use Rattle.rules.specs.Calls.{fresh};
 ghost use Rattle.pole_rule.specs.PoleFile.{read-file, write-file};
 ghost use Rattle.scan_flat.specs.Flats.{flat-running, scanned-as, FlatScanIs};
-ghost use Rattle.c_answers.specs.Flat.{flat, flat-multiple, flat-total, flat-repeat, flat-pole};
-use c_answers::YubiAnswer;
-use c_answers::YubiMultiple;
-use c_answers::YubiPole;
-use c_answers::YubiRepeat;
-use c_answers::YubiTotal;
+ghost use Rattle.tablet_answers.specs.Flat.{flat, flat-multiple, flat-total, flat-repeat, flat-pole};
 use scan_flat::YubiRunning;
 use scan_flat::YubiScanned;
 use scan_total::Running;
+use tablet_answers::YubiAnswer;
+use tablet_answers::YubiMultiple;
+use tablet_answers::YubiPole;
+use tablet_answers::YubiRepeat;
+use tablet_answers::YubiTotal;
 
 #[no_mangle]
 pub extern "C" fn yubi_check_curve(curve: &[u8]) -> YubiAnswer
     ensures { λ r. ⌜ r ≡ flat (check-curve (now (curve .entry))) ⌝ }
 {
-    c_answers::flatten(call_one::check_curve(curve))
+    tablet_answers::flatten(call_answer::check_curve(curve))
 }
 
 #[no_mangle]
 pub extern "C" fn yubi_check_divisor(curve: &[u8], divisor: &[u8]) -> YubiAnswer
     ensures { λ r. ⌜ r ≡ flat (check-divisor (now (curve .entry)) (now (divisor .entry))) ⌝ }
 {
-    c_answers::flatten(call_one::check_divisor(curve, divisor))
+    tablet_answers::flatten(call_answer::check_divisor(curve, divisor))
 }
 
 #[no_mangle]
@@ -35,7 +35,7 @@ pub extern "C" fn yubi_rewrite_curve(curve: &[u8], out: &mut [u8]) -> YubiAnswer
     ensures answer { λ r. ⌜ r ≡ flat (rewrite-curve (now (curve .entry)) (now (out .entry)) .answer) ⌝ }
     ensures output { λ r. ⌜ now (out .exit) ≡ rewrite-curve (now (curve .entry)) (now (out .entry)) .out ⌝ }
 {
-    c_answers::flatten(call_one::rewrite_curve(curve, out))
+    tablet_answers::flatten(call_answer::rewrite_curve(curve, out))
 }
 
 #[no_mangle]
@@ -43,7 +43,7 @@ pub extern "C" fn yubi_rewrite_divisor(curve: &[u8], divisor: &[u8], out: &mut [
     ensures answer { λ r. ⌜ r ≡ flat (rewrite-divisor (now (curve .entry)) (now (divisor .entry)) (now (out .entry)) .answer) ⌝ }
     ensures output { λ r. ⌜ now (out .exit) ≡ rewrite-divisor (now (curve .entry)) (now (divisor .entry)) (now (out .entry)) .out ⌝ }
 {
-    c_answers::flatten(call_one::rewrite_divisor(curve, divisor, out))
+    tablet_answers::flatten(call_answer::rewrite_divisor(curve, divisor, out))
 }
 
 #[no_mangle]
@@ -51,7 +51,7 @@ pub extern "C" fn yubi_add(curve: &[u8], a: &[u8], b: &[u8], out: &mut [u8]) -> 
     ensures answer { λ r. ⌜ r ≡ flat (add-call (now (curve .entry)) (now (a .entry)) (now (b .entry)) (now (out .entry)) .answer) ⌝ }
     ensures output { λ r. ⌜ now (out .exit) ≡ add-call (now (curve .entry)) (now (a .entry)) (now (b .entry)) (now (out .entry)) .out ⌝ }
 {
-    c_answers::flatten(call_group::add(curve, a, b, out))
+    tablet_answers::flatten(call_sum::add(curve, a, b, out))
 }
 
 #[no_mangle]
@@ -59,7 +59,7 @@ pub extern "C" fn yubi_double(curve: &[u8], a: &[u8], out: &mut [u8]) -> YubiAns
     ensures answer { λ r. ⌜ r ≡ flat (double-call (now (curve .entry)) (now (a .entry)) (now (out .entry)) .answer) ⌝ }
     ensures output { λ r. ⌜ now (out .exit) ≡ double-call (now (curve .entry)) (now (a .entry)) (now (out .entry)) .out ⌝ }
 {
-    c_answers::flatten(call_group::double(curve, a, out))
+    tablet_answers::flatten(call_sum::double(curve, a, out))
 }
 
 #[no_mangle]
@@ -67,7 +67,7 @@ pub extern "C" fn yubi_opposite(curve: &[u8], a: &[u8], out: &mut [u8]) -> YubiA
     ensures answer { λ r. ⌜ r ≡ flat (opposite-call (now (curve .entry)) (now (a .entry)) (now (out .entry)) .answer) ⌝ }
     ensures output { λ r. ⌜ now (out .exit) ≡ opposite-call (now (curve .entry)) (now (a .entry)) (now (out .entry)) .out ⌝ }
 {
-    c_answers::flatten(call_group::opposite(curve, a, out))
+    tablet_answers::flatten(call_sum::opposite(curve, a, out))
 }
 
 #[no_mangle]
@@ -75,7 +75,7 @@ pub extern "C" fn yubi_split(curve: &[u8], divisor: &[u8], out: &mut [u8]) -> Yu
     ensures answer { λ r. ⌜ r ≡ flat (split-call (now (curve .entry)) (now (divisor .entry)) (now (out .entry)) .answer) ⌝ }
     ensures output { λ r. ⌜ now (out .exit) ≡ split-call (now (curve .entry)) (now (divisor .entry)) (now (out .entry)) .out ⌝ }
 {
-    c_answers::flatten(call_split::split(curve, divisor, out))
+    tablet_answers::flatten(call_split::split(curve, divisor, out))
 }
 
 #[no_mangle]
@@ -88,7 +88,7 @@ pub extern "C" fn yubi_multiply(
     ensures answer { λ r. ⌜ r ≡ flat-multiple (multiply-call (now (curve .entry)) (now (a .entry)) (now (scalar .entry)) (now (out .entry))) ⌝ }
     ensures output { λ r. ⌜ now (out .exit) ≡ multiply-call (now (curve .entry)) (now (a .entry)) (now (scalar .entry)) (now (out .entry)) .out ⌝ }
 {
-    c_answers::flatten_multiple(call_multiply::multiply(curve, a, scalar, out))
+    tablet_answers::flatten_multiple(call_multiply::multiply(curve, a, scalar, out))
 }
 
 // The same words, kept by the second engine.
@@ -102,7 +102,7 @@ pub extern "C" fn yubi_multiply_inversion_free(
     ensures answer { λ r. ⌜ r ≡ flat-multiple (multiply-call (now (curve .entry)) (now (a .entry)) (now (scalar .entry)) (now (out .entry))) ⌝ }
     ensures output { λ r. ⌜ now (out .exit) ≡ multiply-call (now (curve .entry)) (now (a .entry)) (now (scalar .entry)) (now (out .entry)) .out ⌝ }
 {
-    c_answers::flatten_multiple(call_multiply::multiply_inversion_free(curve, a, scalar, out))
+    tablet_answers::flatten_multiple(call_multiply::multiply_inversion_free(curve, a, scalar, out))
 }
 
 // W-214: nothing is written.
@@ -115,7 +115,7 @@ pub extern "C" fn yubi_check_order(
 ) -> YubiAnswer
     ensures { λ r. ⌜ r ≡ flat (check-order (now (curve .entry)) (now (divisor .entry)) (now (order .entry)) (now (primes .entry))) ⌝ }
 {
-    c_answers::flatten(call_order::check_order(curve, divisor, order, primes))
+    tablet_answers::flatten(call_order::check_order(curve, divisor, order, primes))
 }
 
 #[no_mangle]
@@ -123,7 +123,7 @@ pub extern "C" fn yubi_next_divisor(curve: &[u8], divisor: &[u8], out: &mut [u8]
     ensures answer { λ r. ⌜ r ≡ flat (next-call (now (curve .entry)) (now (divisor .entry)) (now (out .entry)) .answer) ⌝ }
     ensures output { λ r. ⌜ now (out .exit) ≡ next-call (now (curve .entry)) (now (divisor .entry)) (now (out .entry)) .out ⌝ }
 {
-    c_answers::flatten(call_next::next_divisor(curve, divisor, out))
+    tablet_answers::flatten(call_census::next_divisor(curve, divisor, out))
 }
 
 #[no_mangle]
@@ -131,14 +131,14 @@ pub extern "C" fn yubi_total_batch(curve: &[u8], batch: &[u8], out: &mut [u8]) -
     ensures answer { λ r. ⌜ r ≡ flat-total (total-call (now (curve .entry)) (now (batch .entry)) (now (out .entry))) ⌝ }
     ensures output { λ r. ⌜ now (out .exit) ≡ total-call (now (curve .entry)) (now (batch .entry)) (now (out .entry)) .out ⌝ }
 {
-    c_answers::flatten_total(call_total::total_batch(curve, batch, out))
+    tablet_answers::flatten_total(call_total::total_batch(curve, batch, out))
 }
 
 #[no_mangle]
 pub extern "C" fn yubi_first_repeat(curve: &[u8], batch: &[u8]) -> YubiRepeat
     ensures { λ r. ⌜ r ≡ flat-repeat (repeat-call (now (curve .entry)) (now (batch .entry))) ⌝ }
 {
-    c_answers::flatten_repeat(call_repeat::first_repeat(curve, batch))
+    tablet_answers::flatten_repeat(call_repeat::first_repeat(curve, batch))
 }
 
 #[no_mangle]
@@ -198,7 +198,7 @@ pub extern "C" fn yubi_write_pole_file(
     ensures answer { λ r. ⌜ r ≡ flat (write-file pole (now (curve .entry)) (now (batch .entry)) (now (out .entry)) .answer) ⌝ }
     ensures output { λ r. ⌜ now (out .exit) ≡ write-file pole (now (curve .entry)) (now (batch .entry)) (now (out .entry)) .out ⌝ }
 {
-    c_answers::flatten(pole_file::write_pole_file(pole, curve, batch, out))
+    tablet_answers::flatten(call_pole::write_pole_file(pole, curve, batch, out))
 }
 
 #[no_mangle]
@@ -206,5 +206,5 @@ pub extern "C" fn yubi_read_pole_file(file: &[u8], out: &mut [u8]) -> YubiPole
     ensures answer { λ r. ⌜ r ≡ flat-pole (read-file (now (file .entry)) (now (out .entry))) ⌝ }
     ensures output { λ r. ⌜ now (out .exit) ≡ read-file (now (file .entry)) (now (out .entry)) .out ⌝ }
 {
-    c_answers::flatten_pole(pole_file::read_pole_file(file, out))
+    tablet_answers::flatten_pole(call_pole::read_pole_file(file, out))
 }

@@ -1,4 +1,4 @@
 // The program: prints the pole's list of the files `curve` and `batch` in the current directory.
 fn main() {
-    files::print(b"curve", b"batch");
+    text_files::print(b"curve", b"batch");
 }

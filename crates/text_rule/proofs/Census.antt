@@ -13,7 +13,7 @@ use Rattle.rules.specs.Records.{CurveRecord, curve, PairOf}
 use Rattle.rules.specs.Census.{first, census, next}
 use Rattle.rules.proofs.calls.Tests.{refused-taken, taken-inj}
 use Rattle.rules.proofs.census.Census.{mem-split, census-valid, next-at, walk, walk-at, walk-census}
-use Rattle.lines.specs.Lines.{record-line}
+use Rattle.text_lines.specs.Lines.{record-line}
 use Rattle.text_rule.specs.Text.{lines-of}
 
 module _ (c : CurveRecord) where

@@ -21,7 +21,7 @@ use Rattle.rules.proofs.calls.Given.{_and_}
 use Rattle.rules.proofs.calls.Refusals.{OfCurve, curve-refused, divisor-refused}
 use Rattle.rules.proofs.calls.Places.{Faulty, Over, batch-refused}
 use Rattle.rules.proofs.calls.Reached.{through, second, right}
-use Rattle.lines.specs.Lines.{count-line, repeat-line, total-line, record-line, refused-line}
+use Rattle.text_lines.specs.Lines.{count-line, repeat-line, total-line, record-line, refused-line}
 use Rattle.text_rule.specs.Text.{or-refused, File, unreadable, holds, with-file, text-of, text, lines-of, census-of, census-text}
 use Rattle.text_rule.proofs.Told.{line-tells, refused-first, count-first, record-first}
 

@@ -7,7 +7,7 @@ use mathlib.Core.List.{List}
 use borrow.Author.Tests.{lt-ltb, le-ltb}
 use lib.ListN.{length}
 use Rattle.rules.specs.Records.{choose}
-use Rattle.lines.specs.Lines.{refused-line}
+use Rattle.text_lines.specs.Lines.{refused-line}
 use Rattle.text_rule.specs.Text.{File, unreadable, holds, with-file, text-of, text}
 
 module _ (go : List ℕ → List ℕ) where

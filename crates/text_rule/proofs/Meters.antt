@@ -13,7 +13,7 @@ use Rattle.rules.proofs.calls.Refusals.{check}
 use Rattle.rules.specs.Calls.{Reply, repeat-call}
 use Rattle.rules.proofs.calls.Batches.{pair-of, AllRecords, MadeOf, batch-records, batch-made}
 use Rattle.rules.proofs.calls.Repeats.{repeat-records}
-use Rattle.lines.specs.Lines.{count-line, repeat-line, total-line, refused-line}
+use Rattle.text_lines.specs.Lines.{count-line, repeat-line, total-line, refused-line}
 use Rattle.text_rule.specs.Text.{text-of}
 
 module _ (s : List ℕ) {c : CurveRecord} (ec : read-curve s ≡ taken c) where

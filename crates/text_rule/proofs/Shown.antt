@@ -13,7 +13,7 @@ use Rattle.rules.specs.Records.{read-curve, numbers}
 use Rattle.rules.specs.Lists.{batch-from, same?, repeat-from}
 use Rattle.rules.specs.Calls.{repeat-call}
 use Rattle.digits.specs.Digits.{letters}
-use Rattle.lines.specs.Lines.{record-line}
+use Rattle.text_lines.specs.Lines.{record-line}
 use Rattle.text_rule.specs.Text.{File, unreadable, holds, text, census-text}
 
 pub record Row : Type 0 where

@@ -11,7 +11,7 @@ use Rattle.algebra.proofs.zmod.PrimeField.{modulo}
 use Rattle.rules.specs.Pair.{Pair}
 use Rattle.digits.specs.Digits.{digit, decimal-by, decimal, hex}
 use Rattle.digits.proofs.Values.{number-in, decimal-value}
-use Rattle.lines.specs.Lines.{two, count-line, record-line, refused-line}
+use Rattle.text_lines.specs.Lines.{two, count-line, record-line, refused-line}
 
 -- ---- digits have no space among them: they are letters from 48 on
 digit-from : (d : ℕ) → 48 ≤ digit d

@@ -9,7 +9,7 @@ use Rattle.rules.specs.Records.{Checked, refused, taken, choose, CurveRecord, c
 use Rattle.rules.specs.Lists.{batch}
 use Rattle.rules.specs.Census.{census}
 use Rattle.rules.specs.Calls.{read-training, repeat-call}
-use Rattle.lines.specs.Lines.{count-line, repeat-line, record-line, total-line, refused-line}
+use Rattle.text_lines.specs.Lines.{count-line, repeat-line, record-line, total-line, refused-line}
 
 -- the line of what refuses, or what goes on with what was read
 abbrev pub or-refused : {A : Type 0} → Checked A → (A → List ℕ) → List ℕ

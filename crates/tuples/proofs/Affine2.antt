@@ -16,11 +16,11 @@ use Rattle.rules.specs.Pair.{Pair, Valid}
 use Rattle.rules.specs.Sum.{sum}
 use Rattle.rules.proofs.cantor.Accepted.{Accepted}
 use Rattle.rules.proofs.cantor.Pairs.{valid-on}
-use Rattle.formulas.proofs.Chord.{chord, tangent}
-use Rattle.formulas.proofs.Turns.{quotient-top}
-use Rattle.formulas.proofs.Lists.{lo, mo, co, ti, equal-by}
-use Rattle.formulas.proofs.Formula.{one-turn, main-case}
-use Rattle.formulas.proofs.Genus2.{invert2-is, times2-is, gap2-is, tops-f2, quotient2-is, rest2-is, tangent2-is, right2-tops}
+use Rattle.sum_formulas.proofs.Chord.{chord, tangent}
+use Rattle.sum_formulas.proofs.Turns.{quotient-top}
+use Rattle.sum_formulas.proofs.Lists.{lo, mo, co, ti, equal-by}
+use Rattle.sum_formulas.proofs.Formula.{one-turn, main-case}
+use Rattle.sum_formulas.proofs.Genus2.{invert2-is, times2-is, gap2-is, tops-f2, quotient2-is, rest2-is, tangent2-is, right2-tops}
 
 module _ (Q : Arith) where
   open Arith Q using (base as F)

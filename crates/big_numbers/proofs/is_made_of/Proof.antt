@@ -4,7 +4,7 @@ use Prim.Native.Nat.{_-_}
 use borrow.Author.Tests.{not-true, not-false}
 use Rattle.field.proofs.Decide.{decided-yes}
 use Rattle.rules.specs.Bytes.{number}
-use Rattle.witness.specs.Witness.{SmallPrime}
+use Rattle.field_witness.specs.Witness.{SmallPrime}
 use Rattle.big_numbers.proofs.Stripped.{Looking, looking-begin, too-low, no-prime, no-divisor, looking-turn, looking-end}
 use Rattle.big_numbers.proofs.is_made_of.Statement.{statement}
 use Rattle.big_numbers.proofs.is_made_of.Tie as tie

@@ -1,6 +1,6 @@
 use native.Mathlib.Omega.{arith}
 use Rattle.rules.specs.Bytes.{number}
-use Rattle.witness.proofs.Listed.{Out, out-begin}
+use Rattle.field_witness.proofs.Listed.{Out, out-begin}
 use Rattle.big_numbers.proofs.Stripped.{strip-turn, strip-less, strip-end}
 use Rattle.big_numbers.proofs.without.Statement.{statement}
 use Rattle.big_numbers.proofs.without.Tie as tie

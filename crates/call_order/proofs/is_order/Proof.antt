@@ -3,8 +3,8 @@ use mathlib.Core.Path.{sym, _∙_}
 use Rattle.rules.specs.Bytes.{number}
 use Rattle.rules.specs.Calls.{listed}
 use Rattle.field.proofs.Decide.{decided-yes, decided-no}
-use Rattle.witness.specs.Witness.{MadeOf}
-use Rattle.witness.proofs.Listed.{all-some}
+use Rattle.field_witness.specs.Witness.{MadeOf}
+use Rattle.field_witness.proofs.Listed.{all-some}
 use Rattle.big_numbers.proofs.Stripped.{capped-none, capped-some}
 use Rattle.call_order.proofs.Folds.{not-zero, not-made, not-here, decided}
 use borrow.Author.Needs.{needs}

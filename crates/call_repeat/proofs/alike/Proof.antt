@@ -1,6 +1,6 @@
 use native.Mathlib.Omega.{arith}
 use borrow.Author.Needs.{needs}
-use Rattle.call_one.proofs.Turns.{read-taken}
+use Rattle.call_answer.proofs.Turns.{read-taken}
 use Rattle.call_repeat.proofs.Chains.{whole, not-refused, read-both}
 use Rattle.call_repeat.proofs.alike.Statement.{statement}
 use Rattle.call_repeat.proofs.alike.Tie as tie

@@ -1,6 +1,6 @@
 use mathlib.Core.Path.{subst}
-use Rattle.splitting.specs.declared.Parted.{Parted}
-use Rattle.splitting.specs.Splits.{SplitIs}
+use Rattle.divisor_split.specs.declared.Parted.{Parted}
+use Rattle.divisor_split.specs.Splits.{SplitIs}
 use Rattle.call_split.proofs.Splits.{split-refused, split-nowhere, split-done}
 use borrow.Author.Needs.{needs}
 use Rattle.call_split.proofs.split.Statement.{statement}

@@ -2,22 +2,22 @@ use native.Mathlib.Omega.{arith}
 use borrow.Author.Needs.{needs}
 use Prim.Native.Nat.{_-_}
 use lib.ListN.{length}
-use Rattle.call_one.proofs.Turns.{read-taken}
-use Rattle.lanes.proofs.Rows.{row-waiting}
+use Rattle.call_answer.proofs.Turns.{read-taken}
+use Rattle.sum_lanes.proofs.Rows.{row-waiting}
 use Rattle.call_total.proofs.Totals.{Filling, Shutting, total-begin, total-full, total-refuses, total-ends, turned-unit, total-turn, shut-begin, waits, lane-holds, before-kept, undoes, shut-turn, shut-ends}
 use Rattle.call_total.proofs.total_of.Statement.{statement}
 use Rattle.call_total.proofs.total_of.Tie as tie
 use Rattle.call_total.proofs.total_of.Reads as reads
 use Rattle.call_total.proofs.total_of.Lts as lts
-use Rattle.big_endian.proofs.wide.Reads as wide-reads
+use Rattle.record_bytes.proofs.wide.Reads as wide-reads
 use Rattle.divisor.proofs.Divisor.neutral.Reads as neutral-reads
 use Rattle.field.proofs.Residue.inverse.Reads as inverse-reads
 use Rattle.field.proofs.Residue.mul.Reads as mul-reads
 use Rattle.field.proofs.Residue.one.Reads as one-reads
 use Rattle.jacobian.proofs.sum.Reads as sum-reads
-use Rattle.lanes.proofs.lane_total.Reads as lane-total-reads
-use Rattle.lanes.proofs.nobody.Reads as nobody-reads
-use Rattle.lanes.proofs.waiting_total.Reads as waiting-total-reads
+use Rattle.sum_lanes.proofs.lane_total.Reads as lane-total-reads
+use Rattle.sum_lanes.proofs.nobody.Reads as nobody-reads
+use Rattle.sum_lanes.proofs.waiting_total.Reads as waiting-total-reads
 use Rattle.openings.proofs.close.Reads as close-reads
 use Rattle.openings.proofs.open.Reads as open-reads
 use Rattle.openings.proofs.under.Reads as under-reads

@@ -4,7 +4,7 @@ use Prim.Native.Nat.{_+_, _≤_, _-_}
 use mathlib.Core.Path.{_≡_, refl, _∙_, ap}
 use lib.ListN.{length, take, set, getD}
 use lib.Seq.{sets}
-use Rattle.big_endian.proofs.Writing.{put-more}
+use Rattle.record_bytes.proofs.Writing.{put-more}
 use Rattle.digits.proofs.Putting.{put-all}
 use Rattle.digits.proofs.put_bytes.Statement.{statement}
 use Rattle.digits.proofs.put_bytes.Tie as tie

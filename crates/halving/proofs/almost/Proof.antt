@@ -2,7 +2,7 @@ use native.Mathlib.Omega.{arith}
 use borrow.Author.Needs.{needs}
 use Prim.Native.Nat.{_+_}
 use Rattle.algebra.proofs.zmod.Zmod.{zmod}
-use Rattle.wide.proofs.Bounds.{room}
+use Rattle.field_words.proofs.Bounds.{room}
 use Rattle.halving.proofs.Halving.{Halving, begin, together, fewer, fewer-other, again, again-other, few-next, few-other, ended, nonzero}
 use Rattle.halving.proofs.almost.Statement.{statement}
 use Rattle.halving.proofs.almost.Tie as tie

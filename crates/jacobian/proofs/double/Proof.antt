@@ -1,17 +1,17 @@
 use mathlib.Core.Path.{subst}
-use Rattle.formulas.specs.declared.Sought.{Sought}
+use Rattle.sum_formulas.specs.declared.Sought.{Sought}
 use Rattle.divisor.specs.Divisors.{pair}
 use Rattle.rules.specs.Sum.{sum}
 use Rattle.curve.specs.Curves.{curveOf}
 use Rattle.jacobian.specs.Tries.{UnfitDouble, Tried}
-use Rattle.plain.proofs.Sums.{double-gives}
+use Rattle.sum_plain.proofs.Sums.{double-gives}
 use borrow.Author.Needs.{needs}
 use Rattle.jacobian.proofs.double.Statement.{statement}
 use Rattle.jacobian.proofs.double.Tie as tie
 use Rattle.jacobian.proofs.double.Reads as reads
 use Rattle.jacobian.proofs.double.Lts as lts
 use Rattle.jacobian.proofs.quick_double.Reads as quick-double-reads
-use Rattle.plain.proofs.double.Reads as double-reads
+use Rattle.sum_plain.proofs.double.Reads as double-reads
 
 -- src/lib.rt:117:9
 quick-double-requires : tie.Need-quick-double-requires

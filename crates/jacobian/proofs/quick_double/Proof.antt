@@ -1,4 +1,4 @@
-use Rattle.formulas.specs.declared.Sought.the-variants.{Special}
+use Rattle.sum_formulas.specs.declared.Sought.the-variants.{Special}
 use Rattle.jacobian.proofs.Quicks.{known-twice}
 use mathlib.Core.Path.{subst}
 use Rattle.divisor.specs.declared.Divisor.{Divisor}

@@ -5,7 +5,7 @@ use Rattle.jacobian.proofs.quick_two.Statement.{statement}
 use Rattle.jacobian.proofs.quick_two.Tie as tie
 use Rattle.jacobian.proofs.quick_two.Reads as reads
 use Rattle.jacobian.proofs.quick_two.Lts as lts
-use Rattle.genus2.proofs.add.Reads as add-reads
+use Rattle.sum_genus2.proofs.add.Reads as add-reads
 
 -- src/lib.rt:22:9
 add-requires : tie.Need-add-requires

@@ -1,5 +1,5 @@
 use mathlib.Core.Path.{subst}
-use Rattle.formulas.specs.declared.Sought.{Sought}
+use Rattle.sum_formulas.specs.declared.Sought.{Sought}
 use Rattle.divisor.specs.Divisors.{pair}
 use Rattle.rules.specs.Sum.{sum}
 use Rattle.curve.specs.Curves.{curveOf}
@@ -10,7 +10,7 @@ use Rattle.jacobian.proofs.sum.Tie as tie
 use Rattle.jacobian.proofs.sum.Reads as reads
 use Rattle.jacobian.proofs.sum.Lts as lts
 use Rattle.jacobian.proofs.quick_sum.Reads as quick-sum-reads
-use Rattle.plain.proofs.sum.Reads as sum-reads
+use Rattle.sum_plain.proofs.sum.Reads as sum-reads
 
 -- src/lib.rt:106:9
 quick-sum-requires : tie.Need-quick-sum-requires

@@ -5,7 +5,7 @@ use Rattle.jacobian.proofs.twice_two.Statement.{statement}
 use Rattle.jacobian.proofs.twice_two.Tie as tie
 use Rattle.jacobian.proofs.twice_two.Reads as reads
 use Rattle.jacobian.proofs.twice_two.Lts as lts
-use Rattle.genus2.proofs.double.Reads as double-reads
+use Rattle.sum_genus2.proofs.double.Reads as double-reads
 
 -- src/lib.rt:34:9
 double-requires : tie.Need-double-requires

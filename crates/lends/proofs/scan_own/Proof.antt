@@ -44,13 +44,13 @@ use denote.Exit.{yes}
 use Rattle.scan_flat.specs.Flats.{scanned-as, FlatScanIs}
 use Rattle.scan_flat.specs.declared.YubiRunning.{YubiRunning}
 use Rattle.lends.specs.declared.Lent.{Lent}
-use Rattle.c_answers.specs.declared.YubiAnswer.{YubiAnswer}
+use Rattle.tablet_answers.specs.declared.YubiAnswer.{YubiAnswer}
 use Rattle.scan_flat.proofs.YubiRunning as T
 use Rattle.scan_flat.proofs.YubiRunning.Laws as T′
 use Rattle.lends.proofs.Lent as S
 use Rattle.lends.proofs.Lent.Laws as S′
-use Rattle.c_answers.proofs.YubiAnswer as R
-use Rattle.c_answers.proofs.YubiAnswer.Laws as R′
+use Rattle.tablet_answers.proofs.YubiAnswer as R
+use Rattle.tablet_answers.proofs.YubiAnswer.Laws as R′
 use Rattle.tablet.proofs.yubi_scan_lent as scan
 use Rattle.tablet.proofs.yubi_scan_lent.Symbol as scan-def
 use Rattle.tablet.proofs.yubi_scan_lent.Symbol.{name as #tablet·yubi-scan-lent}

@@ -2,12 +2,13 @@ use native.Mathlib.Omega.{arith}
 use borrow.Author.Needs.{needs}
 use Rattle.rules.specs.Bytes.{number}
 use Rattle.folds.proofs.Counted.{doublings-are, additions-are, no-nonzeros, some-nonzero}
-use Rattle.folds.proofs.Multiplying.{Multiplying, begin, turn, end, nothing}
+use Rattle.folds.proofs.Multiplying.{nothing}
+use Rattle.multiple.proofs.Running.{Running, begin, turn, some-at, end}
 use Rattle.multiple.proofs.of.Statement.{statement}
 use Rattle.multiple.proofs.of.Tie as tie
 
 abbrev Inv-loop : tie.InvT-loop
-Inv-loop c a s length nonzeros at b r₀ k₀ r k = Multiplying c a at length r k
+Inv-loop c a s length nonzeros at b r₀ k₀ r k = Running c a at length r k
 
 abbrev μ-loop : tie.MeasureT-loop
 μ-loop c a s length nonzeros at b r₀ k₀ r k = k
@@ -32,41 +33,48 @@ returns c =
 opposite-requires : tie.Need-opposite-requires Inv-loop μ-loop
 opposite-requires c κs = search needs
 
+keep-requires : tie.Need-keep-requires Inv-loop μ-loop
+keep-requires c κs = (c .before .before .before .before .before .pre .sound, c .before .before .before .before .before .pre .holds)
+
 sub-k : tie.Need-sub-k Inv-loop μ-loop
 sub-k c = search needs
 
 loop-holds : tie.Need-loop-holds Inv-loop μ-loop
-loop-holds c = let s = c .before .before .before .before .before in let n = c .before .before .before .of in begin (s .args .c) (s .args .a) (number (s .args .s .now)) (n .result) (n .ensures) (s .pre .sound) (s .pre .holds) (omega arith)
+loop-holds c = let s = c .before .before .before .before .before .before in let n = c .before .before .before .before .of in begin (s .args .c) (s .args .a) (number (s .args .s .now)) (n .result) (n .ensures) (s .pre .sound) (s .pre .holds) (omega arith) (c .keep .result) (c .keep .ensures)
 
-sub-k-2 : tie.Need-sub-k-2 Inv-loop μ-loop
-sub-k-2 c = search needs
+slice-aggregate-further : tie.Need-slice-aggregate-further Inv-loop μ-loop
+slice-aggregate-further c = search needs
 
-array-read-step : tie.Need-array-read-step Inv-loop μ-loop
-array-read-step c = search needs
-
-step-requires : tie.Need-step-requires Inv-loop μ-loop
-step-requires c κs = let s = c .before .before .before .before .before .before .before in record { sound = s .pre .sound; left = c .before .loop .inv .gives .holds; right = s .pre .holds; opposed = c .before .before .opposite .ensures }
+further-requires : tie.Need-further-requires Inv-loop μ-loop
+further-requires c κs =
+    let s = c .before .before .before .before .before .before .before .before .before in
+    let n = c .before .before .before .before .before .before .before .of in
+    let v = c .before .before .loop in
+    (record { sound = s .pre .sound; right = s .pre .holds; opposed = c .before .before .before .before .opposite .ensures; place = omega (arith, v .inv .place, n .ensures .within, n .ensures .room); reaches = v .inv .means }, c .before .loop-test .taken)
 
 loop-less : tie.Need-loop-less Inv-loop μ-loop
-loop-less c = search needs
+loop-less c = omega (arith, c .further .ensures .less)
 
 loop-again : tie.Need-loop-again Inv-loop μ-loop
-loop-again c = let s = c .before .before .before .before .before .before .before .before in let n = c .before .before .before .before .before .before .of in let v = c .before .before .loop in turn (s .args .c) (s .args .a) (n .result .at) (n .result .length) (v .r) (c .step .result) (v .k) (v .inv) (omega arith) (omega (arith, v .inv .place, n .ensures .within, n .ensures .room)) (c .step .ensures)
+loop-again c = let s = c .before .before .before .before .before .before .before .before .before .before in let n = c .before .before .before .before .before .before .before .before .of in let v = c .before .before .before .loop in turn (s .args .c) (s .args .a) (n .result .at) (n .result .length) (v .r) (v .k) (v .inv) (c .further .result) (c .further .ensures)
 
-sub-t17 : tie.Need-sub-t17 Inv-loop μ-loop
-sub-t17 c = search needs
+plain-requires : tie.Need-plain-requires Inv-loop μ-loop
+plain-requires c κs = let s = c .before .before .before .before .before .before .before .before in let v = c .before .loop in (s .pre .sound, some-at (s .args .c) (s .args .a) (c .before .before .before .before .before .before .of .result .at) (v .r) (v .k) (v .inv .means))
 
-sub-t19 : tie.Need-sub-t19 Inv-loop μ-loop
-sub-t19 c = let n = c .before .before .before .before .before .of in omega (arith, some-nonzero (number (c .before .before .before .before .before .before .before .args .s .now)) (n .result .length) (n .ensures .length-is) (omega arith), n .ensures .nonzeros-is)
+sub-t18 : tie.Need-sub-t18 Inv-loop μ-loop
+sub-t18 c = search needs
+
+sub-t20 : tie.Need-sub-t20 Inv-loop μ-loop
+sub-t20 c = let n = c .before .before .before .before .before .before .before .of in omega (arith, some-nonzero (number (c .before .before .before .before .before .before .before .before .before .args .s .now)) (n .result .length) (n .ensures .length-is) (omega arith), n .ensures .nonzeros-is)
 
 returns-2 : tie.Need-returns-2 Inv-loop μ-loop
 returns-2 c =
-    let s = c .before .before .before .before .before .before .before in
-    let n = c .before .before .before .before .before .of in
-    let v = c .before .loop in
+    let s = c .before .before .before .before .before .before .before .before .before in
+    let n = c .before .before .before .before .before .before .before .of in
+    let v = c .before .before .loop in
     let x = number (s .args .s .now) in
     record {
-      gives = end (s .args .c) (s .args .a) x (n .result) (n .ensures) (v .r) (v .k) (v .inv) (omega arith);
+      gives = end (s .args .c) (s .args .a) x (n .result) (n .ensures) (v .r) (v .k) (v .inv) (c .before .loop-test .left) (c .plain .result) (c .plain .ensures);
       doublings-is = omega (arith, doublings-are x (n .result .length) (n .ensures .length-is));
       additions-is = omega (arith, additions-are x (n .result .nonzeros) (n .ensures .nonzeros-is));
     }
@@ -81,13 +89,14 @@ of-spec =
     neutral-requires
     returns
     opposite-requires
+    keep-requires
     sub-k
     loop-holds
-    sub-k-2
-    array-read-step
-    step-requires
+    slice-aggregate-further
+    further-requires
     loop-less
     loop-again
-    sub-t17
-    sub-t19
+    plain-requires
+    sub-t18
+    sub-t20
     returns-2)

@@ -7,7 +7,7 @@ use Rattle.openings.proofs.close_three.Statement.{statement}
 use Rattle.openings.proofs.close_three.Tie as tie
 use Rattle.openings.proofs.close_three.Reads as reads
 use Rattle.openings.proofs.close_three.Lts as lts
-use Rattle.genus3.proofs.close.Reads as close-reads
+use Rattle.sum_genus3.proofs.close.Reads as close-reads
 use Rattle.jacobian.proofs.sum.Reads as sum-reads
 
 -- src/lib.rt:118:29

@@ -7,7 +7,7 @@ use Rattle.openings.proofs.close_two.Statement.{statement}
 use Rattle.openings.proofs.close_two.Tie as tie
 use Rattle.openings.proofs.close_two.Reads as reads
 use Rattle.openings.proofs.close_two.Lts as lts
-use Rattle.genus2.proofs.close.Reads as close-reads
+use Rattle.sum_genus2.proofs.close.Reads as close-reads
 use Rattle.jacobian.proofs.sum.Reads as sum-reads
 
 -- src/lib.rt:99:29

@@ -5,8 +5,8 @@ use Rattle.openings.proofs.open_three.Statement.{statement}
 use Rattle.openings.proofs.open_three.Tie as tie
 use Rattle.openings.proofs.open_three.Reads as reads
 use Rattle.openings.proofs.open_three.Lts as lts
-use Rattle.formulas.proofs.look.Reads as look-reads
-use Rattle.opens3.proofs.open.Reads as open-reads
+use Rattle.sum_formulas.proofs.look.Reads as look-reads
+use Rattle.sum_genus3_open.proofs.open.Reads as open-reads
 
 -- src/lib.rt:47:9
 open-requires : tie.Need-open-requires

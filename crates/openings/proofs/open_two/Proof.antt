@@ -5,8 +5,8 @@ use Rattle.openings.proofs.open_two.Statement.{statement}
 use Rattle.openings.proofs.open_two.Tie as tie
 use Rattle.openings.proofs.open_two.Reads as reads
 use Rattle.openings.proofs.open_two.Lts as lts
-use Rattle.formulas.proofs.look.Reads as look-reads
-use Rattle.genus2.proofs.open.Reads as open-reads
+use Rattle.sum_formulas.proofs.look.Reads as look-reads
+use Rattle.sum_genus2.proofs.open.Reads as open-reads
 
 -- src/lib.rt:31:13
 open-requires : tie.Need-open-requires

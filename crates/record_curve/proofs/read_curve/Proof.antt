@@ -1,17 +1,17 @@
 use mathlib.Core.Path.{subst}
 use native.Mathlib.Omega.{arith}
-use Rattle.record_prime.specs.Primes.{PrimeIs}
+use Rattle.record_curve_prime.specs.Primes.{PrimeIs}
 use Rattle.record_curve.proofs.Whole.{head-refused, prime-refused, to-read, prime-taken}
 use borrow.Author.Needs.{needs}
 use Rattle.record_curve.proofs.read_curve.Statement.{statement}
 use Rattle.record_curve.proofs.read_curve.Tie as tie
 use Rattle.record_curve.proofs.read_curve.Reads as reads
 use Rattle.record_curve.proofs.read_curve.Lts as lts
-use Rattle.big_endian.proofs.wide.Reads as wide-reads
+use Rattle.record_bytes.proofs.wide.Reads as wide-reads
 use Rattle.record_curve.proofs.no_curve.Reads as no-curve-reads
 use Rattle.record_curve.proofs.read_coefficients.Reads as read-coefficients-reads
-use Rattle.record_head.proofs.head_number.Reads as head-number-reads
-use Rattle.record_prime.proofs.read_prime.Reads as read-prime-reads
+use Rattle.record_curve_head.proofs.head_number.Reads as head-number-reads
+use Rattle.record_curve_prime.proofs.read_prime.Reads as read-prime-reads
 
 -- src/lib.rt:80:9
 head-number-requires : tie.Need-head-number-requires

@@ -1,5 +1,5 @@
 use mathlib.Core.Path.{ap, _∙_}
-use Rattle.c_answers.specs.Flat.{as-repeat}
+use Rattle.tablet_answers.specs.Flat.{as-repeat}
 use borrow.Author.Needs.{needs}
 use Rattle.tablet.proofs.yubi_first_repeat.Statement.{statement}
 use Rattle.tablet.proofs.yubi_first_repeat.Tie as tie

@@ -42,13 +42,13 @@ use denote.Exit.{yes}
 use Rattle.scan_flat.specs.Flats.{scanned-as, FlatScanIs}
 use Rattle.scan_flat.specs.declared.YubiRunning.{YubiRunning}
 use Rattle.tablet.specs.declared.LentStep.{LentStep}
-use Rattle.c_answers.specs.declared.YubiAnswer.{YubiAnswer}
+use Rattle.tablet_answers.specs.declared.YubiAnswer.{YubiAnswer}
 use Rattle.scan_flat.proofs.YubiRunning as T
 use Rattle.scan_flat.proofs.YubiRunning.Laws as T′
 use Rattle.tablet.proofs.LentStep as S
 use Rattle.tablet.proofs.LentStep.Laws as S′
-use Rattle.c_answers.proofs.YubiAnswer as R
-use Rattle.c_answers.proofs.YubiAnswer.Laws as R′
+use Rattle.tablet_answers.proofs.YubiAnswer as R
+use Rattle.tablet_answers.proofs.YubiAnswer.Laws as R′
 use Rattle.tablet.proofs.lent_by_value as value
 use Rattle.tablet.proofs.lent_by_value.Symbol as value-def
 use Rattle.tablet.proofs.lent_by_value.Symbol.{name as #tablet·lent-by-value}

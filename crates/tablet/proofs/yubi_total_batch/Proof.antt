@@ -1,5 +1,5 @@
 use mathlib.Core.Path.{ap, _∙_}
-use Rattle.c_answers.specs.Flat.{as-total}
+use Rattle.tablet_answers.specs.Flat.{as-total}
 use borrow.Author.Needs.{needs}
 use Rattle.tablet.proofs.yubi_total_batch.Statement.{statement}
 use Rattle.tablet.proofs.yubi_total_batch.Tie as tie

@@ -1,6 +1,6 @@
 use native.Mathlib.Omega.{arith}
-use Rattle.wide.proofs.Bounds.{room}
-use Rattle.montgomery.proofs.Constants.{square-requires}
+use Rattle.field_words.proofs.Bounds.{room}
+use Rattle.field_montgomery.proofs.Constants.{square-requires}
 use Rattle.field.proofs.Constants.{turns-of, modulus-is}
 use borrow.Author.Needs.{needs}
 use Rattle.field.proofs.Modulus.of.Statement.{statement}

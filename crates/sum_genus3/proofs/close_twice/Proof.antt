@@ -1,0 +1,35 @@
+use borrow.Author.Needs.{needs}
+use Rattle.sum_genus3.proofs.Ends.{ends}
+use Rattle.sum_genus3.proofs.close_twice.Statement.{statement}
+use Rattle.sum_genus3.proofs.close_twice.Tie as tie
+
+divide-requires : tie.Need-divide-requires
+divide-requires c κs = search needs
+
+stretch-requires : tie.Need-stretch-requires
+stretch-requires c κs = search needs
+
+quotient-twice-requires : tie.Need-quotient-twice-requires
+quotient-twice-requires c κs = search needs
+
+rest-requires : tie.Need-rest-requires
+rest-requires c κs = search needs
+
+second-requires : tie.Need-second-requires
+second-requires c κs = search needs
+
+returns : tie.Need-returns
+returns c =
+    let s = c .before .before .before .before .before in
+    let y = c .before .before .before .before .divide in
+    let z = c .before .before .before .stretch in
+    let n = c .before .before .quotient-twice in
+    let t = c .before .rest in
+    record {
+      held = c .second .ensures .held;
+      is = ends (s .args .m) (s .args .f4) (s .args .f5) (s .args .f6) (s .args .a) (s .args .a) (s .args .o) (y .result) (y .ensures) (z .result) (z .ensures) (n .result) (n .ensures)
+          (t .result) (t .ensures) (c .second .result) (c .second .ensures);
+    }
+
+pub close-twice-spec : {M : Type 1} → statement M
+close-twice-spec = tie.close (tie.spec divide-requires stretch-requires quotient-twice-requires rest-requires second-requires returns)

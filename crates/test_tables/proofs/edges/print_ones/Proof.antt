@@ -1,0 +1,45 @@
+use borrow.Author.Needs.{needs}
+use Prim.Native.Nat.{_≤_, _-_}
+use Rattle.test_tables.proofs.edges.print_ones.Statement.{statement}
+use Rattle.test_tables.proofs.edges.print_ones.Tie as tie
+
+abbrev Inv-loop : tie.InvT-loop
+Inv-loop n m k₀ k = k ≤ 6
+
+abbrev μ-loop : tie.MeasureT-loop
+μ-loop n m k₀ k = 6 - k
+
+loop-holds : tie.Need-loop-holds Inv-loop μ-loop
+loop-holds c = search needs
+
+operand-requires : tie.Need-operand-requires Inv-loop μ-loop
+operand-requires c κs = search needs
+
+print-one-requires : tie.Need-print-one-requires Inv-loop μ-loop
+print-one-requires c κs = search needs
+
+add-k : tie.Need-add-k Inv-loop μ-loop
+add-k c = search needs
+
+loop-less : tie.Need-loop-less Inv-loop μ-loop
+loop-less c = search needs
+
+loop-again : tie.Need-loop-again Inv-loop μ-loop
+loop-again c = search needs
+
+returns : tie.Need-returns Inv-loop μ-loop
+returns c = search needs
+
+pub print-ones-spec : {M : Type 1} → statement M
+print-ones-spec =
+    tie.close
+    (tie.spec
+    Inv-loop
+    μ-loop
+    loop-holds
+    operand-requires
+    print-one-requires
+    add-k
+    loop-less
+    loop-again
+    returns)

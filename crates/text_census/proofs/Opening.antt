@@ -1,0 +1,27 @@
+-- The text by what was read: the curve's bytes taken for training, or refused.
+use Prim.Native.Nat.{ℕ}
+use mathlib.Core.Path.{_≡_, sym, ap, subst}
+use mathlib.Core.List.{List}
+use Rattle.rules.specs.Checks.{Checked}
+use Rattle.rules.specs.Records.{CurveRecord}
+use Rattle.rules.proofs.calls.Refusals.{check}
+use Rattle.curve.specs.Record.{recordOf}
+use Rattle.call_census.specs.declared.Training.{Training as Read}
+use Rattle.call_census.specs.Training.{TrainingIs}
+use Rattle.text_lines.specs.Lines.{refused-line}
+use Rattle.text_rule.specs.Text.{lines-of, census-of}
+use Rattle.text_census.specs.declared.Opened.{Opened}
+use Rattle.text_census.specs.Opened.{OpenedIs}
+
+module _ (s : List ℕ) (t : Read) (h : TrainingIs s t) where
+  pub refuses : (t .number ≡ 0 → ⊥) → refused-line (t .number) 0 ≡ census-of s
+  unfolding census-of
+  refuses n = sym (ap (λ (x : Checked CurveRecord). check x refused-line lines-of) (h .refuses n))
+
+  pub takes : t .number ≡ 0 → census-of s ≡ lines-of (recordOf (t .curve))
+  unfolding census-of
+  takes z = ap (λ (x : Checked CurveRecord). check x refused-line lines-of) (h .takes z)
+
+-- another name of the same text
+pub opened-as : (x y out o : List ℕ) (r : Opened) → x ≡ y → OpenedIs x out o r → OpenedIs y out o r
+opened-as x y out o r e h = subst (λ (t : List ℕ). OpenedIs t out o r) e h

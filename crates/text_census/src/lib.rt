@@ -1,0 +1,40 @@
+// What opens the census' text (W-211), made on slices: a training curve, whose lines follow, or the line of what refuses it. Nothing here opens, reads or writes a file.
+ghost use Rattle.text_rule.specs.Text.{census-of, census-text};
+ghost use Rattle.text_tally.specs.Read.{fileOf};
+ghost use Rattle.text_census.specs.Opened.{OpenedIs};
+use curve::Curve;
+use text_tally::FileRead;
+
+pub enum Opened {
+    Training(Curve),
+    Refused(usize),
+}
+
+// Of a curve's bytes.
+fn open_bytes(curve: &[u8], out: &mut [u8; 256]) -> Opened
+    ensures { λ r. ⌜ OpenedIs (census-of (now (curve .entry))) (now (out .entry)) (now (out .exit)) r ⌝ }
+{
+    let t = call_census::read_training(curve);
+    let c = t.curve;
+    let number = t.number;
+    if number != 0 {
+        return Opened::Refused(text_lines::refusal(number, 0, out));
+    }
+    Opened::Training(c)
+}
+
+// Of what was read of the file, whose bytes stand at the front of `curve`.
+pub fn open(f: FileRead, curve: &[u8], out: &mut [u8; 256]) -> Opened
+    ensures { λ r. ⌜ OpenedIs (census-text (fileOf f (now (curve .entry)))) (now (out .entry)) (now (out .exit)) r ⌝ }
+{
+    match f {
+        FileRead::Unreadable => Opened::Refused(text_lines::refusal(refusals::UNREADABLE, 0, out)),
+        FileRead::Holds(n) => {
+            let s = text_tally::front(curve, n);
+            if refusals::MOST_BYTES < s.len() {
+                return Opened::Refused(text_lines::refusal(refusals::FILE_LENGTH, 0, out));
+            }
+            open_bytes(s, out)
+        }
+    }
+}
