@@ -1,5 +1,5 @@
 // Reads pairs of polynomials from standard input and prints their sums, products, divisions, gcds with cofactors, derivatives and
-// whether they are square-free. Input and expected text are made by tools/poly_vectors.py, which shares no code with this.
+// whether they are square-free. Input and expected text are made by tools/make/poly_vectors.py, which shares no code with this.
 // A number is 4 bytes, the highest first. A pair is p, then each polynomial: its length, its coefficients.
 ghost use Prim.Native.Nat.{_+_, _<_, _≤_};
 ghost use Rattle.field.specs.Residues.{Good, Kept};

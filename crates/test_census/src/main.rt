@@ -1,5 +1,5 @@
 // The cases of the program `census`. The arguments are paths of curves; for each a line with the path, then what the program prints for it. The files,
-// the arguments and the expected text are made by tools/scenarios.py.
+// the arguments and the expected text are made by tools/make/scenarios.py.
 use libc::STDOUT_FILENO;
 
 fn show(i: usize) {

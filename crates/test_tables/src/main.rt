@@ -1,5 +1,5 @@
 // Prints sums, differences, products, opposites and inverses modulo several primes, what the prime test says around its corners, and every
-// operation on residues at the edges of their range. The expected text is made by tools/field_vectors.py, which shares no code with this.
+// operation on residues at the edges of their range. The expected text is made by tools/make/field_vectors.py, which shares no code with this.
 ghost use Rattle.field.specs.Residues.{Good, Kept, Settled};
 use field::Modulus;
 use field::ModulusRead;

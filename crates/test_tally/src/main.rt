@@ -1,5 +1,5 @@
 // The cases of the program `tally`. The arguments are paths, a curve's and a batch's in turn; for each pair a line with the two paths, then what
-// the program prints for them. The files, the arguments and the expected text are made by tools/scenarios.py.
+// the program prints for them. The files, the arguments and the expected text are made by tools/make/scenarios.py.
 use libc::STDOUT_FILENO;
 
 fn show(i: usize, j: usize) {

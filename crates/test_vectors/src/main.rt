@@ -1,5 +1,5 @@
 // Prints the line of each frame in the files `vectors.a`, `vectors.b` and on, then of those in `corners.a` and on, each at most 65,536 bytes. The
-// files and the expected text are made by tools/vectors.py and tools/corners.py, which share no code with the product. tools/README.md has the
+// files and the expected text are made by tools/make/vectors.py and tools/make/corners.py, which share no code with the product. tools/README.md has the
 // form of both. For tests: the contracts say no more than safety asks.
 ghost use mathlib.Core.Path.{_≡_};
 ghost use Prim.Native.Nat.{_≤_};

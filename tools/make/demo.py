@@ -1,8 +1,8 @@
 #!/usr/bin/env python3
 """demo.py: makes the folders of demo/, each with a `curve` and a `batch` for bin/tally; two-poles has pole files and scans instead.
 
-    python3 tools/demo.py             writes them
-    python3 tools/demo.py --check     writes nothing: they must be what it would write
+    python3 tools/make/demo.py             writes them
+    python3 tools/make/demo.py --check     writes nothing: they must be what it would write
 
 case-p is document 01's own. street-with-a-repeat has 40 meters on a curve of genus 3 modulo the largest prime, and meter 7 again as the
 41st. street-with-a-flipped-meter has the same 40, and meter 12 again as the 41st, with its sign turned. damaged-list is the first list with
@@ -16,10 +16,11 @@ meters and their total, as document 01 prints them.
 import os
 import sys
 
+sys.path.append(os.path.join(os.path.dirname(os.path.abspath(__file__)), "..", "reference"))
+import made
 import reference
 from streets import CASE_P, CURVE_A, CURVE_M, CURVE_W, flipped, meters
 
-HOME = os.path.normpath(os.path.join(os.path.dirname(os.path.abspath(__file__)), "..", "demo"))
 POLES = 40101, 40102
 
 
@@ -72,20 +73,7 @@ def folders():
 
 
 def main():
-    wrong = 0
-    for name, parts in folders():
-        for part, content in parts.items():
-            path = os.path.join(HOME, name, part)
-            if sys.argv[1:] == ["--check"]:
-                with open(path, "rb") as file:
-                    if file.read() != content:
-                        print("%s isn't what it should be" % path)
-                        wrong = 1
-            else:
-                os.makedirs(os.path.dirname(path), exist_ok=True)
-                with open(path, "wb") as file:
-                    file.write(content)
-    return wrong
+    return made.settle({"demo/%s/%s" % (name, part): content for name, parts in folders() for part, content in parts.items()}, sys.argv[1:])
 
 
 if __name__ == "__main__":

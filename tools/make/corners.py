@@ -1,9 +1,9 @@
 #!/usr/bin/env python3
-"""corners.py: makes the last part of what the program `vectors` reads, data/corners.a and data/corners.b, and of what it prints: every street
+"""corners.py: makes the last part of what the program `test_vectors` reads, data/corners.a and data/corners.b, and of what it prints: every street
 corner of document 01, with a star or without, run through the calls, one line each: a label and the answer.
 
-    python3 tools/corners.py             writes the data; vectors.py writes the expected text, which ends with the corners'
-    python3 tools/corners.py --check     writes nothing: the data must be what it would write, and the expected text end so
+    python3 tools/make/corners.py             writes the data; vectors.py writes the expected text, which ends with the corners'
+    python3 tools/make/corners.py --check     writes nothing: the data must be what it would write, and the expected text end so
     --input PATH, --expected PATH        other files than crates/test_vectors/data/corners (in parts, corners.a and corners.b) and crates/test_vectors/stdout
 
 The format is frames.py's, with a label before each frame. What document 01 says of a corner stands in corner_table.py;
@@ -13,6 +13,7 @@ import argparse
 import os
 import sys
 
+sys.path.append(os.path.join(os.path.dirname(os.path.abspath(__file__)), "..", "reference"))
 import ideals
 import reference as r
 from corner_table import (
@@ -268,7 +269,7 @@ def made():
 def main():
     parser = argparse.ArgumentParser(description="makes or checks the street corners", epilog="see the head of the file")
     parser.add_argument("--check", action="store_true")
-    root = os.path.join(os.path.dirname(os.path.abspath(__file__)), "..", "crates", "test_vectors")
+    root = os.path.join(os.path.dirname(os.path.abspath(__file__)), "..", "..", "crates", "test_vectors")
     parser.add_argument("--input", default=os.path.normpath(os.path.join(root, "data", "corners")))
     parser.add_argument("--expected", default=os.path.normpath(os.path.join(root, "stdout")))
     options = parser.parse_args()

@@ -2,14 +2,16 @@
 """selfcheck.py: reference.py held against every example of document 01, against the rules of refusal by hand,
 and against methods that share nothing with it: ideals.py for sums, point counts for the number of valid divisors, searches for splits.
 
-    python3 tools/selfcheck.py    prints how many checks held; exit 1 on a failure
+    python3 tools/check/selfcheck.py    prints how many checks held; exit 1 on a failure
 
 Whatever can't be had from document 01's examples is written out by hand here: no expected number below comes from reference.py itself.
 """
 import itertools
 import math
+import os
 import sys
 
+sys.path.append(os.path.join(os.path.dirname(os.path.abspath(__file__)), "..", "reference"))
 import census
 import classes
 import ideals

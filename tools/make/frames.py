@@ -1,4 +1,4 @@
-"""frames.py: the file format that the program `vectors` reads, and the lines it prints.
+"""frames.py: the file format that the program `test_vectors` reads, and the lines it prints.
 
 A file is a sequence of frames. A frame is
 

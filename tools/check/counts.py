@@ -8,7 +8,7 @@ import sys
 
 import frames
 
-ROOT = os.path.normpath(os.path.join(os.path.dirname(os.path.abspath(__file__)), ".."))
+ROOT = os.path.normpath(os.path.join(os.path.dirname(os.path.abspath(__file__)), "..", ".."))
 CRATES = sorted(os.path.basename(p) for p in glob.glob(os.path.join(ROOT, "crates", "*")))
 
 
@@ -139,7 +139,7 @@ def streets():
 @functools.lru_cache(None)
 def believed():
     """The two tables of believed.py: lines by file, and the lines of laws beside the first."""
-    printed = subprocess.run([sys.executable, os.path.join(ROOT, "tools", "believed.py")], capture_output=True, text=True, check=True).stdout
+    printed = subprocess.run([sys.executable, os.path.join(ROOT, "tools", "check", "believed.py")], capture_output=True, text=True, check=True).stdout
     tables = [dict(re.findall(r"^(\w+/\S+) +(\d+) ", part, re.M)) for part in printed.split("What the statement of demand 3 names besides")]
     laws = re.search(r"^together +\d+ +(\d+)", printed, re.M).group(1)
     return [{name: int(n) for name, n in table.items()} for table in tables], int(laws)

@@ -2,20 +2,21 @@
 """sage_judge.py: holds a sample of the sums and doubles of the vectors to Sage's own Jacobian arithmetic, where Debian's
 `sagemath` is installed.
 
-    python3 tools/sage_judge.py [MOST]     judges at most MOST sums and doubles (400), spread over the whole file
+    python3 tools/check/sage_judge.py [MOST]     judges at most MOST sums and doubles (400), spread over the whole file
 
-Frames and answers are those of crates/test_vectors, data/vectors and stdout, which the program `vectors` is held to. Without Sage it
+Frames and answers are those of crates/test_vectors, data/vectors and stdout, which the program `test_vectors` is held to. Without Sage it
 says so and exits 0: nothing was judged then. Exit 1 if Sage finds another sum.
 """
 import os
 import shutil
 import sys
 
+sys.path += [os.path.join(os.path.dirname(os.path.abspath(__file__)), "..", folder) for folder in ("reference", "make")]
 import reference as r
 from frames import ADD, DOUBLE, decoded, read_parts
 
 AGAIN = "SAGE_JUDGE_AGAIN"
-CRATE = os.path.join(os.path.dirname(os.path.abspath(__file__)), "..", "crates", "test_vectors")
+CRATE = os.path.join(os.path.dirname(os.path.abspath(__file__)), "..", "..", "crates", "test_vectors")
 
 
 def done():

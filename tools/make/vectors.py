@@ -1,9 +1,9 @@
 #!/usr/bin/env python3
-"""vectors.py: makes the input and the expected output of the program `vectors`, and counts what they cover. The expected output
+"""vectors.py: makes the input and the expected output of the program `test_vectors`, and counts what they cover. The expected output
 ends with the lines of the street corners, whose input corners.py makes.
 
-    python3 tools/vectors.py SEED             writes both files and prints the census
-    python3 tools/vectors.py SEED --check     writes nothing: reads both files again, answers every frame again, sums
+    python3 tools/make/vectors.py SEED             writes both files and prints the census
+    python3 tools/make/vectors.py SEED --check     writes nothing: reads both files again, answers every frame again, sums
                                               again by ideals.py, makes all anew from SEED, compares, prints the census
     --input PATH, --expected PATH             other files than crates/test_vectors/data/vectors (in parts, vectors.a, vectors.b and
                                               on) and crates/test_vectors/stdout
@@ -18,6 +18,7 @@ import os
 import sys
 from collections import Counter, defaultdict
 
+sys.path.append(os.path.join(os.path.dirname(os.path.abspath(__file__)), "..", "reference"))
 import classes
 import corners
 import ideals
@@ -1847,7 +1848,7 @@ def main():
     parser = argparse.ArgumentParser(description="makes or checks the test vectors", epilog="see the head of the file")
     parser.add_argument("seed")
     parser.add_argument("--check", action="store_true")
-    root = os.path.join(os.path.dirname(os.path.abspath(__file__)), "..", "crates", "test_vectors")
+    root = os.path.join(os.path.dirname(os.path.abspath(__file__)), "..", "..", "crates", "test_vectors")
     parser.add_argument("--input", default=os.path.normpath(os.path.join(root, "data", "vectors")))
     parser.add_argument("--expected", default=os.path.normpath(os.path.join(root, "stdout")))
     options = parser.parse_args()

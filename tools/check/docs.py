@@ -8,20 +8,19 @@ Names, on every page: an edit CRATE/NAME, a crate, a file, a street of demo/ is 
     one of crates/; where a page says the file or the crate that has it, it is there. Of every note too: a decision that is cited by its number has the title
     that is cited, and a contract's lines are the code's.
 
-Notes of docs/changes are history, and name what has gone since: but for that only those of HELD are held. Numbers of recorded runs (times, instructions,
+Notes of docs/changes are history, and name what has gone since: nothing else of them is held. Numbers of recorded runs (times, instructions,
 the judge's calls) say what was and aren't held, nor is any sentence between the names. It reads, and writes nothing."""
 import glob
 import os
 import re
 import sys
 
+sys.path += [os.path.join(os.path.dirname(os.path.abspath(__file__)), "..", folder) for folder in ("reference", "make")]
 import counts
 import frames
 from counts import CRATES, ROOT, text
 
-HELD = ["W-209", "W-211", "W-212", "W-213"]
-NOTES = ["docs/changes/%s.md" % note for note in HELD if os.path.exists(os.path.join(ROOT, "docs/changes/%s.md" % note))]
-PAGES = ["README.md", "tools/README.md", "bindings/README.md"] + NOTES
+PAGES = ["README.md", "tools/README.md", "bindings/README.md"]
 PAGES += ["docs/%s.md" % page for page in ("PROVED", "DECISIONS", "TESTING", "TOUR", "BENCH", "CONTRIBUTING")]
 EVERY = sorted(set(PAGES + [os.path.relpath(path, ROOT) for path in glob.glob(os.path.join(ROOT, "docs", "changes", "*.md"))]))
 wrong = []
@@ -49,11 +48,11 @@ STATED = [
     ("docs/PROVED.md", "none of the N exports", lambda: len(counts.exports())),
     ("docs/PROVED.md", "`tablet`: the N exports", lambda: len(counts.exports())),
     ("docs/PROVED.md", "all N exports are called", lambda: len(counts.exports())),
-    ("docs/PROVED.md", "`scenarios` runs N cases", counts.scenarios),
-    ("docs/PROVED.md", "`census_scenarios` runs N cases", lambda: counts.censuses()[0]),
+    ("docs/PROVED.md", "`test_tally` runs N cases", counts.scenarios),
+    ("docs/PROVED.md", "`test_census` runs N cases", lambda: counts.censuses()[0]),
     ("docs/PROVED.md", "N whole censuses", lambda: counts.censuses()[2]),
-    ("docs/PROVED.md", "`vectors` runs N frames", lambda: len(counts.vectors())),
-    ("docs/PROVED.md", "N lines (tools/corners.py)", counts.corners),
+    ("docs/PROVED.md", "`test_vectors` runs N frames", lambda: len(counts.vectors())),
+    ("docs/PROVED.md", "N lines (tools/make/corners.py)", counts.corners),
     ("docs/PROVED.md", "the N odd composite numbers below 3,000", counts.composites),
     ("docs/PROVED.md", "N right orders and N wrong ones", lambda: counts.answered(frames.CHECK_ORDER, 0, 27)[1:]),
     ("docs/PROVED.md", "N splits, N done and N refused 26", lambda: counts.answered(frames.SPLIT, 0, 26)),
@@ -69,11 +68,11 @@ STATED = [
     ("docs/TESTING.md", "N rows of arithmetic modulo six primes, N answers of the prime test, N rows", counts.field_rows),
     ("docs/TESTING.md", "| `poly_table` | N pairs", counts.pairs_of_polynomials),
     ("docs/TESTING.md", "N frames through the exported calls", lambda: len(counts.vectors())),
-    ("docs/TESTING.md", "N lines | tools/corners.py", counts.corners),
+    ("docs/TESTING.md", "N lines | tools/make/corners.py", counts.corners),
     ("docs/TESTING.md", "curve A, N divisors", counts.census),
     ("docs/TESTING.md", "N curves and files: N refusals, N whole censuses", lambda: counts.censuses()[:3]),
     ("docs/TESTING.md", "13, N divisors", lambda: counts.censuses()[3]),
-    ("docs/TESTING.md", "| `scenarios` | N folders", counts.scenarios),
+    ("docs/TESTING.md", "| `test_tally` | N folders", counts.scenarios),
     ("docs/TESTING.md", "all N sums and doubles of the vectors agree", counts.sums_done),
     ("docs/TESTING.md", "below 3,000 for p, N of them", counts.composites),
     ("docs/TESTING.md", "Orders among the vectors: N that are accepted and N that are refused 27", lambda: counts.answered(frames.CHECK_ORDER, 0, 27)[1:]),

@@ -1,16 +1,19 @@
 #!/usr/bin/env python3
-"""poly_vectors.py SEED in|out: pairs of polynomials for crates/poly_table, and what it must print of them.
+"""poly_vectors.py: pairs of polynomials for crates/poly_table, and what it must print of them.
 
-    python3 tools/poly_vectors.py 1 in  > crates/poly_table/stdin
-    python3 tools/poly_vectors.py 1 out > crates/poly_table/stdout
+    python3 tools/make/poly_vectors.py             writes crates/poly_table/stdin and stdout
+    python3 tools/make/poly_vectors.py --check     writes nothing: both must be what it would write
 
 Polynomials are Python lists, constant first, and every algorithm is the textbook one over Python's whole numbers.
 """
 import random
 import sys
 
+import made
+
 PRIMES = [3, 5, 7, 2147483647]
 ROOM = 11
+SEED = 1
 
 
 def trim(a):
@@ -90,46 +93,43 @@ def pairs(seed):
         yield p, [], []
 
 
-def show(name, a):
-    print(" ".join([name] + [str(x) for x in a]))
+def shown(name, a):
+    return " ".join([name] + [str(x) for x in a])
 
 
 def answers(p, a, b):
-    print("p", p)
-    show("a", a)
-    show("b", b)
-    show("sum", add(a, b, p))
-    show("difference", add(a, b, p, -1))
-    show("opposite", add([], a, p, -1))
-    if len(a) + len(b) <= ROOM + 1:
-        show("product", mul(a, b, p))
-    else:
-        print("product none")
+    yield "p %d" % p
+    yield shown("a", a)
+    yield shown("b", b)
+    yield shown("sum", add(a, b, p))
+    yield shown("difference", add(a, b, p, -1))
+    yield shown("opposite", add([], a, p, -1))
+    yield shown("product", mul(a, b, p)) if len(a) + len(b) <= ROOM + 1 else "product none"
     if b:
         q, r = divide(a, monic(b, p), p)
-        show("quotient", q)
-        show("remainder", r)
+        yield shown("quotient", q)
+        yield shown("remainder", r)
     else:
-        print("quotient none")
+        yield "quotient none"
     r, s, t = gcd(a, b, p)
-    show("gcd", r)
-    show("again", r)
-    show("s", s)
-    show("t", t)
+    yield shown("gcd", r)
+    yield shown("again", r)
+    yield shown("s", s)
+    yield shown("t", t)
     assert add(mul(s, a, p), mul(t, b, p), p) == r
     d = derivative(a, p)
-    show("derivative", d)
-    print("square-free" if len(gcd(a, d, p)[0]) == 1 else "repeated factor")
+    yield shown("derivative", d)
+    yield "square-free" if len(gcd(a, d, p)[0]) == 1 else "repeated factor"
 
 
 def main():
-    seed, what = int(sys.argv[1]), sys.argv[2]
-    for p, a, b in pairs(seed):
+    data, text = b"", ""
+    for p, a, b in pairs(SEED):
         a, b = trim(a), trim(b)
-        if what == "in":
-            sys.stdout.buffer.write(b"".join(n.to_bytes(4, "big") for n in [p, len(a)] + a + [len(b)] + b))
-        else:
-            answers(p, a, b)
+        data += b"".join(n.to_bytes(4, "big") for n in [p, len(a)] + a + [len(b)] + b)
+        text += "".join(line + "\n" for line in answers(p, a, b))
+    return made.settle({"crates/poly_table/stdin": data, "crates/poly_table/stdout": text.encode("ascii")}, sys.argv[1:])
 
 
-main()
+if __name__ == "__main__":
+    sys.exit(main())

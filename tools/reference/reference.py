@@ -1,8 +1,8 @@
 #!/usr/bin/env python3
 """reference.py: document 01 in plain Python, a separate implementation to compare the product with.
 
-    python3 tools/reference.py tally DIR     prints what the program `tally` prints for DIR's files `curve` and `batch`
-    python3 tools/reference.py census DIR    prints what the program `census` prints for DIR's file `curve`
+    python3 tools/reference/reference.py tally DIR     prints what the program `tally` prints for DIR's files `curve` and `batch`
+    python3 tools/reference/reference.py census DIR    prints what the program `census` prints for DIR's file `curve`
 
 It was written from document 01 and, of document 02, W-201, W-205, W-207, W-208, W-209, W-211, W-213 and W-214, and shares no code with the product.
 Where the document leaves a choice (the flat running total, the place in a double, an opposite or a multiple, the order of 16 and 17) it follows the

@@ -1,8 +1,13 @@
 #!/usr/bin/env python3
 """field_vectors.py: what crates/test_tables must print, by Python's own whole numbers and from the definitions only.
 
-    python3 tools/field_vectors.py > crates/test_tables/stdout
+    python3 tools/make/field_vectors.py             writes crates/test_tables/stdout
+    python3 tools/make/field_vectors.py --check     writes nothing: it must be what it would write
 """
+import sys
+
+import made
+
 PRIMES = [3, 5, 7, 11, 65537, 2147483647]
 TRIED = [
     0, 1, 2, 3, 4, 5, 9, 15, 25, 49, 121, 169, 561, 1105, 1729, 2465, 2821, 6601, 8911, 65537, 4294967297, 46337**2, 2147483629,
@@ -35,13 +40,11 @@ def samples(p):
     return [n % p for n in (0, 1, 2, p // 2, p // 3, 1234567, 18446744073709551615, 987654321)]
 
 
-for p in PRIMES:
+def arithmetic_rows(p):
     for a in samples(p):
         for b in samples(p):
             inverse = pow(a, -1, p) if a else "none"
-            print(p, a, b, (a + b) % p, (a - b) % p, a * b % p, -a % p, inverse)
-for n in TRIED:
-    print(n, "prime" if odd_prime_within_limit(n) else "refused")
+            yield [p, a, b, (a + b) % p, (a - b) % p, a * b % p, -a % p, inverse]
 
 
 def edge_rows(p):
@@ -61,6 +64,19 @@ def edge_rows(p):
             yield [x, y] + thirds + [(a + b) % p, (a - b) % p, a * b % p]
 
 
-for p in EDGES:
-    for row in edge_rows(p):
-        print(*row)
+def rows():
+    for p in PRIMES:
+        yield from arithmetic_rows(p)
+    for n in TRIED:
+        yield [n, "prime" if odd_prime_within_limit(n) else "refused"]
+    for p in EDGES:
+        yield from edge_rows(p)
+
+
+def main():
+    text = "".join(" ".join(map(str, row)) + "\n" for row in rows())
+    return made.settle({"crates/test_tables/stdout": text.encode("ascii")}, sys.argv[1:])
+
+
+if __name__ == "__main__":
+    sys.exit(main())

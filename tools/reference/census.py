@@ -1,7 +1,7 @@
 #!/usr/bin/env python3
 """census.py: every valid divisor of a small curve, by trying all pairs (u, v). The search uses nothing of reference.py, not even its polynomials.
 
-    python3 tools/census.py CURVE    prints what the program `census` prints for the file CURVE: a record a line, or a refusal's line
+    python3 tools/reference/census.py CURVE    prints what the program `census` prints for the file CURVE: a record a line, or a refusal's line
 """
 import itertools
 import sys

@@ -16,16 +16,16 @@ line counts once where something below it is reached, an `open` or `infix` line 
 
 Names are read as words. A word that a clause binds (left of its `=`, by `λ`, `let` or a binder) is a variable in all of that clause; a section's
 parameters aren't told from definitions, so one that has a definition's name makes it count. What comes in by a glob, or by `use M` and
-`M.x`, would be missed: a file that is reached and has such a line is named as a warning.
+`M.x`, would be missed: a file that is reached and has such a line is named as a warning, and the exit status is 1.
 
-    python3 tools/believed.py            the two tables
-    python3 tools/believed.py --unread   and the definitions of the files in specs/ that neither reaches
+    python3 tools/check/believed.py            the two tables
+    python3 tools/check/believed.py --unread   and the definitions of the files in specs/ that neither reaches
 """
 import os
 import re
 import sys
 
-ROOT = os.path.join(os.path.dirname(os.path.abspath(__file__)), "..", "crates")
+ROOT = os.path.join(os.path.dirname(os.path.abspath(__file__)), "..", "..", "crates")
 CALLS = [("tablet", 'extern "C" fn'), ("scan_lent", "pub fn scan("), ("text_tally", "pub fn tally"), ("text_lines", "pub fn refusal")]
 THEOREM = ("rules/proofs/Demand3", ["Demand3", "demand3"])
 ORDER = [
@@ -251,13 +251,15 @@ def main():
     print("\nboth: %d lines, and %d of laws" % (first[0] + more[0], first[1] + more[1]))
     for kind, what in (("code", "declared in src/"), ("kit", "of the toolchain"), ("proofs", "lemmas cited by a definition")):
         print("\n%s: %s" % (what, " ".join(sorted(both.other[kind]))))
-    for file in {i.file for i in both.items if i.file.whole}:
+    missed = {i.file for i in both.items if i.file.whole}
+    for file in missed:
         print("\nwarning: %s has %s, which isn't followed" % (file.path, ", ".join(file.whole)))
     if "--unread" in sys.argv:
         for path in sorted({i.file.path for i in both.items}, key=rank):
             left = [i.name for i in FILES[path].items if i.name and i not in both.items and i.mark is not None]
             if "/specs/" in path and left:
                 print("\nnot reached in %s: %s" % (path, " ".join(left)))
+    return 1 if missed else 0
 
 
-main()
+sys.exit(main())

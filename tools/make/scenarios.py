@@ -1,10 +1,10 @@
 #!/usr/bin/env python3
-"""scenarios.py: makes the files, the arguments and the expected text of the programs `scenarios` and `census_scenarios`, and those of `census`.
-`scenarios` has a folder for each case of the program `tally`, with its `curve` and its `batch` or without, and what the program prints for
-each after a line with the two paths; `census_scenarios` has a curve for each case of the program `census`, and what that prints after the path.
+"""scenarios.py: makes the files, the arguments and the expected text of the programs `test_tally` and `test_census`, and those of `census`.
+`test_tally` has a folder for each case of the program `tally`, with its `curve` and its `batch` or without, and what the program prints for
+each after a line with the two paths; `test_census` has a curve for each case of the program `census`, and what that prints after the path.
 
-    python3 tools/scenarios.py             writes data, args and stdout of crates/test_tally and crates/test_census, data and stdout of crates/census
-    python3 tools/scenarios.py --check     writes nothing: all of it must be what it would write
+    python3 tools/make/scenarios.py             writes data, args and stdout of crates/test_tally and crates/test_census, data and stdout of crates/census
+    python3 tools/make/scenarios.py --check     writes nothing: all of it must be what it would write
 
 What a folder prints is reference.py's answer for that folder, read from the disk; what a training curve prints, census.py's, that tries every
 pair. Where the documents give the number or the lines, they are written out here too and must agree.
@@ -14,6 +14,7 @@ import shutil
 import sys
 import tempfile
 
+sys.path.append(os.path.join(os.path.dirname(os.path.abspath(__file__)), "..", "reference"))
 import census
 import reference
 from records import curve_record, divisor_record
@@ -24,7 +25,7 @@ from streets import (
 
 MISSING, DIRECTORY = None, "directory"
 P_LINES = "count 3\nrepeat 1 3\ntotal 02 %016x %016x %016x %016x\n" % (4, 4, 0, 1)
-HOME = os.path.normpath(os.path.join(os.path.dirname(os.path.abspath(__file__)), "..", "crates"))
+HOME = os.path.normpath(os.path.join(os.path.dirname(os.path.abspath(__file__)), "..", "..", "crates"))
 
 scenarios = []  # name, curve, batch, what the document says of it: a beginning of the text
 censuses = []  # name, curve, what the documents say of it: all of a refusal, or how many divisors there are, or None

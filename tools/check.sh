@@ -1,0 +1,35 @@
+#!/usr/bin/env bash
+# bash tools/check.sh: what can be looked at without the prover. The pages hold what the tree has, every file that a script makes is what it would make
+# again, and the separate implementation holds to document 01. A line for each, exit 1 if any fails. It writes nothing, and takes some four minutes.
+set -u
+unset CDPATH
+cd -- "$(dirname -- "$0")/.." || exit 2
+said=$(mktemp) || exit 2
+trap 'rm -f "$said"' EXIT
+held=0 failed=0
+
+# A check: its name, then its command. What it printed is shown where it fails.
+check() {
+    local name=$1
+    shift
+    if "$@" >"$said" 2>&1; then
+        held=$((held + 1))
+        printf 'held    %s\n' "$name"
+    else
+        failed=$((failed + 1))
+        printf 'FAILED  %s: %s\n' "$name" "$*"
+        sed 's/^/        /' "$said"
+    fi
+}
+
+check 'the pages and the tree' python3 tools/check/docs.py
+check 'what must be believed can be followed' python3 tools/check/believed.py
+check 'data of test_tables' python3 tools/make/field_vectors.py --check
+check 'data of poly_table' python3 tools/make/poly_vectors.py --check
+check 'data of test_tally, census and test_census' python3 tools/make/scenarios.py --check
+check 'demo/' python3 tools/make/demo.py --check
+check 'street corners of test_vectors' python3 tools/make/corners.py --check
+check 'data of test_vectors, seed 1' python3 tools/make/vectors.py 1 --check
+check 'the separate implementation' python3 tools/check/selfcheck.py
+printf '%d checks, %d held, %d failed\n' $((held + failed)) "$held" "$failed"
+[ "$failed" -eq 0 ]
