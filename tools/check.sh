@@ -24,6 +24,7 @@ check() {
 
 check 'the pages and the tree' python3 tools/check/docs.py
 check 'what must be believed can be followed' python3 tools/check/believed.py
+check 'docs/CRATES.md' python3 tools/make/house.py --check
 check 'data of test_tables' python3 tools/make/field_vectors.py --check
 check 'data of poly_table' python3 tools/make/poly_vectors.py --check
 check 'data of test_tally, census and test_census' python3 tools/make/scenarios.py --check

@@ -34,6 +34,11 @@ def listed():
     return [line.split(":")[0].strip() for line in lines("crates.txt") if line and not line.startswith("#")]
 
 
+def families():
+    """Its families."""
+    return re.findall(r"^# ---- ([^:]+):", text("crates.txt"), re.M)
+
+
 @functools.lru_cache(None)
 def edits():
     """Every must-fail edit, CRATE/NAME, with the files that it changes."""

@@ -3,7 +3,7 @@
 
 Counts: every number in the words of STATED is what counts.py counts, and each page still has those words; the edits of specs/ by crate and by file;
     what a reader must believe, file by file and in sum; the crates of the gate's times.
-Lists: the crates in README.md's table, the calls in its table and in docs/PROVED.md's, the folders of demo/ in README.md, every edit in docs/PROVED.md.
+Lists: the families in README.md's table, the calls in its table and in docs/PROVED.md's, the folders of demo/ in README.md, every edit in docs/PROVED.md.
 Names, on every page: an edit CRATE/NAME, a crate, a file, a street of demo/ is there; what stands in backquotes is a name of the tree, in docs/PROVED.md
     one of crates/; where a page says the file or the crate that has it, it is there. Of every note too: a decision that is cited by its number has the title
     that is cited, and a contract's lines are the code's.
@@ -21,7 +21,7 @@ import frames
 from counts import CRATES, ROOT, text
 
 PAGES = ["README.md", "tools/README.md", "bindings/README.md"]
-PAGES += ["docs/%s.md" % page for page in ("PROVED", "DECISIONS", "TESTING", "TOUR", "BENCH", "CONTRIBUTING")]
+PAGES += ["docs/%s.md" % page for page in ("PROVED", "DECISIONS", "TESTING", "TOUR", "BENCH", "CONTRIBUTING", "CRATES")]
 EVERY = sorted(set(PAGES + [os.path.relpath(path, ROOT) for path in glob.glob(os.path.join(ROOT, "docs", "changes", "*.md"))]))
 wrong = []
 
@@ -158,7 +158,7 @@ def table(page, head):
 
 
 def check_lists():
-    same("README.md's table of crates", re.findall(r"`(\w+)`", table("README.md", "| crates | what they are |")), counts.listed())
+    same("README.md's table of families", table("README.md", "| family | what it is |").splitlines(), counts.families())
     same("README.md's table of calls", re.findall(r"`(yubi_\w+)`", table("README.md", "| call | answers")), counts.exports())
     same("PROVED.md's table of wrong programs a call", re.findall(r"`(yubi_\w+)`", table("docs/PROVED.md", "| call | wrong programs |")), counts.exports())
     same("include/yubisorade.h", counts.declared(), counts.exports())

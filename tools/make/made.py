@@ -4,6 +4,16 @@ import os
 ROOT = os.path.normpath(os.path.join(os.path.dirname(os.path.abspath(__file__)), "..", ".."))
 
 
+def text(*path):
+    with open(os.path.join(ROOT, *path), encoding="utf-8") as file:
+        return file.read()
+
+
+def lines(each):
+    """Lines as the bytes of a file."""
+    return "".join(line + "\n" for line in each).encode("utf-8")
+
+
 def differing(files):
     """The paths, from the root, whose file isn't there or doesn't hold these bytes."""
     for path, content in files.items():
