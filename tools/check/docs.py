@@ -1,15 +1,19 @@
 #!/usr/bin/env python3
-"""docs.py: holds docs/ and README.md to the tree. Exit 1 and a line for each thing that isn't so.
+"""docs.py: holds README.md and docs/ to the tree. Exit 1 and a line for each thing that isn't so.
 
 Counts: every number in the words of STATED is what counts.py counts, and each page still has those words; the edits of specs/ by crate and by file;
-    what a reader must believe, file by file and in sum; the crates of the gate's times.
-Lists: the families in README.md's table, the calls in its table and in docs/PROVED.md's, the folders of demo/ in README.md, every edit in docs/PROVED.md.
-Names, on every page: an edit CRATE/NAME, a crate, a file, a street of demo/ is there; what stands in backquotes is a name of the tree, in docs/PROVED.md
-    one of crates/; where a page says the file or the crate that has it, it is there. Of every note too: a decision that is cited by its number has the title
-    that is cited, and a contract's lines are the code's.
+    what a reader must believe, in sum and file by file.
+Lists: the calls in README.md's table and in docs/proofs/CALLS.md's list, crates.txt's families in README.md's table, the folders of demo/ in README.md, every
+    edit in docs/proofs/EDITS.md.
+Names, on every page: an edit CRATE/NAME, a crate, a file, a street of demo/ is there; a function CRATE::NAME is in that crate's code; what stands in
+    backquotes is a name of the tree, on the pages of proofs one of crates/; where a page says the file or the crate that has it, it is there. A link leads
+    to a file, and to a heading of it where it names one. Of every note too: a decision that is cited by its number has the title that is cited, and a
+    contract's lines are the code's.
+Form: docs/PROVED.md has at most 150 lines, docs/TOUR.md's addition at most 18 rows and crates; a sentence a line, no line over 160 characters.
 
-Notes of docs/changes are history, and name what has gone since: nothing else of them is held. Numbers of recorded runs (times, instructions,
-the judge's calls) say what was and aren't held, nor is any sentence between the names. It reads, and writes nothing."""
+Notes of docs/changes are history, and name what has gone since: but for that they aren't held. Pages that a script makes from the tree (MADE) are
+held by that script. Numbers of recorded runs (times, instructions, the judge's calls) say what was and aren't held, nor is any sentence between the names.
+It reads, and writes nothing."""
 import glob
 import os
 import re
@@ -20,9 +24,15 @@ import counts
 import frames
 from counts import CRATES, ROOT, text
 
-PAGES = ["README.md", "tools/README.md", "bindings/README.md"]
-PAGES += ["docs/%s.md" % page for page in ("PROVED", "DECISIONS", "TESTING", "TOUR", "BENCH", "CONTRIBUTING", "CRATES")]
-EVERY = sorted(set(PAGES + [os.path.relpath(path, ROOT) for path in glob.glob(os.path.join(ROOT, "docs", "changes", "*.md"))]))
+
+def pages(*path):
+    return sorted(os.path.relpath(p, ROOT) for p in glob.glob(os.path.join(ROOT, *path)))
+
+
+MADE = ["docs/CRATES.md"] + ["docs/proofs/%s.md" % page for page in ("EDITS", "CONTRACTS", "BELIEVED", "TIMES")]
+PROOFS = ["docs/PROVED.md"] + [page for page in pages("docs", "proofs", "*.md") if page not in MADE]
+PAGES = ["README.md"] + pages("tools", "README.md") + pages("bindings", "README.md") + [page for page in pages("docs", "*.md") if page not in MADE] + PROOFS[1:]
+EVERY = sorted(set(PAGES + pages("*.md") + pages("docs", "changes", "*.md")))
 wrong = []
 
 # ---- numbers in words
@@ -42,28 +52,44 @@ def value(word):
 
 # ---- counts: a page, its words with N for each number, and what the numbers are
 
+
+def flowing(page):
+    """A page with its lines run together: words may stand on two lines."""
+    return re.sub(r"\s+", " ", text(page))
+
+
+def compared():
+    """What the gate's programs run and compare: frames, corners, cases, rows and pairs."""
+    return len(counts.vectors()) + counts.corners() + counts.scenarios() + counts.censuses()[0] + sum(counts.field_rows()) + counts.pairs_of_polynomials()
+
+
 STATED = [
+    ("README.md", "N lines of definitions", lambda: sum(counts.believed()[0][0].values())),
+    ("README.md", "N wrong programs", lambda: len(counts.edits())),
+    ("README.md", "N cases", compared),
     ("README.md", "declares N calls", lambda: len(counts.declared())),
-    ("README.md", "some N vectors", lambda: round(len(counts.vectors()), -2)),
-    ("docs/PROVED.md", "none of the N exports", lambda: len(counts.exports())),
-    ("docs/PROVED.md", "`tablet`: the N exports", lambda: len(counts.exports())),
-    ("docs/PROVED.md", "all N exports are called", lambda: len(counts.exports())),
-    ("docs/PROVED.md", "`test_tally` runs N cases", counts.scenarios),
-    ("docs/PROVED.md", "`test_census` runs N cases", lambda: counts.censuses()[0]),
-    ("docs/PROVED.md", "N whole censuses", lambda: counts.censuses()[2]),
-    ("docs/PROVED.md", "`test_vectors` runs N frames", lambda: len(counts.vectors())),
-    ("docs/PROVED.md", "N lines (tools/make/corners.py)", counts.corners),
-    ("docs/PROVED.md", "the N odd composite numbers below 3,000", counts.composites),
-    ("docs/PROVED.md", "N right orders and N wrong ones", lambda: counts.answered(frames.CHECK_ORDER, 0, 27)[1:]),
-    ("docs/PROVED.md", "N splits, N done and N refused 26", lambda: counts.answered(frames.SPLIT, 0, 26)),
-    ("docs/PROVED.md", "N steps of a census, N done, N refused 24 and N refused 25", lambda: counts.answered(frames.NEXT_DIVISOR, 0, 24, 25)),
-    ("docs/PROVED.md", "N scans, ", lambda: counts.answered(frames.SCAN)),
-    ("docs/PROVED.md", "N pole files written and read", lambda: sum(counts.pole_files())),
-    ("docs/PROVED.md", "N rows of arithmetic", lambda: counts.field_rows()[0]),
-    ("docs/PROVED.md", "N answers of the prime test, and N rows", lambda: counts.field_rows()[1:]),
-    ("docs/PROVED.md", "`poly_table` reads N pairs", counts.pairs_of_polynomials),
+    ("docs/PROVED.md", "None of the N exports", lambda: len(counts.exports())),
+    ("docs/PROVED.md", "The contracts take N.", lambda: sum(counts.believed()[0][0].values())),
+    ("docs/PROVED.md", "names N lines more", lambda: sum(counts.believed()[0][1].values())),
     ("docs/PROVED.md", "N lines of ring laws", lambda: counts.believed()[1]),
-    ("docs/PROVED.md", "The whole gate: N crates, N must-fail edits, N programs, N passed", counts.gate),
+    ("docs/PROVED.md", "proves N crates from nothing, has N wrong programs refused, and runs N programs", lambda: counts.gate()[:3]),
+    ("docs/proofs/CALLS.md", "`tablet`: the N exports", lambda: len(counts.exports())),
+    ("docs/proofs/CALLS.md", "of each of the N exports", lambda: len(counts.exports())),
+    ("docs/proofs/PROGRAMS.md", "all N exports are called", lambda: len(counts.exports())),
+    ("docs/proofs/PROGRAMS.md", "`test_tally` runs N cases", counts.scenarios),
+    ("docs/proofs/PROGRAMS.md", "`test_census` runs N cases", lambda: counts.censuses()[0]),
+    ("docs/proofs/PROGRAMS.md", "N whole censuses", lambda: counts.censuses()[2]),
+    ("docs/proofs/PROGRAMS.md", "`test_vectors` runs N frames", lambda: len(counts.vectors())),
+    ("docs/proofs/PROGRAMS.md", "N lines (tools/make/corners.py)", counts.corners),
+    ("docs/proofs/PROGRAMS.md", "the N odd composite numbers below 3,000", counts.composites),
+    ("docs/proofs/PROGRAMS.md", "N right orders and N wrong ones", lambda: counts.answered(frames.CHECK_ORDER, 0, 27)[1:]),
+    ("docs/proofs/PROGRAMS.md", "N splits, N done and N refused 26", lambda: counts.answered(frames.SPLIT, 0, 26)),
+    ("docs/proofs/PROGRAMS.md", "N steps of a census, N done, N refused 24 and N refused 25", lambda: counts.answered(frames.NEXT_DIVISOR, 0, 24, 25)),
+    ("docs/proofs/PROGRAMS.md", "N scans, ", lambda: counts.answered(frames.SCAN)),
+    ("docs/proofs/PROGRAMS.md", "N pole files written and read", lambda: sum(counts.pole_files())),
+    ("docs/proofs/ARITHMETIC.md", "N rows of arithmetic", lambda: counts.field_rows()[0]),
+    ("docs/proofs/ARITHMETIC.md", "N answers of the prime test, and N rows", lambda: counts.field_rows()[1:]),
+    ("docs/proofs/ARITHMETIC.md", "`poly_table` reads N pairs", counts.pairs_of_polynomials),
     ("docs/DECISIONS.md", "W-201's N composite numbers", counts.composites),
     ("docs/TESTING.md", "N rows of arithmetic modulo six primes, N answers of the prime test, N rows", counts.field_rows),
     ("docs/TESTING.md", "| `poly_table` | N pairs", counts.pairs_of_polynomials),
@@ -89,7 +115,7 @@ def check_counts():
     for page, words, count in STATED:
         want = count()
         want = want if isinstance(want, tuple) else (want,)
-        stated = re.findall(NUMBER.join(map(re.escape, re.split(r"\bN\b", words))), text(page), re.I)
+        stated = re.findall(NUMBER.join(map(re.escape, re.split(r"\bN\b", words))), flowing(page), re.I)
         if not stated:
             wrong.append('%s doesn\'t say "%s" any more, so that its number can\'t be held' % (page, words))
         for found in stated:
@@ -100,42 +126,33 @@ def check_counts():
 
 def check_rule_edits():
     """The sentence on edits of specs/: all, then by crate, `N of CRATE`, or CRATE/NAME for one."""
-    page = text("docs/PROVED.md")
+    page = flowing("docs/proofs/CALLS.md")
     stated = re.search(NUMBER + r" change a definition in specs/ \((.*?)\)", page, re.I)
     if not stated:
-        wrong.append("PROVED.md doesn't say how many edits change a definition in specs/")
+        wrong.append("CALLS.md doesn't say how many edits change a definition in specs/")
         return
     said = {crate: value(n) for n, crate in re.findall(NUMBER + r" of (\w+)", stated.group(2))}
     for crate in re.findall(r"(\w+)/\w+", stated.group(2)):
         said[crate] = said.get(crate, 0) + 1
     there = counts.rule_edits()
     if value(stated.group(1)) != sum(there.values()):
-        wrong.append("PROVED.md says that %s edits change a definition in specs/, and %d do" % (stated.group(1).lower(), sum(there.values())))
-    differ("PROVED.md, edits that change a definition in specs/", said, there)
+        wrong.append("CALLS.md says that %s edits change a definition in specs/, and %d do" % (stated.group(1).lower(), sum(there.values())))
+    differ("CALLS.md, edits that change a definition in specs/", said, there)
 
 
 def check_rule_files():
     """The sentence on the edits of rules by file: `N change specs/FILE`, further ones `N FILE`."""
-    stated = re.search(r"Of the edits of `rules` (.*?)\.", text("docs/PROVED.md"))
+    stated = re.search(r"Of the edits of `rules` (.*?)\.", flowing("docs/proofs/CALLS.md"))
     said = {file: value(n) for n, file in re.findall(NUMBER + r" (?:changes? )?(?:specs/)?([A-Z]\w+)", stated.group(1))} if stated else {}
-    differ("PROVED.md, edits of rules by file of specs/", {file: n for file, n in said.items() if n}, counts.edits_of("rules"))
+    differ("CALLS.md, edits of rules by file of specs/", {file: n for file, n in said.items() if n}, counts.edits_of("rules"))
 
 
 def check_believed():
-    """Each row: one number for each file, in order; a file without a folder is in the folder of the one before it."""
-    page = text("docs/PROVED.md")
-    (calls, theorem), _ = counts.believed()
-    for words in ("the contracts take %d." % sum(calls.values()), "| together | %d | |" % sum(calls.values()), "names %d lines more" % sum(theorem.values())):
-        if words not in page:
-            wrong.append("PROVED.md doesn't say `%s`, which is what believed.py counts" % words)
-    said = {}
-    for files, numbers in re.findall(r"^\| (.*?) \| ([\d +]+) \| .+\|$", page.split("| file | lines | what |")[1].split("| together |")[0], re.M):
-        folder, names = "", []
-        for name in re.split(r"[,;] ", files.replace("algebra: ", "algebra/proofs/").replace(", ring/", ", algebra/proofs/ring/")):
-            folder = os.path.dirname(name) or folder
-            names.append(os.path.join(folder, os.path.basename(name)))
-        said.update(zip(names, map(int, numbers.split(" + "))))
-    differ("PROVED.md, lines to be believed", said, calls)
+    """Each file with lines that are believed is on the page that lists them; the sums are counts of STATED."""
+    if os.path.exists(os.path.join(ROOT, "docs/proofs/BELIEVED.md")):
+        page = text("docs/proofs/BELIEVED.md")
+        for table in counts.believed()[0]:
+            wrong.extend("BELIEVED.md lacks %s" % file for file in table if file not in page)
 
 
 def differ(what, said, there):
@@ -158,20 +175,16 @@ def table(page, head):
 
 
 def check_lists():
-    same("README.md's table of families", table("README.md", "| family | what it is |").splitlines(), counts.families())
-    same("README.md's table of calls", re.findall(r"`(yubi_\w+)`", table("README.md", "| call | answers")), counts.exports())
-    same("PROVED.md's table of wrong programs a call", re.findall(r"`(yubi_\w+)`", table("docs/PROVED.md", "| call | wrong programs |")), counts.exports())
+    same("README.md's table of calls", re.findall(r"`(yubi_\w+)`", table("README.md", "| call | ")), counts.exports())
+    same("CALLS.md's list of wrong programs a call", re.findall(r"^- `(yubi_\w+)`, rule", text("docs/proofs/CALLS.md"), re.M), counts.exports())
     same("include/yubisorade.h", counts.declared(), counts.exports())
     same("README.md's demo/", re.findall(r"\bdemo/([\w-]+)", text("README.md")), counts.streets())
-    times = re.search(r"two crates at a time:\n(.*?)\.\n", text("docs/PROVED.md"), re.S)
-    same("PROVED.md's list of check times", re.findall(r"(\w+) \d+", times.group(1)) if times else [], counts.listed())
+    same("README.md's table of families", table("README.md", "| family | ").split("\n"), counts.families())
 
 
 def check_all_edits_named():
-    """CRATE/NAME, or in the table of edits on the rules NAME and a colon."""
-    page = text("docs/PROVED.md")
-    named = edits_on(page) | {"rules/" + name for name in re.findall(r"^\| (\w+): ", page, re.M)}
-    wrong.extend("the edit %s isn't named in PROVED.md" % n for n in sorted(set(counts.edits()) - named))
+    if os.path.exists(os.path.join(ROOT, "docs/proofs/EDITS.md")):
+        wrong.extend("the edit %s isn't named in EDITS.md" % n for n in sorted(set(counts.edits()) - edits_on(text("docs/proofs/EDITS.md"))))
 
 
 # ---- names
@@ -218,13 +231,15 @@ def defined(source):
     """The names that a text of Rattle or antt defines: functions, types, constants; signatures, fields, constructors, records."""
     code = re.findall(r"^\s*(?:pub )?(?:extern \"C\" )?(?:fn|struct|enum|const) (\w+)", source, re.M)
     signed = re.findall(r"^\s*(?:(?:abbrev|unfoldable|pub|record|data) )*([^\s(){},;:]+)(?: \{[^}]*\}| \([^)]*\))* :(?:\s|$)", source, re.M)
-    return set(code) | set(signed)
+    declared = re.findall(r"^\s*(?:abbrev |unfoldable |pub )*(?:record|data) (\S+)", source, re.M)
+    return set(code) | set(signed) | set(declared)
 
 
 PATHS = [p for e in ("antt", "rt") for p in glob.glob(os.path.join(ROOT, "crates", "**", "*." + e), recursive=True)]
 SOURCES = {os.path.relpath(p, os.path.join(ROOT, "crates")): words(text(p)) for p in PATHS}
 DEFINED = {os.path.relpath(p, os.path.join(ROOT, "crates")): defined(text(p)) for p in PATHS}
-PLACEHOLDERS = {"xOf", "x-of"}  # docs/CONTRIBUTING.md: how a name is made
+# docs/CONTRIBUTING.md: how a name is made
+PLACEHOLDERS = set("XIs ToX IsX AllX Xed xOf x-of x? x-test x-decides x-call x-checks x-place x-refused x-back x-same x-closed".split())
 
 
 def outside():
@@ -249,7 +264,7 @@ def check_names():
     crates = set().union(*SOURCES.values()) | set(CRATES)
     anywhere = crates | outside()
     for page in PAGES:
-        stand, where = (crates, "crates/") if page == "docs/PROVED.md" else (anywhere, "the tree")
+        stand, where = (crates, "crates/") if page in PROOFS else (anywhere, "the tree")
         for name, parts in names_in(text(page)):
             if name not in stand and any(part not in stand for part in parts):
                 wrong.append("%s names `%s`, and nothing in %s has that name" % (page, name, where))
@@ -274,7 +289,7 @@ def check_sources():
 
 # `name`, `other` (FILE); FILE `name`, `other`; CRATE `name` at the beginning of a cell or behind a comma, where it is no word of a sentence
 NAMED = r"((?:`[^`]+`(?:, | and )?)+)"
-BEFORE = re.compile(NAMED + r" ?\(((?:specs|proofs|calls|cantor|census|%s)(?:/\w+)+)\)" % "|".join(CRATES))
+BEFORE = re.compile(NAMED + r" ?\(((?:specs|proofs|calls|cantor|census|%s)(?:/\w+)+)(?:\.\w+)?\)" % "|".join(CRATES))
 AFTER = re.compile(r"(?:(?<![\w/])((?:specs|proofs|calls|cantor|census|%s)(?:/\w+)+)|(?:\| |; |, )(%s)) %s" % ("|".join(CRATES), "|".join(CRATES), NAMED))
 
 
@@ -288,17 +303,24 @@ def check_places():
                     wrong.append("%s says that `%s` stands in %s, and it doesn't" % (page, name, path))
 
 
+def code_of(crate):
+    """The names that a crate's code defines."""
+    return set().union(*(names for path, names in DEFINED.items() if path.startswith(crate + "/src/")))
+
+
 def check_functions():
-    """Rows of docs/PROVED.md that begin with `CRATE`: `function`, `function`; CRATE's code has them."""
-    for cell in re.findall(r"^\| (`\w+`: .*?) \|", text("docs/PROVED.md"), re.M):
-        for crate, names in re.findall(r"`(\w+)`: %s" % NAMED, cell):
+    """`CRATE::NAME`, or `CRATE`: `NAME`, `NAME` at the head of a list's item: CRATE's code has them."""
+    for page in PAGES:
+        said = [(crate, "`%s`" % name) for crate, name in re.findall(r"`(%s)::([\w:]+)`" % "|".join(CRATES), text(page))]
+        said += re.findall(r"`(%s)`: %s" % ("|".join(CRATES), NAMED), "\n".join(re.findall(r"^(?:- |\| )(`\w+`: .*)", text(page), re.M)))
+        for crate, names in said:
             for name, parts in names_in(names):
-                if parts[-1] not in DEFINED.get(crate + "/src/lib.rt", ()):
-                    wrong.append("PROVED.md says that `%s` stands in the code of %s, and it doesn't" % (name, crate))
+                if parts[-1] not in code_of(crate):
+                    wrong.append("%s says that `%s` stands in the code of %s, and it doesn't" % (page, name, crate))
 
 
 def check_tour():
-    """What a step has in backquotes stands in the step's files, or in specs/ of their crates."""
+    """What a step has in backquotes stands in the step's files, or in specs/ of their crates. A row of the addition has a function and a rule, or its words."""
     for step in re.findall(r"^\d+\. (.*(?:\n   .*)*)", text("docs/TOUR.md"), re.M):
         files = [f.rstrip(".") for f in re.findall(r"(?<![\w/])((?:%s)/[\w/.]+)" % "|".join(CRATES), step)]
         crates = {f.split("/")[0] for f in files}
@@ -306,13 +328,54 @@ def check_tour():
         for name in re.findall(r"`([^`]+)`", step):
             if re.split(r"[.:]+", name)[-1] not in stand and name not in CRATES and not name.startswith("&"):
                 wrong.append("TOUR.md names `%s`, and it doesn't stand in %s" % (name, ", ".join(files) or "a file of its step"))
+    rows = re.findall(r"^\| (\d+) \| `(\w+)::(\w+)` \| .* \| (.*) \|$", text("docs/TOUR.md"), re.M)
+    if not rows or len(rows) > 18 or len({crate for _, crate, _, _ in rows}) > 18:
+        wrong.append("TOUR.md's addition has %d rows and %d crates, and 1 to 18 are wanted" % (len(rows), len({crate for _, crate, _, _ in rows})))
+    specs = set().union(*(names for path, names in DEFINED.items() if "/specs/" in path or "/proofs/" in path))
+    for number, crate, _, rule in rows:
+        for name in re.findall(r"`([^`]+)`", rule):
+            if name not in specs:
+                wrong.append("TOUR.md's row %s names the rule `%s`, and no specs/ or proofs/ has it" % (number, name))
+
+
+def check_links():
+    """[words](path), [words](path#heading): from the page's own folder; those to other hosts aren't looked at. Pictures too."""
+    for page in EVERY:
+        for link in re.findall(r"\]\(([^()\s]+)\)", text(page)):
+            if re.match(r"\w+:", link):
+                continue
+            path, _, heading = link.partition("#")
+            to = os.path.normpath(os.path.join(ROOT, os.path.dirname(page), path)) if path else os.path.join(ROOT, page)
+            if not os.path.exists(to):
+                wrong.append("%s links to %s, and it isn't there" % (page, link))
+            elif heading and heading not in [re.sub(r"[^\w\- ]", "", h.lower()).replace(" ", "-") for h in re.findall(r"^#+ (.*)", text(to), re.M)]:
+                wrong.append("%s links to %s, and that page has no such heading" % (page, link))
+
+
+def plain_lines(page):
+    """The lines of prose, with their numbers, quotations, brackets and code left out: no tables, headings, code or pictures."""
+    fenced = False
+    for number, line in enumerate(text(page).split("\n"), 1):
+        fenced ^= line.lstrip().startswith("```")
+        if not fenced and not re.match(r"\s*(\||#|```|<|!\[)| {4,}(?!.*[a-z]\. [A-Z].*[a-z]\.$)", line):
+            yield number, re.sub(r'^\s*(?:\d+\.|-) |"[^"]*"|`[^`]*`|\([^()]*\)', "x", line)
+
+
+def check_form():
+    if text("docs/PROVED.md").count("\n") > 150:
+        wrong.append("docs/PROVED.md has %d lines, and 150 are wanted at the most" % text("docs/PROVED.md").count("\n"))
+    for page in EVERY:
+        wrong.extend("%s, line %d has %d characters, and 160 are wanted at the most" % (page, k, len(l)) for k, l in enumerate(text(page).split("\n"), 1) if len(l) > 160)
+        for number, line in plain_lines(page):
+            if re.search(r"[a-z0-9)x][.?!] [A-Z][a-z]", line):
+                wrong.append("%s, line %d has two sentences, and a line each is wanted" % (page, number))
 
 
 def check_decisions():
     """A decision is cited with its title: docs/DECISIONS.md, NUMBER, "TITLE"; so one that moved is seen. Of every note."""
     titles = {int(n): title.rstrip(".") for n, title in re.findall(r"^(\d+)\. \*\*(.*?)\*\*", text("docs/DECISIONS.md"), re.M)}
     for page in EVERY:
-        for number, title in re.findall(r'DECISIONS\.md, (\d+)(?:, "(.*?)")?', text(page)):
+        for number, title in re.findall(r'DECISIONS\.md, (\d+)(?:, "(.*?)")?', flowing(page)):
             if titles.get(int(number)) != title:
                 wrong.append('%s cites decision %s as "%s", and its title is "%s"' % (page, number, title, titles.get(int(number), "none")))
 
@@ -328,7 +391,7 @@ def check_contracts():
 
 for check in (
     check_counts, check_rule_edits, check_rule_files, check_believed, check_lists, check_all_edits_named, check_edits, check_crates, check_files,
-    check_sources, check_names, check_places, check_functions, check_tour, check_decisions, check_contracts,
+    check_sources, check_names, check_places, check_functions, check_tour, check_decisions, check_contracts, check_links, check_form,
 ):  # fmt: skip
     check()
 print("\n".join(wrong) if wrong else "docs/ and README.md agree with the tree")
