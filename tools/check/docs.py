@@ -3,8 +3,8 @@
 
 Counts: every number in the words of STATED is what counts.py counts, and each page still has those words; the edits of specs/ by crate and by file;
     what a reader must believe, in sum and file by file.
-Lists: the calls in README.md's table and in docs/proofs/CALLS.md's list, crates.txt's families in README.md's table, the folders of demo/ in README.md, every
-    edit in docs/proofs/EDITS.md.
+Lists: the calls in README.md's table and in docs/proofs/CALLS.md's list, crates.txt's families in README.md's table, the folders of demo/ in docs/USING.md,
+    every edit in docs/proofs/EDITS.md.
 Names, on every page: an edit CRATE/NAME, a crate, a file, a street of demo/ is there; a function CRATE::NAME is in that crate's code; what stands in
     backquotes is a name of the tree, on the pages of proofs one of crates/; where a page says the file or the crate that has it, it is there. A link leads
     to a file, and to a heading of it where it names one. Of every note too: a decision that is cited by its number has the title that is cited, and a
@@ -64,9 +64,9 @@ def compared():
 
 
 STATED = [
-    ("README.md", "N lines of definitions", lambda: sum(counts.believed()[0][0].values())),
-    ("README.md", "N wrong programs", lambda: len(counts.edits())),
-    ("README.md", "N cases", compared),
+    ("README.md", "**N lines of definitions**", lambda: sum(counts.believed()[0][0].values())),
+    ("README.md", "**N wrong programs**", lambda: len(counts.edits())),
+    ("README.md", "**N cases**", compared),
     ("README.md", "declares N calls", lambda: len(counts.declared())),
     ("docs/PROVED.md", "None of the N exports", lambda: len(counts.exports())),
     ("docs/PROVED.md", "The contracts take N.", lambda: sum(counts.believed()[0][0].values())),
@@ -178,7 +178,7 @@ def check_lists():
     same("README.md's table of calls", re.findall(r"`(yubi_\w+)`", table("README.md", "| call | ")), counts.exports())
     same("CALLS.md's list of wrong programs a call", re.findall(r"^- `(yubi_\w+)`, rule", text("docs/proofs/CALLS.md"), re.M), counts.exports())
     same("include/yubisorade.h", counts.declared(), counts.exports())
-    same("README.md's demo/", re.findall(r"\bdemo/([\w-]+)", text("README.md")), counts.streets())
+    same("USING.md's demo/", re.findall(r"\bdemo/([\w-]+)", text("docs/USING.md")), counts.streets())
     same("README.md's table of families", table("README.md", "| family | ").split("\n"), counts.families())
 
 
@@ -256,7 +256,7 @@ def outside():
 def names_in(page):
     """What stands alone in backquotes and looks like a name, with its parts."""
     for name in sorted(set(re.findall(r"`([A-Za-z][\w'?.:-]*)`", page))):
-        if not name.startswith("rattle_"):
+        if not name.startswith("rattle"):
             yield name, [part for part in re.split(r"[.:]+", name) if part]
 
 
