@@ -23,6 +23,12 @@ check() {
 }
 
 check 'the pages and the tree' python3 tools/check/docs.py
+# Where a library is there: that of YUBI_LIB_DIR, or the one that `rt staticlib tablet` wrote.
+if [ -f "${YUBI_LIB_DIR:-target/staticlib}/libtablet.a" ]; then
+    check 'the lines of C in README.md' bash tools/check/readme.sh
+else
+    printf 'left    the lines of C in README.md: no libtablet.a in %s\n' "${YUBI_LIB_DIR:-target/staticlib}"
+fi
 check 'what must be believed can be followed' python3 tools/check/believed.py
 check 'docs/CRATES.md' python3 tools/make/house.py --check
 check 'data of test_tables' python3 tools/make/field_vectors.py --check
