@@ -28,7 +28,7 @@ fn curve_end(bytes: &[u8]) -> usize {
 }
 
 /// Reads a whole file.
-pub fn read(file: &[u8]) -> Result<Contents, Refused> {
+pub fn read(file: &[u8]) -> Result<Contents<'_>, Refused> {
     if file.len() < HEAD {
         return Err(Refused::new(23));
     }

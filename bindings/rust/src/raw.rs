@@ -1,12 +1,13 @@
 //! The calls as the library answers them: numbers, places, lengths.
 //!
 //! The structs and names are those of `include/yubisorade.h`, and a test holds them to it. No call asks anything of the
-//! bytes lent to it, so the functions here, which pass slices on, are safe. Most programs want the [`Result`]s of the
-//! crate's root.
+//! bytes lent to it, so the functions here, which pass slices on, are safe. All `unsafe` of the crate stands here. Most
+//! programs want the types of the crate's root.
 
 /// What most calls answer.
 #[repr(C)]
 #[derive(Clone, Copy, Debug, Default, PartialEq, Eq)]
+#[must_use]
 pub struct YubiAnswer {
     /// 0 for done, otherwise the number of the refusal.
     pub number: u64,
@@ -19,9 +20,13 @@ pub struct YubiAnswer {
 /// What [`multiply`] and [`multiply_inversion_free`] answer.
 #[repr(C)]
 #[derive(Clone, Copy, Debug, Default, PartialEq, Eq)]
+#[must_use]
 pub struct YubiMultiple {
+    /// 0 for done, otherwise the number of the refusal.
     pub number: u64,
+    /// Which divisor is at fault, from 1, for 8 to 11; otherwise 0.
     pub place: u64,
+    /// Bytes written to the front of the output.
     pub length: u64,
     /// The scalar's signed digits less 1; 0 for scalar 0.
     pub doublings: u64,
@@ -32,9 +37,13 @@ pub struct YubiMultiple {
 /// What [`total_batch`] answers.
 #[repr(C)]
 #[derive(Clone, Copy, Debug, Default, PartialEq, Eq)]
+#[must_use]
 pub struct YubiTotal {
+    /// 0 for done, otherwise the number of the refusal.
     pub number: u64,
+    /// Which divisor is at fault, from 1, for 8 to 11; otherwise 0.
     pub place: u64,
+    /// Bytes written to the front of the output.
     pub length: u64,
     /// Records summed.
     pub count: u64,
@@ -43,9 +52,13 @@ pub struct YubiTotal {
 /// What [`first_repeat`] answers.
 #[repr(C)]
 #[derive(Clone, Copy, Debug, Default, PartialEq, Eq)]
+#[must_use]
 pub struct YubiRepeat {
+    /// 0 for done, otherwise the number of the refusal.
     pub number: u64,
+    /// Which divisor is at fault, from 1, for 8 to 11; otherwise 0.
     pub place: u64,
+    /// Always 0: no output is written.
     pub length: u64,
     /// Place of the earlier of the two, from 1; 0 for none.
     pub first: u64,
@@ -56,14 +69,23 @@ pub struct YubiRepeat {
 /// A running total: a divisor, a count and a pole. Coefficients that the weight doesn't use are 0.
 #[repr(C)]
 #[derive(Clone, Copy, Debug, Default, PartialEq, Eq)]
+#[must_use]
 pub struct YubiRunning {
+    /// The divisor's weight, 0 to 3.
     pub weight: u64,
+    /// `u_0`, or 0 where the weight has none.
     pub u0: u64,
+    /// `u_1`, or 0 where the weight has none.
     pub u1: u64,
+    /// `u_2`, or 0 where the weight has none.
     pub u2: u64,
+    /// `v_0`, or 0 where the weight has none.
     pub v0: u64,
+    /// `v_1`, or 0 where the weight has none.
     pub v1: u64,
+    /// `v_2`, or 0 where the weight has none.
     pub v2: u64,
+    /// Scans taken.
     pub count: u64,
     /// The only pole whose scans it takes.
     pub pole: u32,
@@ -72,9 +94,13 @@ pub struct YubiRunning {
 /// What [`scan`] answers.
 #[repr(C)]
 #[derive(Clone, Copy, Debug, Default, PartialEq, Eq)]
+#[must_use]
 pub struct YubiScanned {
+    /// 0 for done, otherwise the number of the refusal.
     pub number: u64,
+    /// Which divisor is at fault, from 1, for 8 to 11; otherwise 0.
     pub place: u64,
+    /// Always 0: no output is written.
     pub length: u64,
     /// The total after the scan; as it was given on a refusal.
     pub total: YubiRunning,
@@ -83,9 +109,13 @@ pub struct YubiScanned {
 /// What [`read_pole_file`] answers.
 #[repr(C)]
 #[derive(Clone, Copy, Debug, Default, PartialEq, Eq)]
+#[must_use]
 pub struct YubiPole {
+    /// 0 for done, otherwise the number of the refusal.
     pub number: u64,
+    /// Which divisor is at fault, from 1, for 8 to 11; otherwise 0.
     pub place: u64,
+    /// Bytes written to the front of the output.
     pub length: u64,
     /// The pole's number; 0 on a refusal.
     pub pole: u32,

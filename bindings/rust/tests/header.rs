@@ -24,7 +24,7 @@ fn between<'a>(text: &'a str, open: &str, close: &str) -> Option<(&'a str, &'a s
     rest.split_once(close)
 }
 
-/// The header without comments and preprocessor lines.
+/// The header without comments, preprocessor lines, enums and `YUBI_MUST_USE`.
 fn c_code(header: &str) -> String {
     let mut code = String::new();
     let mut rest = header;
@@ -33,7 +33,14 @@ fn c_code(header: &str) -> String {
         rest = comment.split_once("*/").expect("a comment that ends").1;
     }
     code.push_str(rest);
-    code.lines().filter(|line| !line.starts_with('#')).collect::<Vec<_>>().join("\n")
+    let code = code.replace("\\\n", " ");
+    let mut code = code.lines().filter(|line| !line.starts_with('#')).collect::<Vec<_>>().join("\n");
+    while let Some(start) = code.find("typedef enum ").or_else(|| code.find("enum ")) {
+        let body = code[start..].find('}').expect("an enum that ends") + start;
+        let end = code[body..].find(';').expect("an enum's name") + body + 1;
+        code.replace_range(start..end, "");
+    }
+    code.replace("YUBI_MUST_USE", "")
 }
 
 /// `const uint8_t *curve` as the name `curve` and the Rust type `*const u8`.
@@ -156,6 +163,16 @@ fn declarations_are_the_headers() {
     assert_eq!(calls, wanted);
     assert_eq!(c.structs.len(), 7);
     assert_eq!(c.calls["yubi_add"].0.len(), 8);
+}
+
+/// Enums, defines that go on and `YUBI_MUST_USE` are passed over; what stands behind them isn't.
+#[test]
+fn what_rust_has_no_need_of_is_passed_over() {
+    let more = "#define YUBI_MUST_USE \\\n    something(int else)\ntypedef enum Yubi { YUBI_A = 0, YUBI_B } Yubi;\nenum { YUBI_C = 3 };\n";
+    let header = format!("{}{}", more, HEADER).replace("YubiAnswer yubi_", "YUBI_MUST_USE YubiAnswer yubi_");
+    assert_eq!(declared_in_c(&header), declared_in_c(HEADER));
+    let lost = format!("{}YubiAnswer yubi_other(void);\n{}", more, HEADER);
+    assert_eq!(declared_in_c(&lost).calls.len(), declared_in_c(HEADER).calls.len() + 1);
 }
 
 /// The comparison sees one changed word of either file.

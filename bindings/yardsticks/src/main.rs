@@ -27,14 +27,17 @@ use std::time::Instant;
 /// The record that a work comes to, or the number of its refusal.
 type Outcome = Result<Vec<u8>, u64>;
 
+/// A search for a repeat: number, first and second, of a curve and a batch.
+type Search = fn(&[u8], &[u8]) -> (u64, u64, u64);
+
 struct Engine {
     name: &'static str,
     /// Of a curve and a batch.
     total: fn(&[u8], &[u8]) -> Outcome,
     /// Of a curve, a divisor and a scalar.
     multiple: fn(&[u8], &[u8], &[u8]) -> Outcome,
-    /// Number, first and second of a curve and a batch, where an engine has it.
-    repeat: Option<fn(&[u8], &[u8]) -> (u64, u64, u64)>,
+    /// Where an engine has it.
+    repeat: Option<Search>,
 }
 
 /// Room for any divisor record.
