@@ -3,10 +3,12 @@
 #
 #     bash tools/bindings.sh
 #
-# builds the proved library and runs the tests of the Rust wrappers, of the header's declarations, of the plain implementation
-# and of the judge.
+# builds the proved library, puts all vectors and hostile bytes to its calls from C, and runs the tests of the Rust wrappers, of the header's
+# declarations, of the plain implementation and of the judge.
 set -eu
-cd "$(dirname "$0")/.."
+unset CDPATH
+cd -- "$(dirname -- "$0")/.."
+# shellcheck source=tools/foreign.sh
 . tools/foreign.sh
 want_rust
 cargo=cargo
@@ -14,6 +16,12 @@ cargo=cargo
 [ "$rust" = rustc ] || cargo=/usr/bin/cargo
 want "$cargo" cargo
 library
+
+say "from C: all vectors, hostile calls"
+c_program vectors
+c_program hostile
+vectors_hold "${emulator[@]}" target/foreign/vectors
+"${emulator[@]}" target/foreign/hostile
 
 arguments=()
 if [ ${#emulator[@]} != 0 ]; then
@@ -24,4 +32,9 @@ if [ ${#emulator[@]} != 0 ]; then
 fi
 export RUSTC=$rust CARGO_TARGET_DIR=$PWD/target/foreign/cargo
 say "testing, with $("$cargo" --version)"
-"$cargo" test --release --offline "${arguments[@]}" --manifest-path bindings/Cargo.toml
+log=target/foreign/tests.log
+(
+    set -o pipefail
+    "$cargo" test --release --offline "${arguments[@]}" --manifest-path bindings/Cargo.toml 2>&1 | tee "$log"
+)
+say "$(awk '/^test result:/ { passed += $4 } END { print passed }' "$log") tests in Rust and $held lines from C passed"

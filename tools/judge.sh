@@ -14,7 +14,8 @@
 # 32 bytes at p = 2147483647. With --censuses they are the steps of whole censuses, from the neutral divisor to the last, of COUNT curves
 # of either genus at each of p = 3, 5, 7, 11 and 13.
 set -eu
-cd "$(dirname "$0")/.."
+unset CDPATH
+cd -- "$(dirname -- "$0")/.."
 what=()
 count=250000
 case "${1:-}" in
@@ -22,6 +23,7 @@ case "${1:-}" in
     --multiples) what=(--multiples) && count=500 && shift ;;
     --censuses) what=(--censuses) && count=1 && shift ;;
 esac
+# shellcheck source=tools/foreign.sh
 . tools/foreign.sh
 want_rust
 library

@@ -2,17 +2,19 @@
 # bash tools/reads.sh: bin/tally and bin/census on files that no folder of data can hold: one that comes in pieces, one that never ends, a dangling
 # link, one without permission. What must be printed is case P or curve A's census, 16 or 17. Exit 1 where something else is.
 set -eu
-home=$(cd "$(dirname "$0")/.." && pwd -P)
+unset CDPATH
+home=$(cd -- "$(dirname -- "$0")/.." && pwd -P)
 room=$(mktemp -d)
 trap 'rm -rf "$room"' EXIT
-wrong=0
+right=0 wrong=0 untried=0
 
 held() { # NAME EXPECTED [PROGRAM]
     if [ "$("$home/bin/${3:-tally}" "$room/$1" 2>/dev/null)" = "$2" ]; then
         echo "$1: as it must be"
+        right=$((right + 1))
     else
         echo "$1: WRONG"
-        wrong=1
+        wrong=$((wrong + 1))
     fi
 }
 
@@ -48,6 +50,7 @@ cp "$home/demo/case-p/batch" "$room/no-permission/batch"
 chmod 000 "$room/no-permission/batch"
 if [ "$(id -u)" = 0 ]; then
     echo "no-permission: not tried, since root reads every file"
+    untried=1
 else
     held no-permission "refused 17 0"
 fi
@@ -65,4 +68,5 @@ ln -s /dev/zero "$room/endless-curve/curve"
 held endless-curve "refused 16 0" census
 ln -s nowhere "$room/dangling-curve/curve"
 held dangling-curve "refused 17 0" census
-exit "$wrong"
+echo "$right as they must be, $wrong wrong, $untried not tried"
+[ "$wrong" = 0 ]

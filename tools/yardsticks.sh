@@ -8,7 +8,9 @@
 # Debian's qemu-user or by valgrind, whichever is there, and those of the first repeat of 4,096; exit 1 where these are above their limits.
 # Under an emulator times say nothing but their ratio.
 set -eu
-cd "$(dirname "$0")/.."
+unset CDPATH
+cd -- "$(dirname -- "$0")/.."
+# shellcheck source=tools/foreign.sh
 . tools/foreign.sh
 want_rust
 library
@@ -34,6 +36,8 @@ counted() {
     echo $((two - one))
 }
 
+rows=0
+
 # row CURVE WORK ENGINE..: a line for each engine, with the ratio of the first one's count to its own; fails where that is above `most`.
 row() {
     local curve=$1 work=$2 engine n first=
@@ -41,6 +45,7 @@ row() {
     for engine in "$@"; do
         n=$(counted "$engine" "$work" "$curve")
         first=${first:-$n}
+        rows=$((rows + 1))
         printf '%-8s %-8s %-9s %12d   ratio %s\n' "$curve" "$work" "$engine" "$n" "$(awk -v f="$first" -v n="$n" 'BEGIN { printf "%.2f", f / n }')"
     done
     [ "$first" -le "${most:-$first}" ] || fail "$work on $curve takes more than $most instructions"
@@ -49,7 +54,7 @@ row() {
 say "instructions, by $counter; the ratio is the library's to that engine's"
 for curve in 2 3 3-f6 2-61 3-61 3-f6-61; do
     for work in total multiple; do
-        row $curve $work proved formulae plain ordinary
+        row "$curve" "$work" proved formulae plain ordinary
     done
 done
 
@@ -57,3 +62,4 @@ done
 most=3000000 row 2-61 repeat proved plain
 most=3000000 row 3-61 repeat proved plain
 most=200000000 row 3-61 chain proved plain
+say "$rows counts, the searches within their limits"

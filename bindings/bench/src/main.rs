@@ -5,11 +5,12 @@
 //!
 //! ENGINE is `proved` or `plain`, WORK is `total` (a batch of 4,096 records), `multiple` (a 256-bit scalar), `repeat` (the first repeat
 //! among 4,096 different meters), `check` (the curve record alone), `record` (the check of one divisor), `add` (the last two records of the batch),
-//! `scans` (the same two scanned, the first into a fresh total) or `split` (a sum of as many points as the genus), CURVE is `2` for genus 2, `3` for genus 3 with f_6 = 0, or `3-f6` for genus 3 with another f_6, p = 2,147,483,647 in records of version 1; `2-61` and `3-61` are the
-//! first two at p = 2^61 - 1, in records of version 2 with their witness. WORK `census` goes with CURVE `3-13` alone, genus 3 and p = 13: every
-//! divisor from the neutral one on, by a call each. Every call checks its curve and its records, in both engines. A program
-//! that was built without
-//! the library times plain against plain. Exit 1 where the engines' results differ, 2 on wrong arguments.
+//! `scans` (the same two scanned, the first into a fresh total), `scan` (the last record into a lent total that has the one before, as a tablet does all
+//! day) or `split` (a sum of as many points as the genus), CURVE is `2` for genus 2, `3` for genus 3 with f_6 = 0, or `3-f6` for genus 3 with another
+//! f_6, p = 2,147,483,647 in records of version 1; `2-v2` and `3-v2` are the first two in records of version 2, with their witness, `2-61` and `3-61`
+//! at p = 2^61 - 1. WORK `census` goes with CURVE `3-13` alone, genus 3 and p = 13: every divisor from the neutral one on, by a call each. Every call
+//! checks its curve and its records, in both engines. A program that was built without the library times plain against plain. Exit 1 where the engines'
+//! results differ, 2 on wrong arguments.
 
 use std::process::exit;
 use std::time::Instant;
@@ -28,6 +29,12 @@ type Total = fn(&[u8], &[u8], &mut [u8]) -> (u64, u64);
 /// Curve and two scans of one pole to the numbers of both, one of them being 0.
 type Scans = fn(&[u8], &[u8], &[u8]) -> u64;
 
+/// A divisor's weight, then u and v, three numbers each.
+type Flat = [u64; 7];
+
+/// Curve, the divisor of a total and a scan to number and the divisor of the total after it.
+type Scan = fn(&[u8], Flat, &[u8]) -> (u64, Flat);
+
 /// Curve and batch to number, first and second.
 type Repeat = fn(&[u8], &[u8]) -> (u64, u64, u64);
 
@@ -44,6 +51,7 @@ struct Engine {
     record: fn(&[u8], &[u8]) -> u64,
     add: Multiple,
     scans: Scans,
+    scan: Scan,
     split: Total,
     next: Total,
 }
@@ -72,6 +80,12 @@ const PLAIN: Engine = Engine {
         let first = plain::scan(plain::fresh_total(POLE), curve, a);
         let second = plain::scan(first.total, curve, b);
         first.number + second.number
+    },
+    scan: |curve, held, scan| {
+        let [weight, u0, u1, u2, v0, v1, v2] = held;
+        let mut total = plain::Running { weight, u0, u1, u2, v0, v1, v2, count: 1, pole: POLE };
+        let answer = plain::scan_lent(&mut total, curve, scan);
+        (answer.number, [total.weight, total.u0, total.u1, total.u2, total.v0, total.v1, total.v2])
     },
     split: |curve, divisor, out| {
         let answer = plain::split(curve, divisor, out);
@@ -109,6 +123,12 @@ const PROVED: Engine = Engine {
         let second = yubisorade::raw::scan(first.total, curve, b);
         first.number + second.number
     },
+    scan: |curve, held, scan| {
+        let [weight, u0, u1, u2, v0, v1, v2] = held;
+        let mut total = yubisorade::raw::YubiRunning { weight, u0, u1, u2, v0, v1, v2, count: 1, pole: POLE };
+        let answer = yubisorade::raw::scan_lent(&mut total, curve, scan);
+        (answer.number, [total.weight, total.u0, total.u1, total.u2, total.v0, total.v1, total.v2])
+    },
     split: |curve, divisor, out| {
         let answer = yubisorade::raw::split(curve, divisor, out);
         (answer.number, answer.length)
@@ -130,12 +150,22 @@ enum Work {
     Record,
     Add,
     Scans,
+    Scan,
     Split,
 }
 
 impl Work {
-    const ALL: [Work; 8] =
-        [Work::Total, Work::Multiple, Work::Repeat, Work::Check, Work::Record, Work::Add, Work::Scans, Work::Split];
+    const ALL: [Work; 9] = [
+        Work::Total,
+        Work::Multiple,
+        Work::Repeat,
+        Work::Check,
+        Work::Record,
+        Work::Add,
+        Work::Scans,
+        Work::Scan,
+        Work::Split,
+    ];
 
     fn name(self) -> &'static str {
         match self {
@@ -146,6 +176,7 @@ impl Work {
             Work::Record => "record",
             Work::Add => "add",
             Work::Scans => "scans",
+            Work::Scan => "scan",
             Work::Split => "split",
         }
     }
@@ -177,10 +208,15 @@ const P61: Modulus = Modulus {
     step: 1_234_567_891_234_567_891,
 };
 
-const CURVES: [On; 5] = [
+/// The same prime by its witness.
+const P31_SHOWN: Modulus = Modulus { witness: Some((7, &[2, 3, 7, 11, 31, 151, 331])), ..P31 };
+
+const CURVES: [On; 7] = [
     On { key: "2", name: "genus 2", genus: 2, f_2g: true, modulo: &P31 },
     On { key: "3", name: "genus 3, f_6 = 0", genus: 3, f_2g: false, modulo: &P31 },
     On { key: "3-f6", name: "genus 3, f_6 ≠ 0", genus: 3, f_2g: true, modulo: &P31 },
+    On { key: "2-v2", name: "genus 2, version 2", genus: 2, f_2g: true, modulo: &P31_SHOWN },
+    On { key: "3-v2", name: "genus 3, f_6 = 0, version 2", genus: 3, f_2g: false, modulo: &P31_SHOWN },
     On { key: "2-61", name: "genus 2, 2^61 - 1", genus: 2, f_2g: true, modulo: &P61 },
     On { key: "3-61", name: "genus 3, f_6 = 0, 2^61 - 1", genus: 3, f_2g: false, modulo: &P61 },
 ];
@@ -205,6 +241,22 @@ fn census(engine: &Engine) -> u64 {
     unreachable!("the divisors end")
 }
 
+/// A divisor record's numbers, 0 where it has fewer.
+fn flat(record: &[u8]) -> Flat {
+    let weight = usize::from(record[0]);
+    let mut numbers = [weight as u64, 0, 0, 0, 0, 0, 0];
+    for (i, bytes) in record[1..].chunks_exact(8).enumerate() {
+        numbers[if i < weight { 1 + i } else { 4 + i - weight }] =
+            u64::from_be_bytes(bytes.try_into().expect("eight bytes"));
+    }
+    numbers
+}
+
+/// A record as the pole's scan.
+fn scan_of(record: &[u8]) -> Vec<u8> {
+    [&POLE.to_be_bytes()[..], record].concat()
+}
+
 /// What both engines work on.
 struct Input {
     genus: u8,
@@ -213,6 +265,9 @@ struct Input {
     scalar: [u8; 32],
     /// The sum of as many points as the genus, over different x.
     of_points: Vec<u8>,
+    /// The last record but one as a total holds it, and the last as a scan.
+    held: Flat,
+    scan: Vec<u8>,
 }
 
 impl Input {
@@ -254,7 +309,10 @@ impl Input {
             *byte = 0x80 | (i as u8).wrapping_mul(37);
         }
         let of_points = sum_of_points(&curve, &f, on.modulo);
-        Input { genus, curve, batch, scalar, of_points }
+        let mut input = Input { genus, curve, batch, scalar, of_points, held: [0; 7], scan: Vec::new() };
+        input.held = flat(input.before());
+        input.scan = scan_of(input.divisor());
+        input
     }
 
     /// The last record of the batch.
@@ -270,7 +328,7 @@ impl Input {
 
     /// Does a work once and gives the record that it wrote, or the two places of a repeat.
     fn run(&self, engine: &Engine, work: Work) -> Vec<u8> {
-        let mut out = [0; 50];
+        let mut out = [0; 56];
         let (number, length) = match work {
             Work::Total => (engine.total)(&self.curve, &self.batch, &mut out),
             Work::Multiple => (engine.multiple)(&self.curve, self.divisor(), &self.scalar, &mut out),
@@ -283,9 +341,13 @@ impl Input {
             Work::Check => ((engine.check)(&self.curve), 0),
             Work::Record => ((engine.record)(&self.curve, self.divisor()), 0),
             Work::Add => (engine.add)(&self.curve, self.divisor(), self.before(), &mut out),
-            Work::Scans => {
-                let scan = |record: &[u8]| [&POLE.to_be_bytes()[..], record].concat();
-                ((engine.scans)(&self.curve, &scan(self.before()), &scan(self.divisor())), 0)
+            Work::Scans => ((engine.scans)(&self.curve, &scan_of(self.before()), &scan_of(self.divisor())), 0),
+            Work::Scan => {
+                let (number, total) = (engine.scan)(&self.curve, self.held, &self.scan);
+                for (bytes, number) in out.chunks_exact_mut(8).zip(total) {
+                    bytes.copy_from_slice(&number.to_be_bytes());
+                }
+                (number, 56)
             }
             Work::Split => (engine.split)(&self.curve, &self.of_points, &mut out),
         };
@@ -317,7 +379,7 @@ fn sum_of_points(curve: &[u8], f: &[u64], modulo: &Modulus) -> Vec<u8> {
 
 fn usage() -> ! {
     eprintln!(
-        "usage: bench [RUNS]\n       bench count proved|plain total|multiple|repeat|check|record|add|scans|split 2|3|3-f6|2-61|3-61 N"
+        "usage: bench [RUNS]\n       bench count proved|plain total|multiple|repeat|check|record|add|scans|scan|split 2|3|3-f6|2-v2|3-v2|2-61|3-61 N"
     );
     exit(2)
 }
@@ -371,7 +433,7 @@ fn compare(runs: usize) {
             }
             let [proved, plain] = times.map(median);
             println!(
-                "{:26} {:8}  {} {:10.1} us   {} {:10.1} us   ratio {:.2}",
+                "{:27} {:8}  {} {:10.1} us   {} {:10.1} us   ratio {:.2}",
                 on.name,
                 work.name(),
                 PROVED.name,

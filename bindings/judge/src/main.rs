@@ -93,22 +93,21 @@ fn main() {
     };
     let tally =
         thread::Builder::new().stack_size(STACK).spawn(run).expect("a thread").join().expect("the thread's end");
-    report(&tally);
-    println!("{:.1} s", start.elapsed().as_secs_f64());
+    report(&tally, start.elapsed().as_secs_f64());
     if tally.differences != 0 {
         exit(1);
     }
 }
 
-fn report(tally: &Tally) {
+fn report(tally: &Tally, seconds: f64) {
     if tally.classes.is_empty() {
         report_pairs(tally);
     } else {
         report_classes(tally);
     }
     println!(
-        "{} calls, {} of them done with a result that isn't neutral, {} differences",
-        tally.calls, tally.not_neutral, tally.differences
+        "{:.1} s; {} calls, {} of them done with a result that isn't neutral, {} differences",
+        seconds, tally.calls, tally.not_neutral, tally.differences
     );
 }
 
