@@ -9,10 +9,10 @@ use Rattle.sum_formulas.specs.declared.Condition.{Condition}
 use Rattle.sum_formulas.specs.declared.Condition.the-variants.{Main}
 use Rattle.sum_formulas.specs.Conditions.{Looked}
 use Rattle.sum_genus3_open.specs.declared.Opened.{Opened}
-use Rattle.sum_genus3_open.specs.Opens.{SettledOpened}
+use Rattle.sum_genus3_open.specs.Opens.{Ready}
 use Rattle.sum_genus3.specs.Steps.{Divisible}
 
-module _ (m : Modulus) (good : Good m) (o : Opened) (h : SettledOpened m o) where
+module _ (m : Modulus) (good : Good m) (o : Opened) (h : Ready m o) where
   pub told : {k k' : Condition} → k ≡ k' → Looked m (o .r) (o .s .c2) k → Looked m (o .r) (o .s .c2) k'
   told e h = subst (λ (t : Condition). Looked m (o .r) (o .s .c2) t) e h
 
@@ -22,4 +22,4 @@ module _ (m : Modulus) (good : Good m) (o : Opened) (h : SettledOpened m o) wher
       (record { good = good; kept = settled-kept m (h .r); nonzero = n .0 }, record { good = good; kept = settled-kept m (h .s .c2); nonzero = n .1 })
 
   pub divisible : (p i : Residue) → Stands m p (zmod (m .p) .mul (el m (o .r)) (el m (o .s .c2))) → Inverts m p i → Divisible m o i
-  divisible p i hp hi = record { settled = h; kept = hi .kept; is = sym (ap (λ (x : zmod (m .p) .El). zmod (m .p) .mul x (el m i)) (hp .is)) ∙ hi .is }
+  divisible p i hp hi = record { ready = h; kept = hi .kept; is = sym (ap (λ (x : zmod (m .p) .El). zmod (m .p) .mul x (el m i)) (hp .is)) ∙ hi .is }

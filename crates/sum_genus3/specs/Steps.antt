@@ -13,7 +13,7 @@ use Rattle.divisor.specs.declared.Cubic.{Cubic}
 use Rattle.divisor.specs.declared.Divisor.the-variants.{Three}
 use Rattle.divisor.specs.Divisors.{Held}
 use Rattle.sum_genus3_open.specs.declared.Opened.{Opened}
-use Rattle.sum_genus3_open.specs.Opens.{K, triOf, uOf, vOf, twice, fWith, SettledOpened}
+use Rattle.sum_genus3_open.specs.Opens.{K, triOf, uOf, vOf, twice, fWith, Ready}
 use Rattle.sum_genus3.specs.declared.Four.{Four}
 use Rattle.sum_genus3.specs.declared.Five.{Five}
 use Rattle.sum_genus3.specs.declared.Slope.{Slope}
@@ -74,7 +74,7 @@ module _ (m : Modulus) where
 
   -- i = 1/(r·s'2)
   pub record Divisible (o : Opened) (i : Residue) : Type 0 where
-    pub settled : SettledOpened m o
+    pub ready : Ready m o
     pub kept : Kept m i
     pub is : el m (o .r) * el m (o .s .c2) * el m i ≡ 𝟙
 

@@ -93,32 +93,33 @@ module _ (m : Modulus) where
     pub q : P
     pub tops : (g0 g1 g2 : A) → Below K 3 (coef K (fWith g0 g1 g2 (el m f3) f4 f5 f6 ⊖ vOf a ⊗ vOf a ⊖ uOf a ⊗ (q ⊗ uOf a ⊕ triOf c)))
 
-  pub record SettledTri (d : Tri) : Type 0 where
-    pub c0 : Settled m (d .c0)
-    pub c1 : Settled m (d .c1)
+  -- only the top is tested for 0
+  pub record TopSettled (d : Tri) : Type 0 where
+    pub c0 : Kept m (d .c0)
+    pub c1 : Kept m (d .c1)
     pub c2 : Settled m (d .c2)
 
   -- c·i modulo u
   pub record Times (c : Tri) (x : Bezout) (b : Cubic) (s : Tri) : Type 0 where
-    pub settled : SettledTri s
+    pub settled : TopSettled s
     pub q : P
     pub is : triOf c ⊗ inner b x ≡ q ⊗ uOf b ⊕ triOf s
 
-  pub record SettledOpened (o : Opened) : Type 0 where
+  pub record Ready (o : Opened) : Type 0 where
     pub r : Settled m (o .r)
-    pub s : SettledTri (o .s)
+    pub s : TopSettled (o .s)
 
   -- every σ = s'/r: v + σ·u over u·u' is the composition of a and b, on the curve of this f
   abbrev pub Joins : P → Cubic → Cubic → Opened → Type 0
   Joins f' a b o = (σ : P) → C K (el m (o .r)) ⊗ σ ≡ triOf (o .s) → Composed (poly K) f' (uOf a) (vOf a) (uOf b) (vOf b) (uOf a ⊗ uOf b) (vOf a ⊕ σ ⊗ uOf a)
 
   pub record Opens (a b : Cubic) (o : Opened) : Type 0 where
-    pub settled : SettledOpened o
+    pub ready : Ready o
     pub none : el m (o .r) ≡ 𝟘 → Coprime K (uOf a) (uOf b) → ⊥
     pub joins : el m (o .r) ≢ 𝟘 → (f' : P) → Joins f' a b o
 
   -- on every curve with these f3, f4, f5, f6 that has a
   pub record OpensTwice (f3 f4 f5 f6 : Residue) (a : Cubic) (o : Opened) : Type 0 where
-    pub settled : SettledOpened o
+    pub ready : Ready o
     pub none : el m (o .r) ≡ 𝟘 → Coprime K (twice a) (uOf a) → ⊥
     pub joins : el m (o .r) ≢ 𝟘 → (g0 g1 g2 : A) → Valid (curveWith f4 f5 f6 g0 g1 g2 (el m f3)) (pair m (Three a)) → Joins (f (curveWith f4 f5 f6 g0 g1 g2 (el m f3))) a a o

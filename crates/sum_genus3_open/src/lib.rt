@@ -74,7 +74,7 @@ pub fn gap(a: Cubic, b: Cubic, m: Modulus) -> Tri
     }
 }
 
-// c · i modulo the other u.
+// c · i modulo the other u. Only its top is brought below p: that alone is tested for 0.
 pub fn times(c: Tri, x: Bezout, b: Cubic, m: Modulus) -> Tri
     requires { ⌜ KeptTri m c × (Inner m b x × Held m (Divisor.Three b)) ⌝ }
     ensures { λ s. ⌜ Times m c x b s ⌝ }
@@ -85,9 +85,8 @@ pub fn times(c: Tri, x: Bezout, b: Cubic, m: Modulus) -> Tri
     let s2 = p.add(x.e0.mul(c.c2, m), m).settle(m);
     let s1 = b.u2
         .dot(p, x.e1, c.c0, m)
-        .add(x.e0.cross(c.c1, c.c2, d, m), m)
-        .settle(m);
-    let s0 = c.c0.cross(x.i0, b.u0, q, m).settle(m);
+        .add(x.e0.cross(c.c1, c.c2, d, m), m);
+    let s0 = c.c0.cross(x.i0, b.u0, q, m);
     Tri {
         c0: s0,
         c1: s1,

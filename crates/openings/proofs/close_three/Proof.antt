@@ -76,7 +76,7 @@ close-requires c κs =
     let u = s .pre .1 .1 .1 .1 .1 in
     let f = s .pre .0 .settled .1 .1 .1 .1 in
     let m = s .args .c .m in
-    (subst (Holds (s .args .c)) p (s .pre .1 .0) .held, (subst (Holds (s .args .c)) q (s .pre .1 .1 .0) .held, (record { settled = k .settled; kept = u .kept; is = u .is }, (settled-kept m (f .0), (settled-kept m (f .1 .0), settled-kept m (f .1 .1 .0))))))
+    (subst (Holds (s .args .c)) p (s .pre .1 .0) .held, (subst (Holds (s .args .c)) q (s .pre .1 .1 .0) .held, (record { ready = k .ready; kept = u .kept; is = u .is }, (settled-kept m (f .0), (settled-kept m (f .1 .0), settled-kept m (f .1 .1 .0))))))
 
 -- src/lib.rt:113:1
 returns : tie.Need-returns

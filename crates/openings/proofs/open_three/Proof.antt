@@ -57,7 +57,7 @@ returns-3 c =
     let k = c .before .before .look in
     record {
       from = o .ensures;
-      fit = both-units (s .args .c .m) (s .pre .0 .good) (o .result .r) (o .result .s .c2) (o .ensures .settled .r) (o .ensures .settled .s .c2) (k .result) (k .ensures) (c .enum-told3 .given .1);
+      fit = both-units (s .args .c .m) (s .pre .0 .good) (o .result .r) (o .result .s .c2) (o .ensures .ready .r) (o .ensures .ready .s .c2) (k .result) (k .ensures) (c .enum-told3 .given .1);
     }
 
 pub open-three-spec : {M : Type 1} → statement M

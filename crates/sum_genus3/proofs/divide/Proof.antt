@@ -8,22 +8,22 @@ use Rattle.sum_genus3.proofs.divide.Statement.{statement}
 use Rattle.sum_genus3.proofs.divide.Tie as tie
 
 mul-requires : tie.Need-mul-requires
-mul-requires c κs = (settled-kept (c .args .m) (c .pre .settled .r), c .pre .kept)
+mul-requires c κs = (settled-kept (c .args .m) (c .pre .ready .r), c .pre .kept)
 
 sqr-requires : tie.Need-sqr-requires
-sqr-requires c κs = let s = c .before in settled-kept (s .args .m) (s .pre .settled .s .c2)
+sqr-requires c κs = let s = c .before in settled-kept (s .args .m) (s .pre .ready .s .c2)
 
 mul-requires-2 : tie.Need-mul-requires-2
 mul-requires-2 c κs = (c .sqr .ensures .kept, c .before .before .pre .kept)
 
 mul-requires-3 : tie.Need-mul-requires-3
-mul-requires-3 c κs = let s = c .before .before .before in (settled-kept (s .args .m) (s .pre .settled .r), c .before .before .mul .ensures .kept)
+mul-requires-3 c κs = let s = c .before .before .before in (settled-kept (s .args .m) (s .pre .ready .r), c .before .before .mul .ensures .kept)
 
 mul-requires-4 : tie.Need-mul-requires-4
-mul-requires-4 c κs = let s = c .before .before .before .before in (c .before .before .before .mul .ensures .kept, settled-kept (s .args .m) (s .pre .settled .s .c0))
+mul-requires-4 c κs = (c .before .before .before .mul .ensures .kept, c .before .before .before .before .pre .ready .s .c0)
 
 mul-requires-5 : tie.Need-mul-requires-5
-mul-requires-5 c κs = let s = c .before .before .before .before .before in (c .before .before .before .before .mul .ensures .kept, settled-kept (s .args .m) (s .pre .settled .s .c1))
+mul-requires-5 c κs = (c .before .before .before .before .mul .ensures .kept, c .before .before .before .before .before .pre .ready .s .c1)
 
 returns : tie.Need-returns
 returns c =

@@ -19,7 +19,7 @@ returns c =
     let g = c .before .before .gap in
     let t = c .before .times in
     record {
-      settled = record { r = x .ensures .settled; s = t .ensures .settled };
+      ready = record { r = x .ensures .settled; s = t .ensures .settled };
       none = x .ensures .none;
       joins = joins (s .args .m) (s .pre .0 .good) (s .args .a) (s .args .b) (x .result) (x .ensures) (g .result) (g .ensures) (t .result) (t .ensures);
     }

@@ -19,7 +19,7 @@ returns c =
     let g = c .before .before .right in
     let t = c .before .times in
     record {
-      settled = record { r = x .ensures .settled; s = t .ensures .settled };
+      ready = record { r = x .ensures .settled; s = t .ensures .settled };
       none = x .ensures .none;
       joins = joins-twice (s .args .m) (s .pre .0 .good) (s .args .f3) (s .args .f4) (s .args .f5) (s .args .f6) (s .args .a) (x .result) (x .ensures) (g .result) (g .ensures) (t .result) (t .ensures);
     }

@@ -32,32 +32,26 @@ cross-requires c κs = let s = c .before .before .before .before .before .before
 add-requires-2 : tie.Need-add-requires-2
 add-requires-2 c κs = (c .before .dot4 .ensures .kept, c .cross .ensures .kept)
 
-settle-requires-2 : tie.Need-settle-requires-2
-settle-requires-2 c κs = c .add2 .ensures .kept
-
 cross-requires-2 : tie.Need-cross-requires-2
-cross-requires-2 c κs = let s = c .before .before .before .before .before .before .before .before .before .before in (s .pre .0 .c0, s .pre .1 .0 .i0, settled-kept (s .args .m) (s .pre .1 .1 .u .0), c .before .before .before .before .before .before .before .before .dot2 .ensures .kept)
-
-settle-requires-3 : tie.Need-settle-requires-3
-settle-requires-3 c κs = c .cross2 .ensures .kept
+cross-requires-2 c κs = let s = c .before .before .before .before .before .before .before .before .before in (s .pre .0 .c0, s .pre .1 .0 .i0, settled-kept (s .args .m) (s .pre .1 .1 .u .0), c .before .before .before .before .before .before .before .dot2 .ensures .kept)
 
 returns : tie.Need-returns
 returns c =
-    let s = c .before .before .before .before .before .before .before .before .before .before .before .before in
+    let s = c .before .before .before .before .before .before .before .before .before .before in
     let K = zmod (s .args .m .p) in
     record {
-      settled = record { c0 = c .settle3 .ensures .settled; c1 = c .before .before .settle2 .ensures .settled; c2 = c .before .before .before .before .before .before .settle .ensures .settled };
+      settled = record { c0 = c .cross2 .ensures .kept; c1 = c .before .add2 .ensures .kept; c2 = c .before .before .before .before .settle .ensures .settled };
       q = _;
       is = times-is K _ _ _ _ _ _ _ _ _ _ _ _ _ _ _ _
           (s .pre .1 .0 .low)
-          (c .before .before .before .before .before .before .before .before .before .before .before .dot .ensures .is)
-          (c .before .before .before .before .before .before .before .before .before .before .dot2 .ensures .is)
-          (c .before .before .before .before .before .before .before .before .before .dot3 .ensures .is)
-          (c .before .before .before .before .before .before .settle .ensures .is ∙ (c .before .before .before .before .before .before .before .add .ensures .is ∙ ap₂ (K .add) refl (c .before .before .before .before .before .before .before .before .mul .ensures .is)))
-          (c .before .before .settle2 .ensures .is ∙ (c .before .before .before .add2 .ensures .is ∙ ap₂ (K .add) (c .before .before .before .before .before .dot4 .ensures .is) (c .before .before .before .before .cross .ensures .is)))
-          (c .settle3 .ensures .is ∙ (c .before .cross2 .ensures .is));
+          (c .before .before .before .before .before .before .before .before .before .dot .ensures .is)
+          (c .before .before .before .before .before .before .before .before .dot2 .ensures .is)
+          (c .before .before .before .before .before .before .before .dot3 .ensures .is)
+          (c .before .before .before .before .settle .ensures .is ∙ (c .before .before .before .before .before .add .ensures .is ∙ ap₂ (K .add) refl (c .before .before .before .before .before .before .mul .ensures .is)))
+          (c .before .add2 .ensures .is ∙ ap₂ (K .add) (c .before .before .before .dot4 .ensures .is) (c .before .before .cross .ensures .is))
+          (c .cross2 .ensures .is);
     }
 
 pub times-spec : {M : Type 1} → statement M
 times-spec =
-    tie.close (tie.spec dot-requires dot-requires-2 dot-requires-3 mul-requires add-requires settle-requires dot-requires-4 cross-requires add-requires-2 settle-requires-2 cross-requires-2 settle-requires-3 returns)
+    tie.close (tie.spec dot-requires dot-requires-2 dot-requires-3 mul-requires add-requires settle-requires dot-requires-4 cross-requires add-requires-2 cross-requires-2 returns)
