@@ -29,8 +29,11 @@ if [ -f "${YUBI_LIB_DIR:-target/staticlib}/libtablet.a" ]; then
 else
     printf 'left    the lines of C in README.md: no libtablet.a in %s\n' "${YUBI_LIB_DIR:-target/staticlib}"
 fi
-check 'what must be believed can be followed' python3 tools/check/believed.py
+check 'docs/proofs/BELIEVED.md' python3 tools/check/believed.py --check
 check 'docs/CRATES.md' python3 tools/make/house.py --check
+check 'docs/proofs/CONTRACTS.md' python3 tools/make/contracts.py --check
+check 'docs/proofs/EDITS.md' python3 tools/make/edits.py --check
+check 'docs/proofs/TIMES.md' python3 tools/make/times.py --check
 check 'data of test_tables' python3 tools/make/field_vectors.py --check
 check 'data of poly_table' python3 tools/make/poly_vectors.py --check
 check 'data of test_tally, census and test_census' python3 tools/make/scenarios.py --check

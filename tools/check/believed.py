@@ -20,16 +20,23 @@ parameters aren't told from definitions, so one that has a definition's name mak
 
     python3 tools/check/believed.py            the two tables
     python3 tools/check/believed.py --unread   and the definitions of the files in specs/ that neither reaches
+    python3 tools/check/believed.py --page     writes docs/proofs/BELIEVED.md, the two tables with every name
+    python3 tools/check/believed.py --check    writes nothing: that page must be what it would write
 """
+import glob
 import os
 import re
 import sys
 
-ROOT = os.path.join(os.path.dirname(os.path.abspath(__file__)), "..", "..", "crates")
+sys.path.append(os.path.join(os.path.dirname(os.path.abspath(__file__)), "..", "make"))
+import made
+from sources import wrapped
+
+ROOT = os.path.join(made.ROOT, "crates")
 CALLS = [("tablet", 'extern "C" fn'), ("scan_lent", "pub fn scan("), ("text_tally", "pub fn tally"), ("text_lines", "pub fn refusal")]
 THEOREM = ("rules/proofs/Demand3", ["Demand3", "demand3"])
 ORDER = [
-    "rules/specs", "signed", "tablet_answers", "scan_flat", "scan_lent", "scans", "divisor", "field", "digits", "text_lines", "text_tally",
+    "rules/specs", "signed", "tablet_answers", "scan_flat", "scan_lent", "scan_record", "divisor", "field", "digits", "text_lines", "text_tally",
     "algebra/proofs/ring", "algebra/proofs/list/Ops", "algebra/proofs/zmod", "algebra/proofs/poly/Series", "algebra/proofs/poly/Bound", "algebra/proofs/poly/Poly",
     "algebra/proofs/poly", "algebra/proofs/list", "algebra", "rules/proofs/Demand3", "rules/proofs",
 ]  # fmt: skip
@@ -204,37 +211,49 @@ class Reached:
 def contracts(reached):
     """The names in the `requires` and `ensures` of the public calls, by the `ghost use` lines above them."""
     for crate, begins in CALLS:
-        source = open(os.path.join(ROOT, crate, "src", "lib.rt"), encoding="utf-8").read()
-        imports = {}
-        for module, group in re.findall(r"^ghost use (\S+)\.\{(.*)\};", source, re.M):
-            imports.update({n.strip(): (module, n.strip()) for n in group.split(",")})
-        for call in re.findall(re.escape(begins) + r".*?\n\{", source, re.S):
-            for fact in re.findall(r"⌜(.*?)⌝", call):
-                for word in words(fact):
+        found = 0
+        for path in sorted(glob.glob(os.path.join(ROOT, crate, "src", "*.rt"))):
+            source = open(path, encoding="utf-8").read()
+            imports = {}
+            for module, group in re.findall(r"^ghost use (\S+)\.\{(.*)\};", source, re.M):
+                imports.update({n.strip(): (module, n.strip()) for n in group.split(",")})
+            for call in re.findall(re.escape(begins) + r".*?\n\{", source, re.S):
+                found += 1
+                for word in set().union(*map(words, re.findall(r"⌜(.*?)⌝", call))):
                     for name in names(word, imports):
                         reached.name(*imports[name])
+        if not found:
+            raise SystemExit("no `%s` in crates/%s/src" % (begins, crate))
 
 
 def rank(path):
     part = next((i for i, p in enumerate(ORDER) if path.startswith(p)), len(ORDER))
-    return (part, RULES.index(path.split("/")[-1]) if part == 0 else 0, path)
+    file = path.split("/")[-1]
+    return (part, RULES.index(file) if part == 0 and file in RULES else len(RULES), path)
 
 
-def table(title, items):
-    print(title)
-    print("%-28s %5s %5s  %s" % ("file", "lines", "laws", "definitions"))
-    sums = [0, 0]
+def rows(items):
+    """Of each file, in the order of reading: its path, its lines and laws that are reached, and the names."""
     for path in sorted({i.file.path for i in items}, key=rank):
         here = [i for i in FILES[path].items if i in items]
         laws = sum(1 for i in here if i.kind == "definition" for line in i.lines if law(line))
-        lines = sum(len(i.lines) for i in here) - laws
-        sums = [sums[0] + lines, sums[1] + laws]
-        print("%-28s %5d %5s  %s" % (path, lines, laws or "", " ".join(i.name for i in here if i.name)))
-    print("%-28s %5d %5d" % ("together", sums[0], sums[1]))
-    return sums
+        yield path, sum(len(i.lines) for i in here) - laws, laws, [i.name for i in here if i.name]
 
 
-def main():
+def sums(items):
+    return sum(lines for _, lines, _, _ in rows(items)), sum(laws for _, _, laws, _ in rows(items))
+
+
+def table(title, items):
+    yield title
+    yield "%-28s %5s %5s  %s" % ("file", "lines", "laws", "definitions")
+    for path, lines, laws, defined in rows(items):
+        yield "%-28s %5d %5s  %s" % (path, lines, laws or "", " ".join(defined))
+    yield "%-28s %5d %5d" % ("together", *sums(items))
+
+
+def followed():
+    """What the contracts of the public calls reach, and that with what the statement of demand 3 does."""
     calls, both = Reached(), Reached()
     contracts(calls)
     contracts(both)
@@ -245,21 +264,64 @@ def main():
         # of the theorem itself only the statement
         item.lines = item.lines[:1] if item.kind == "definition" else item.lines
         both.follow(file, item.blocks, item.words())
-    first = table("What the contracts of the public calls name", calls.items)
-    print()
-    more = table("What the statement of demand 3 names besides", both.items - calls.items)
-    print("\nboth: %d lines, and %d of laws" % (first[0] + more[0], first[1] + more[1]))
-    for kind, what in (("code", "declared in src/"), ("kit", "of the toolchain"), ("proofs", "lemmas cited by a definition")):
-        print("\n%s: %s" % (what, " ".join(sorted(both.other[kind]))))
+    return calls, both
+
+
+OTHER = (("code", "declared in src/"), ("kit", "of the toolchain"), ("proofs", "lemmas cited by a definition"))
+
+
+def printed(calls, both):
+    yield from table("What the contracts of the public calls name", calls.items)
+    yield ""
+    yield from table("What the statement of demand 3 names besides", both.items - calls.items)
+    first, more = sums(calls.items), sums(both.items - calls.items)
+    yield "\nboth: %d lines, and %d of laws" % (first[0] + more[0], first[1] + more[1])
+    for kind, what in OTHER:
+        yield "\n%s: %s" % (what, " ".join(sorted(both.other[kind])))
+
+
+def unread(both):
+    for path in sorted({i.file.path for i in both.items}, key=rank):
+        left = [i.name for i in FILES[path].items if i.name and i not in both.items and i.mark is not None]
+        if "/specs/" in path and left:
+            yield "\nnot reached in %s: %s" % (path, " ".join(left))
+
+
+HEAD = """# What a reader must believe
+
+Made by `python3 tools/check/believed.py --page`, whose head says how it follows a name and what a line is.
+Who has read these definitions and holds them to say what documents 01 and 02 say need read no other: all the rest is checked against them.
+Files are in the order of reading; behind each stands how many of its lines are reached, and the names."""
+
+
+def page(calls, both):
+    yield from HEAD.splitlines()
+    for title, items in (("What the contracts of the public calls name", calls.items), ("What the statement of demand 3 names besides", both.items - calls.items)):
+        lines, laws = sums(items)
+        yield from ["", "## " + title, "", "%d lines%s." % (lines, ", and %d of laws that the definitions carry along" % laws if laws else ""), ""]
+        for path, lines, laws, defined in rows(items):
+            yield "- %s, %d%s:" % (path, lines, " and %d of laws" % laws if laws else "")
+            yield from wrapped(", ".join("`%s`" % name for name in defined) + ".", "  ", "  ")
+    yield from ["", "## Not counted, and to be believed too", ""]
+    for kind, what in OTHER[:2]:
+        yield "- %s:" % (what[0].upper() + what[1:])
+        yield from wrapped(", ".join("`%s`" % name for name in sorted(both.other[kind])) + ".", "  ", "  ")
+    yield "- Lemmas that a definition cites are proved, and need no belief:"
+    yield from wrapped(", ".join("`%s`" % name for name in sorted(both.other["proofs"])) + ".", "  ", "  ")
+
+
+def main():
+    calls, both = followed()
     missed = {i.file for i in both.items if i.file.whole}
     for file in missed:
-        print("\nwarning: %s has %s, which isn't followed" % (file.path, ", ".join(file.whole)))
+        print("warning: %s has %s, which isn't followed" % (file.path, ", ".join(file.whole)))
+    if sys.argv[1:] in (["--page"], ["--check"]):
+        return made.settle({"docs/proofs/BELIEVED.md": made.lines(page(calls, both))}, [a for a in sys.argv[1:] if a == "--check"]) or int(bool(missed))
+    print("\n".join(printed(calls, both)))
     if "--unread" in sys.argv:
-        for path in sorted({i.file.path for i in both.items}, key=rank):
-            left = [i.name for i in FILES[path].items if i.name and i not in both.items and i.mark is not None]
-            if "/specs/" in path and left:
-                print("\nnot reached in %s: %s" % (path, " ".join(left)))
+        print("\n".join(unread(both)))
     return 1 if missed else 0
 
 
-sys.exit(main())
+if __name__ == "__main__":
+    sys.exit(main())
