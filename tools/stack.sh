@@ -7,7 +7,8 @@
 # was seen to overwrite a register in use), and exits 1 where there is one; then runs every call on a thread of 64 KB (bindings/c/stack.c) and
 # prints what each touched of it.
 set -eu
-cd "$(dirname "$0")/.."
+unset CDPATH
+cd -- "$(dirname -- "$0")/.."
 . tools/foreign.sh
 want_c
 library
@@ -33,6 +34,7 @@ probes() {
 }
 
 say "stack touched page by page"
+# shellcheck disable=SC2016
 if printf '0000 <early>:\n   0:\ttest   %%rdi,%%rdi\n   3:\tje     40 <early+0x40>\n   5:\tsub    $0x1000,%%rsp\n   c:\tmovq   $0x0,(%%rsp)\n' | probes >/dev/null; then
     fail "the check sees no fault where there is one"
 fi

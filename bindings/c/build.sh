@@ -1,7 +1,8 @@
 #!/usr/bin/env bash
 # Builds the static library and the C example that links it, runs the example and compares what it prints with case P.
 set -eu
-cd "$(dirname "$0")/../.."
+unset CDPATH
+cd -- "$(dirname -- "$0")/../.."
 . tools/foreign.sh
 want_c
 library
