@@ -1,16 +1,17 @@
-/* Runs every call on a thread with a stack of 64 KB, genus 3 at p = 2^61 - 1 and 4,096 records where it can be, and prints how many bytes of
- * it each call touched. A call that wants more meets the guard page below the stack, and the program ends there.
+/* Runs every call on the smallest stack that the header promises to be enough, YUBI_STACK_ROOM or YUBI_REPEAT_STACK_ROOM bytes: genus 3 at p = 2^61 - 1
+ * and 4,096 records where it can be, and small curves, where special pairs take other ways. Prints how many bytes of it each call touched, those
+ * of the function that calls it among them. A call that wants more meets the guard page below the stack, and the program ends there.
  * Exit 1 where a call answers something else than it should. */
 #define _GNU_SOURCE
 #include "yubisorade.h"
 
-#include <pthread.h>
 #include <stdio.h>
 #include <stdlib.h>
 #include <string.h>
 #include <sys/mman.h>
+#include <ucontext.h>
 
-enum { STACK = 65536, PAGE = 4096, RECORDS = 4096, PAINT = 0xa5 };
+enum { PAGE = 4096, RECORDS = YUBI_MOST_RECORDS, PAINT = 0xa5 };
 
 static const uint64_t P = 2305843009213693951u;
 
@@ -28,6 +29,10 @@ static const uint64_t zero_two[2] = {0, 2}, one_three[2] = {1, 3}, zero_one[2] =
 static Record point, other, both, unit;
 static uint8_t batch[RECORDS * YUBI_DIVISOR_ROOM], repeated[RECORDS * YUBI_DIVISOR_ROOM], file[YUBI_POLE_FILE_ROOM], out[YUBI_POLE_FILE_ROOM];
 static size_t batch_length, repeated_length, file_length;
+
+/* 4,096 records of the first divisors of the training curve. */
+static uint8_t small_batch[RECORDS * YUBI_DIVISOR_ROOM];
+static size_t small_length;
 static uint8_t scalar[YUBI_SCALAR_ROOM];
 
 static void put(Record *r, const void *bytes, size_t n) {
@@ -106,6 +111,20 @@ static void prepare(void) {
     }
     memcpy(repeated + repeated_length, batch, 1 + 16 * (size_t)batch[0]);
     repeated_length += 1 + 16 * (size_t)batch[0];
+    Record small = {{0}, 1}; /* the neutral one */
+    for (int i = 0; i < RECORDS; i++) {
+        Record next = {{0}, 0};
+        sum = yubi_next_divisor(training.bytes, training.length, small.bytes, small.length, next.bytes, sizeof next.bytes);
+        if (sum.number == YUBI_LAST_DIVISOR || i % 1000 == 999) {
+            next.length = 1;
+        } else {
+            must(sum.number, "a record of the small batch");
+            next.length = sum.length;
+        }
+        memcpy(small_batch + small_length, next.bytes, next.length);
+        small_length += next.length;
+        small = next;
+    }
     sum = yubi_write_pole_file(77, wide3.bytes, wide3.length, batch, batch_length, file, sizeof file);
     must(sum.number, "the pole file");
     file_length = sum.length;
@@ -117,7 +136,6 @@ static void prepare(void) {
 #define LAST batch + batch_length - 49, 49
 #define OUT out, sizeof out
 
-static uint64_t nothing(void) { return 0; }
 static uint64_t check_curve(void) { return yubi_check_curve(CURVE).number; }
 static uint64_t check_divisor(void) { return yubi_check_divisor(CURVE, LAST).number; }
 static uint64_t rewrite_curve(void) { return yubi_rewrite_curve(CURVE, OUT).number; }
@@ -174,45 +192,78 @@ static uint64_t scan_lent(void) {
 static uint64_t write_file(void) { return yubi_write_pole_file(77, CURVE, BATCH, OUT).number; }
 static uint64_t read_file(void) { return yubi_read_pole_file(file, file_length, OUT).number; }
 
+/* Small curves: every multiple, sum and total of curve A's divisors that can be, special pairs among them. */
+static uint64_t small_sums(void) {
+    static const uint8_t neutral[1] = {0};
+    uint8_t a[YUBI_DIVISOR_ROOM], b[YUBI_DIVISOR_ROOM], n[1] = {0};
+    size_t a_length = 1, b_length;
+    memcpy(a, neutral, 1);
+    for (;;) {
+        YubiAnswer next = yubi_next_divisor(small2.bytes, small2.length, a, a_length, b, sizeof b);
+        if (next.number == YUBI_LAST_DIVISOR) {
+            return 0;
+        }
+        if (next.number != YUBI_DONE) {
+            return next.number;
+        }
+        b_length = next.length;
+        memcpy(a, b, b_length);
+        a_length = b_length;
+        n[0]++;
+        uint64_t number = yubi_add(small2.bytes, small2.length, a, a_length, unit.bytes, unit.length, OUT).number;
+        number |= yubi_double(small2.bytes, small2.length, a, a_length, OUT).number;
+        YubiMultiple one = yubi_multiply(small2.bytes, small2.length, a, a_length, n, 1, OUT);
+        YubiMultiple other = yubi_multiply_inversion_free(small2.bytes, small2.length, a, a_length, n, 1, OUT);
+        if (number != YUBI_DONE || one.number != other.number || (one.number != YUBI_DONE && one.number != YUBI_EMPTY_KEY)) {
+            return 1000;
+        }
+    }
+}
+/* The batch of the first thousand divisors of the training curve, over and over. */
+static uint64_t small_total(void) {
+    YubiTotal t = yubi_total_batch(training.bytes, training.length, small_batch, small_length, OUT);
+    return t.number != 0 ? t.number : t.count == RECORDS ? 0 : 1000;
+}
+static uint64_t fresh(void) { return yubi_fresh_total(77).count; }
+
 typedef struct {
     const char *name;
     uint64_t (*run)(void);
     uint64_t wants, got;
 } Call;
 
-static void *work(void *call) {
-    Call *c = call;
-    c->got = c->run();
-    return NULL;
-}
+static Call *current;
+static ucontext_t here, there;
 
-/* Runs a call on a thread of STACK bytes and answers how many of them were touched. */
-static size_t touched(Call *call) {
-    uint8_t *area = mmap(NULL, PAGE + STACK, PROT_READ | PROT_WRITE, MAP_PRIVATE | MAP_ANONYMOUS, -1, 0);
-    if (area == MAP_FAILED || mprotect(area, PAGE, PROT_NONE) != 0) {
+static void work(void) { current->got = current->run(); }
+
+/* Runs a call on a stack of so many bytes and answers how many of them were touched. */
+static size_t touched(Call *call, size_t room) {
+    uint8_t *area = mmap(NULL, PAGE + room, PROT_READ | PROT_WRITE, MAP_PRIVATE | MAP_ANONYMOUS, -1, 0);
+    if (area == MAP_FAILED || mprotect(area, PAGE, PROT_NONE) != 0 || getcontext(&there) != 0) {
         perror("a stack");
         exit(1);
     }
     uint8_t *low = area + PAGE;
-    memset(low, PAINT, STACK);
-    pthread_attr_t attributes;
-    pthread_t thread;
-    pthread_attr_init(&attributes);
-    if (pthread_attr_setstack(&attributes, low, STACK) != 0 || pthread_create(&thread, &attributes, work, call) != 0) {
-        perror("a thread");
+    memset(low, PAINT, room);
+    there.uc_stack.ss_sp = low;
+    there.uc_stack.ss_size = room;
+    there.uc_link = &here;
+    current = call;
+    makecontext(&there, work, 0);
+    if (swapcontext(&here, &there) != 0) {
+        perror("a stack");
         exit(1);
     }
-    pthread_join(thread, NULL);
     size_t free_bytes = 0;
-    while (free_bytes < STACK && low[free_bytes] == PAINT) {
+    while (free_bytes < room && low[free_bytes] == PAINT) {
         free_bytes++;
     }
-    munmap(area, PAGE + STACK);
-    return STACK - free_bytes;
+    munmap(area, PAGE + room);
+    return room - free_bytes;
 }
 
 int main(void) {
-    Call empty = {"nothing", nothing, 0, 0};
     Call calls[] = {
         {"yubi_check_curve", check_curve, 0, 0},
         {"yubi_check_divisor", check_divisor, 0, 0},
@@ -225,29 +276,34 @@ int main(void) {
         {"yubi_split", split, 0, 0},
         {"yubi_multiply", multiply, 0, 0},
         {"yubi_multiply_inversion_free", multiply_free, 0, 0},
+        {"sums and multiples at p = 7", small_sums, 0, 0},
         {"yubi_check_order", order, 0, 0},
-        {"yubi_check_order, not it", other_order, 27, 0},
+        {"yubi_check_order, not it", other_order, YUBI_NOT_THE_ORDER, 0},
         {"yubi_next_divisor", next_divisor, 0, 0},
         {"yubi_total_batch", total, 0, 0},
+        {"yubi_total_batch at p = 13", small_total, 0, 0},
         {"yubi_first_repeat", repeat, 0, 0},
         {"yubi_first_repeat, the last", repeat_found, 0, 0},
+        {"yubi_fresh_total", fresh, 0, 0},
         {"yubi_scan", scan, 0, 0},
         {"yubi_scan_lent", scan_lent, 0, 0},
         {"yubi_write_pole_file", write_file, 0, 0},
         {"yubi_read_pole_file", read_file, 0, 0},
     };
     int wrong = 0;
+    size_t most[2] = {0, 0};
     prepare();
-    size_t own = touched(&empty);
-    printf("of %d bytes, %zu of them the thread's own:\n", STACK, own);
     for (size_t i = 0; i < sizeof calls / sizeof calls[0]; i++) {
-        size_t all = touched(&calls[i]);
-        printf("%-30s %6zu\n", calls[i].name, all - own);
+        int repeats = calls[i].run == repeat || calls[i].run == repeat_found;
+        size_t room = repeats ? YUBI_REPEAT_STACK_ROOM : YUBI_STACK_ROOM, all = touched(&calls[i], room);
+        printf("%-30s %6zu of %zu\n", calls[i].name, all, room);
         fflush(stdout);
+        most[repeats] = all > most[repeats] ? all : most[repeats];
         if (calls[i].got != calls[i].wants) {
             printf("  answered %llu, not %llu\n", (unsigned long long)calls[i].got, (unsigned long long)calls[i].wants);
             wrong = 1;
         }
     }
+    printf("at most %zu, in yubi_first_repeat %zu\n", most[0], most[1]);
     return wrong;
 }
