@@ -14,6 +14,7 @@ Form: docs/PROVED.md has at most 150 lines, docs/TOUR.md's addition at most 18 r
 Notes of docs/changes are history, and name what has gone since: but for that they aren't held. Pages that a script makes from the tree (MADE) are
 held by that script. Numbers of recorded runs (times, instructions, the judge's calls) say what was and aren't held, nor is any sentence between the names.
 It reads, and writes nothing."""
+import functools
 import glob
 import os
 import re
@@ -242,6 +243,7 @@ DEFINED = {os.path.relpath(p, os.path.join(ROOT, "crates")): defined(text(p)) fo
 PLACEHOLDERS = set("XIs ToX IsX AllX Xed xOf x-of x? x-test x-decides x-call x-checks x-place x-refused x-back x-same x-closed".split())
 
 
+@functools.lru_cache(None)
 def outside():
     """The words of header, bindings, tools and commands, the edits' names, and the files' own names."""
     found = PLACEHOLDERS | {name.split("/")[1] for name in counts.edits()} | set(re.findall(r"\w+", text(".ci", "run")))
@@ -270,6 +272,7 @@ def check_names():
                 wrong.append("%s names `%s`, and nothing in %s has that name" % (page, name, where))
 
 
+@functools.lru_cache(None)
 def defined_at(path):
     """The names that are defined in what a page's path stands for: a crate, a folder, or a file without its ending, from any folder on.
     None where there is no such."""
@@ -303,6 +306,7 @@ def check_places():
                     wrong.append("%s says that `%s` stands in %s, and it doesn't" % (page, name, path))
 
 
+@functools.lru_cache(None)
 def code_of(crate):
     """The names that a crate's code defines."""
     return set().union(*(names for path, names in DEFINED.items() if path.startswith(crate + "/src/")))
@@ -389,10 +393,13 @@ def check_contracts():
                 wrong.append("%s has the line `%s`, and no code has it" % (page, line.strip()))
 
 
-for check in (
+CHECKS = [
     check_counts, check_rule_edits, check_rule_files, check_believed, check_lists, check_all_edits_named, check_edits, check_crates, check_files,
     check_sources, check_names, check_places, check_functions, check_tour, check_decisions, check_contracts, check_links, check_form,
-):  # fmt: skip
-    check()
-print("\n".join(wrong) if wrong else "docs/ and README.md agree with the tree")
-sys.exit(1 if wrong else 0)
+]  # fmt: skip
+
+if __name__ == "__main__":
+    for check in CHECKS:
+        check()
+    print("\n".join(wrong) if wrong else "README.md and docs/ agree with the tree")
+    sys.exit(1 if wrong else 0)
