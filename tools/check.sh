@@ -30,7 +30,8 @@ else
     printf 'left    the lines of C in README.md: no libtablet.a in %s\n' "${YUBI_LIB_DIR:-target/staticlib}"
 fi
 check 'docs/proofs/BELIEVED.md' python3 tools/check/believed.py --check
-check 'docs/CRATES.md' python3 tools/make/house.py --check
+check 'docs/CRATES.md and docs/house.svg' python3 tools/make/house.py --check
+check 'docs/bench.svg' python3 tools/make/plot.py --check
 check 'docs/proofs/CONTRACTS.md' python3 tools/make/contracts.py --check
 check 'docs/proofs/EDITS.md' python3 tools/make/edits.py --check
 check 'docs/proofs/TIMES.md' python3 tools/make/times.py --check
