@@ -395,6 +395,11 @@ frames 200
 held "the line is whole in 200 columns" grep -Eq '^tally: building, this once: 1 of [0-9]+ crates proved \(a_crate_with_a_name_of_some_length\), 0:0[0-9]$' "$room/out"
 held "and the program's line follows" grep -q '^made' "$room/out"
 
+# ---- the one table of numbers, and the header made from it
+
+run python3 tools/numbers.py --check
+held "the header, the words and the crates have the table's numbers" [ "$status" = 0 ]
+
 # ---- every script: CDPATH can't lead it elsewhere
 
 while IFS= read -r each; do
