@@ -10,6 +10,12 @@ use crate::{calls, raw, Curve, Divisor, Refusal};
 ///
 /// It isn't `Copy`: a copy would be a second list that misses what the first one takes.
 ///
+/// ```compile_fail
+/// let total = yubisorade::RunningTotal::fresh(31);
+/// let moved = total;
+/// assert_eq!(total, moved);
+/// ```
+///
 /// ```
 /// # fn main() -> Result<(), yubisorade::Refusal> {
 /// # let mut curve = b"HJC\x00\x01\x02".to_vec();
