@@ -4,7 +4,8 @@ use crate::divisor::numbers;
 use crate::{calls, Divisor, Refusal, CURVE_ROOM, MOST_PRIMES, SPLIT_ROOM};
 use core::fmt;
 
-/// A curve that was checked when it was read, by value: every call of the library, with divisors by value.
+/// A curve that was checked when it was read, by value: every call of the library, with divisors by value. What its record
+/// is: [records](crate#records).
 ///
 /// The library keeps no state and checks curve and divisors at each call. A curve that was read is never refused again; a
 /// divisor is where it belongs to another curve.

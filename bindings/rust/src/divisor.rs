@@ -3,7 +3,7 @@
 use crate::DIVISOR_ROOM;
 use core::fmt;
 
-/// A meter's key: a divisor that was read or made on a curve, by value.
+/// A meter's key: a divisor that was read or made on a curve, by value. What its record is: [records](crate#records).
 ///
 /// Two of a curve are equal exactly where their records are, byte for byte. They are ordered by weight and then by the bytes
 /// of their records, as a census has them. It is shown as the program shows a total: the weight as two hexadecimal digits,

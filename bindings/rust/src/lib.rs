@@ -41,21 +41,27 @@
 //!
 //! # Records
 //!
-//! All numbers are big-endian. A good record has one form, so two divisors of a curve are equal exactly where their bytes are.
+//! Each field with its bytes, in their order; all numbers are big-endian.
 //!
-//! | record | bytes |
-//! |---|---|
-//! | curve, version 1 | `HJC`; 1 in 2; g in 1, which is 2 or 3; p in 8, an odd prime up to 2^31 - 1; `f_0` to `f_2g` in 8 each. 54 for g = 2, 70 for g = 3 |
-//! | curve, version 2 | the same with 2 for its version and p up to 2^61 - 1; then a witness that p is prime: a base a in 8, a count k in 1, 1 to 15, and the k primes of p - 1 in 8 each, rising, all below 2^31. 63 + 8k or 79 + 8k |
-//! | divisor | its weight w in 1, up to g; `u_0` to `u_(w-1)`, then `v_0` to `v_(w-1)`, in 8 each. 1 + 16w; the single byte 0 is the neutral divisor |
-//! | batch | 0 to 4,096 divisor records, one behind the other |
-//! | scan | the number of a pole in 4, then a divisor record |
-//! | scalar, order | 0 to 32, unsigned; none mean 0 |
-//! | pole file | `HJP`; 1 in 2; the number of a pole in 4; a curve record; in 2 how many divisor records follow; a batch |
+//! | record | fields | bytes in all |
+//! |---|---|---|
+//! | curve, version 1 | `HJC` (3), the version 1 (2), g (1), p (8), `f_0` to `f_2g` (8 each) | 54 for g = 2, 70 for g = 3 |
+//! | curve, version 2 | `HJC` (3), the version 2 (2), g (1), p (8), `f_0` to `f_2g` (8 each), a (8), k (1), k primes (8 each) | 63 + 8k, 79 + 8k |
+//! | divisor | the weight w (1), `u_0` to `u_(w-1)` (8 each), `v_0` to `v_(w-1)` (8 each) | 1 + 16w |
+//! | batch | divisors, one behind the other | |
+//! | scan | the number of a pole (4), a divisor | 5 + 16w |
+//! | scalar, order | one unsigned number; leading zeros are allowed, no bytes mean 0 | 0 to 32 |
+//! | pole file | `HJP` (3), the version 1 (2), the number of a pole (4), a curve, how many divisors follow (2), a batch | 11 more than curve and batch |
 //!
-//! f is monic of degree 2g + 1, without a repeated factor; its leading 1 isn't stored. u is monic of degree w, v has a smaller
-//! degree, and u divides f - v². A call on a curve of version 1 with p near 2^31 divides by trial, each time; with a record of
-//! version 2 it is some ten times quicker.
+//! - **Curve.** y² = f(x), g is 2 or 3, f is monic of degree 2g + 1 without a repeated factor; its leading 1 isn't stored. p is an
+//!   odd prime, up to 2^31 - 1 in version 1 and up to 2^61 - 1 in version 2.
+//! - **Witness**, in version 2: the base a from 1 to p - 1 and the 1 to 15 primes of p - 1, rising, all below 2^31. a^(p-1) is 1
+//!   modulo p and no a^((p-1)/q) is, q a listed prime; so p is prime, whoever proposed it. In version 1 every call divides p
+//!   by trial instead.
+//! - **Divisor.** u is monic of degree w, at most g; its leading 1 isn't stored. v has a smaller degree, and u divides f - v².
+//!   The single byte 0 is the neutral divisor. A good record has one form: two divisors of a curve are equal exactly where their
+//!   bytes are.
+//! - **Batch.** 0 to 4,096 divisors. Two are the same meter where they are equal or opposite.
 //!
 //! # Three floors
 //!
@@ -67,8 +73,8 @@
 //! The crate is `no_std`. `alloc` brings `List`, `scan_of` and `PoleFile::write`; `std`, on where nothing is said, brings
 //! that and `std::error::Error` for [`Refusal`]. No call of the library allocates.
 //!
-//! Every call runs on a thread with 64 KB of stack. Calls keep no state and may run on any number of threads at once. Nothing is
-//! constant time: what a call takes depends on its records and on the scalar.
+//! Calls keep no state and may run on any number of threads at once; what stack they take stands in the header. Nothing is
+//! constant time: how long a call takes depends on its records and on the scalar.
 
 #![no_std]
 #![deny(unsafe_code)]
