@@ -181,6 +181,14 @@ impl Curve {
         multiple(|out| calls::multiply_inversion_free(self.record(), a.record(), scalar, out))
     }
 
+    /// Checks a batch: 0 to 4,096 divisor records, one behind the other. [`records`](crate::records) parts it.
+    ///
+    /// # Errors
+    /// Those of [`total`](Curve::total).
+    pub fn check_batch(&self, batch: &[u8]) -> Result<(), Refusal> {
+        calls::check_batch(self.record(), batch)
+    }
+
     /// The sum of a batch: 0 to 4,096 divisor records, one behind the other.
     ///
     /// # Errors

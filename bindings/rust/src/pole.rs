@@ -2,8 +2,9 @@
 
 use crate::{calls, Curve, Refusal};
 
-/// The divisor records of a batch, first to last, as their weights part it: any bytes may be handed in, and nothing is
-/// checked. A last record that is cut comes as far as it goes, so that every call refuses it.
+/// The divisor records of a batch, first to last, as their weights part it. Any bytes may be handed in, and nothing is
+/// checked: [`Curve::check_batch`] does that. A last record that is cut comes as far as it goes, so that every call refuses
+/// it.
 ///
 /// ```
 /// # let record = |u: u64, v: u64| [&[1][..], &u.to_be_bytes(), &v.to_be_bytes()].concat();

@@ -1,5 +1,5 @@
 //! Running totals, lists and pole files. Expected values are the contract's, or of demo/two-poles, which a separate implementation
-//! made (tools/demo.py).
+//! made.
 
 mod common;
 

@@ -204,6 +204,7 @@ fn batches() {
     assert_eq!(a.total(&turned), Ok(Total { divisor: Divisor::NEUTRAL, count: 2 }));
     assert_eq!(a.first_repeat(&turned), Ok(Some(Repeat { first: 1, second: 2 })));
     assert_eq!(a.total(&[]), Ok(Total { divisor: Divisor::NEUTRAL, count: 0 }));
+    assert_eq!((a.check_batch(&case_p), a.check_batch(&[0; 4096])), (Ok(()), Ok(())));
     assert_eq!(a.total(&[0; 4096]), Ok(Total { divisor: Divisor::NEUTRAL, count: 4096 }));
     for (batch, refusal) in [
         (vec![0; 4097], Refusal::Full),
@@ -211,6 +212,7 @@ fn batches() {
         ([&x_1[..], &x_6, &[3]].concat(), Refusal::Weight { place: 3 }),
         ([&x_1[..], &divisor(&[0], &[2])].concat(), Refusal::NotOnCurve { place: 2 }),
     ] {
+        assert_eq!(a.check_batch(&batch), Err(refusal));
         assert_eq!(a.total(&batch), Err(refusal));
         assert_eq!(a.first_repeat(&batch), Err(refusal));
     }
