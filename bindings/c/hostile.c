@@ -1,4 +1,4 @@
-/* Puts good, cut, extended, damaged and random bytes to every call: hostile [ROUNDS [SEED]], 20,000 and 1 where left out.
+/* Puts good, cut, extended, damaged and random bytes to every call: hostile [ROUNDS [SEED]], 25,000 and 1 where left out.
  *
  * Prints how often each number was answered, the calls, and a digest of every answer and every output byte: the same on every machine that answers the
  * same. Each input ends where its memory ends, so that a byte read behind it ends the program; with no bytes half of the pointers are NULL.
@@ -29,7 +29,7 @@ typedef struct {
 } Lent;
 
 static uint8_t *end_of[ROLES];
-static Record curves[CURVES], divisors[CURVES][KEPT];
+static Record curves[CURVES], divisors[CURVES][KEPT], order, order_primes;
 static YubiRunning totals[CURVES];
 static uint64_t state, digest = 14695981039346656037u, calls, answered[NUMBERS];
 
@@ -111,6 +111,13 @@ static Lent lend(int role, const void *bytes, size_t length)
     return l;
 }
 
+/* A place in that many bytes, every second time among the first 16. */
+static size_t place_in(size_t length)
+{
+    size_t near = any() % 2 == 0;
+    return below(near && length > 16 ? 16 : length);
+}
+
 /* The bytes as they are, or cut, extended, damaged in a byte, or others. */
 static Lent damaged(int role, const uint8_t *bytes, size_t length, size_t chance)
 {
@@ -130,13 +137,13 @@ static Lent damaged(int role, const uint8_t *bytes, size_t length, size_t chance
         break;
     case 2:
         if (length > 0) {
-            k = below(length);
+            k = place_in(length);
             to[k] = (uint8_t)any();
         }
         break;
     case 3:
         if (length > 0) {
-            k = below(length);
+            k = place_in(length);
             to[k] ^= (uint8_t)(1 << below(8));
         }
         break;
@@ -206,6 +213,39 @@ static void make_curve(Record *r, uint8_t genus, uint64_t p, uint64_t base, cons
     }
 }
 
+/* The order of the first curve's first divisor, counted out, and the primes of it. */
+static void make_order(void)
+{
+    const Record *curve = &curves[0], *first = &divisors[0][0];
+    Record sum = *first;
+    uint8_t n = 1, left, q;
+    while (sum.bytes[0] != 0) {
+        Record next = {{0}, 0};
+        next.length = (size_t)yubi_add(curve->bytes, curve->length, sum.bytes, sum.length, first->bytes, first->length, next.bytes, sizeof next.bytes).length;
+        sum = next;
+        n++;
+    }
+    order.bytes[order.length++] = left = n;
+    for (q = 2; left > 1; q++) {
+        if (left % q != 0)
+            continue;
+        order_primes.length += 4;
+        order_primes.bytes[order_primes.length - 1] = q;
+        while (left % q == 0)
+            left = (uint8_t)(left / q);
+    }
+}
+
+/* The last divisor of the first curve's census, in place of one that was kept. */
+static void make_last(void)
+{
+    Record *last = &divisors[0][KEPT - 2], next = {{0}, 1};
+    do {
+        *last = next;
+        next.length = (size_t)yubi_next_divisor(curves[0].bytes, curves[0].length, last->bytes, last->length, next.bytes, sizeof next.bytes).length;
+    } while (next.length > 0);
+}
+
 static void make_records(void)
 {
     static const uint64_t of_61[] = {2, 3, 5, 7, 11, 13, 31, 41, 61, 151, 331, 1321}, of_31[] = {2, 3, 7, 11, 31, 151, 331};
@@ -221,7 +261,7 @@ static void make_records(void)
         put_numbers(&first, point, 2);
         divisors[c][0] = first;
         totals[c] = yubi_fresh_total((uint32_t)c);
-        for (int i = 1; i < KEPT; i++) {
+        for (int i = 1; i < KEPT - 1; i++) {
             Record *sum = &divisors[c][i], *last = &divisors[c][i - 1];
             YubiAnswer a = yubi_add(curves[c].bytes, curves[c].length, last->bytes, last->length, first.bytes, first.length, sum->bytes,
                                     sizeof sum->bytes);
@@ -232,6 +272,8 @@ static void make_records(void)
         divisors[c][KEPT - 1].bytes[0] = 0; /* the neutral one */
         divisors[c][KEPT - 1].length = 1;
     }
+    make_order();
+    make_last();
 }
 
 static const Record *kept(size_t c)
@@ -289,6 +331,12 @@ static void multiples(Lent curve, Lent a)
         bytes[i] = (uint8_t)any();
     for (size_t i = 0; i < count; i++)
         list[4 * i + 3] = primes[i];
+    if (below(8) == 0) {
+        bytes[0] = order.bytes[0];
+        length = 1;
+        count = order_primes.length / 4;
+        memcpy(list, order_primes.bytes, order_primes.length);
+    }
     Lent scalar = lend(SCALAR, bytes, length), out = output(room);
     YubiMultiple m = yubi_multiply(LENT(curve), LENT(a), LENT(scalar), LENT(out));
     eat_answer(m.number, m.place, m.length);
@@ -371,7 +419,7 @@ static void scans(size_t c, Lent curve)
 
 int main(int argc, char **argv)
 {
-    unsigned long rounds = argc > 1 ? strtoul(argv[1], NULL, 10) : 20000;
+    unsigned long rounds = argc > 1 ? strtoul(argv[1], NULL, 10) : 25000;
     int missing = 0;
     state = 88172645463325252u + (argc > 2 ? strtoul(argv[2], NULL, 10) : 1);
     make_rooms();
