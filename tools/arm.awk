@@ -16,14 +16,22 @@ function give_up(what) {
     exit 1
 }
 
-# The parameters of a declaration or definition as kinds: sret, byval, or the type.
-function kinds(line,   list, n, k, part, all) {
+# The bytes of the struct that a parameter's sret or byval names: [N x i8] in the module, a struct of the header in a declaration.
+function bytes_in(parameter) {
+    if (match(parameter, /\(\[[0-9]+ x i8\]\)/)) { return substr(parameter, RSTART + 2) + 0 }
+    match(parameter, /\(%struct\.[A-Za-z]+\)/)
+    return size[substr(parameter, RSTART + 9, RLENGTH - 10)]
+}
+
+# The parameters of a declaration or definition: sret or byval with its bytes, or the type.
+function kinds(line,   n, k, part, all) {
     sub(/^[^(]*@[a-z_]+\(/, "", line)
     sub(/\) #[0-9]+( \{)?$/, "", line)
     n = split(line, part, /, /)
     for (k = 1; k <= n; k++) {
-        list = part[k]
-        if (list ~ / sret\(/) { all = all " sret" } else if (list ~ / byval\(/) { all = all " byval" } else { sub(/ .*/, "", list); all = all " " list }
+        if (part[k] ~ / sret\(/) { all = all " sret:" bytes_in(part[k]) }
+        else if (part[k] ~ / byval\(/) { all = all " byval:" bytes_in(part[k]) }
+        else { sub(/ .*/, "", part[k]); all = all " " part[k] }
     }
     return all
 }
@@ -33,13 +41,18 @@ function name_in(line) {
     return substr(line, RSTART + 1, RLENGTH - 2)
 }
 
-kind != "module" && /^@size_of_/ { split($1, word, "@size_of_"); size[word[2]] = $4 + 0 }
+kind != "module" && /^@size_of_[A-Za-z]+ = .*constant i64 [0-9]+,/ {
+    name = substr($1, length("@size_of_") + 1)
+    sub(/.* i64 /, "")
+    if (name in size && size[name] != $0 + 0) { give_up(name " has another size on Arm") }
+    size[name] = $0 + 0
+}
 kind != "module" && /^declare void @yubi_/ {
     name = name_in($0)
     header[kind, name] = kinds($0)
     if (kind == "arm") {
-        match($0, /sret\(%struct\.[A-Za-z]+\)/)
-        answer[name] = substr($0, RSTART + 13, RLENGTH - 14)
+        if (!match($0, /\(ptr [a-z_ ]*sret\(%struct\.[A-Za-z]+\)/)) { give_up("the header's " name " answers in registers on Arm") }
+        answer[name] = bytes_in(substr($0, RSTART + 1, RLENGTH))
         declared++
     }
 }
@@ -54,7 +67,7 @@ kind != "module" { next }
     if (!(("arm", name) in header)) { give_up("the header has no call " name) }
     if ($0 !~ /^define noundef ptr @yubi_[a-z_]+\(ptr noundef %a0/) { give_up(name " doesn't hand back the place of its answer") }
     sub(/^define noundef ptr/, "define void")
-    sub(/\(ptr noundef %a0/, "(ptr noundef sret([" size[answer[name]] " x i8]) align 8 %a0")
+    sub(/\(ptr noundef %a0/, "(ptr noundef sret([" answer[name] " x i8]) align 8 %a0")
     if (kinds($0) != header["x86", name]) { give_up(name " takes" kinds($0) ", and the header on x86-64" header["x86", name]) }
     if (sub(/ byval\(\[[0-9]+ x i8\]\) align 8/, "")) { changed["copy"]++ }
     if (kinds($0) != header["arm", name]) { give_up(name " takes" kinds($0) ", and the header on Arm" header["arm", name]) }
