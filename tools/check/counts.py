@@ -131,6 +131,12 @@ def pairs_of_polynomials():
     return sum(1 for line in lines("crates", "poly_table", "stdout") if line.startswith("p "))
 
 
+def rows_of_tuples():
+    """Rows, and the pairs that stand under three choices of Z each."""
+    rows = sum(1 for line in lines("crates", "test_tuples", "stdout") if line.startswith("sum "))
+    return rows, rows // 3
+
+
 def rust_tests():
     """Tests and examples of bindings/: an example is a block in a comment, between two lines of ```."""
     sources = [text(path) for path in glob.glob(os.path.join(ROOT, "bindings", "**", "*.rs"), recursive=True)]

@@ -94,6 +94,7 @@ STATED = [
     ("docs/DECISIONS.md", "W-201's N composite numbers", counts.composites),
     ("docs/TESTING.md", "N rows of arithmetic modulo six primes, N answers of the prime test, N rows", counts.field_rows),
     ("docs/TESTING.md", "| `poly_table` | N pairs", counts.pairs_of_polynomials),
+    ("docs/TESTING.md", "| `test_tuples` | N rows of two tuples (W-206), N pairs", counts.rows_of_tuples),
     ("docs/TESTING.md", "N frames through the exported calls", lambda: len(counts.vectors())),
     ("docs/TESTING.md", "N lines | tools/make/corners.py", counts.corners),
     ("docs/TESTING.md", "curve A, N divisors", counts.census),

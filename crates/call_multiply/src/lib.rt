@@ -36,11 +36,11 @@ pub fn multiply(curve: &[u8], a: &[u8], scalar: &[u8], out: &mut [u8]) -> Answer
 pub fn multiply_inversion_free(curve: &[u8], a: &[u8], scalar: &[u8], out: &mut [u8]) -> Answer
     ensures { λ r. ⌜ MultipleIs r (now (out .exit)) (multiply-call (now (curve .entry)) (now (a .entry)) (now (scalar .entry)) (now (out .entry))) ⌝ }
 {
-    let x = call_factors::read_factors(curve, a, scalar);
-    if x.number != 0 {
-        return Answer::Refused(x.number, x.place);
+    let factors = call_factors::read_factors(curve, a, scalar);
+    if factors.number != 0 {
+        return Answer::Refused(factors.number, factors.place);
     }
-    let c = x.curve;
-    let d = x.divisor;
+    let c = factors.curve;
+    let d = factors.divisor;
     call_factors::write_multiple(multiple::of(c, d, scalar), c.m, out)
 }

@@ -30,7 +30,7 @@ pub fn climb(
     let d = multiple_tuple::double(t, f2, f3, f4, m);
     let z = d.z;
     if z.is_zero(m) {
-        return d;
+        return d; // special, as its Z says
     }
     if digit == 0 {
         return multiple_tuple::mixed(d, p, f4, m);
