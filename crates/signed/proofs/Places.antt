@@ -1,4 +1,4 @@
--- A string by its places. Gives: what the digits from k on weigh, by digit k and those after it (`weight-at`), and how many of them are nonzero (`nonzeros-at`); that strings which agree
+-- A string by its places. Gives: what the digits from k on weigh, by digit k and those after it (`weight-at`); that strings which agree
 -- at every place weigh the same, zeros at the top or not (`same-places`); that the last place has the highest digit (`last-place`).
 use Prim.Native.Nat.{ℕ, zero, suc, _+_, _-_, _<_}
 use mathlib.Core.Path.{_≡_, refl, sym, ap, ap₂, _∙_}
@@ -7,27 +7,13 @@ use native.Mathlib.Omega.{arith}
 use lib.ListN.{length, getD, drop}
 use lib.Seq.{getD-drop}
 use lib.IntN.{ℤ, pos, _+ℤ_}
-use Rattle.signed.specs.Digits.{Digit, minus, null, plus, value, weight, top, nonzeros}
+use Rattle.signed.specs.Digits.{Digit, null, value, weight, top}
 
 pub weight-at : (l : List Digit) (k : ℕ) → weight (drop k l) ≡ value (getD l k null) +ℤ (weight (drop (suc k) l) +ℤ weight (drop (suc k) l))
 weight-at [] zero = refl
 weight-at [] (suc k) = refl
 weight-at (d ∷ l) zero = refl
 weight-at (d ∷ l) (suc k) = weight-at l k
-
--- ---- nonzero digits
-abbrev pub one-if : Digit → ℕ
-one-if minus = 1
-one-if null = 0
-one-if plus = 1
-
-pub nonzeros-at : (l : List Digit) (k : ℕ) → nonzeros (drop k l) ≡ one-if (getD l k null) + nonzeros (drop (suc k) l)
-nonzeros-at [] zero = refl
-nonzeros-at [] (suc k) = refl
-nonzeros-at (minus ∷ l) zero = omega arith
-nonzeros-at (null ∷ l) zero = omega arith
-nonzeros-at (plus ∷ l) zero = omega arith
-nonzeros-at (d ∷ l) (suc k) = nonzeros-at l k
 
 -- ---- agreeing at every place
 twice : (w : ℤ) → w ≡ pos 0 → pos 0 +ℤ (w +ℤ w) ≡ pos 0

@@ -1,18 +1,16 @@
 -- The non-adjacent form from the bits of n, the lowest first, with a carry c of 0 or 1. Gives: what a walk keeps (`Walked`): the digits of n from k on are those of n / 2^k + c; how it begins and goes on
--- by the bits k and k + 1 (`begin`, `digit-at`, `next`); that it ends with nothing left (`ends`).
+-- by the bits k and k + 1 (`begin`, `digit-at`, `next`).
 -- Open: `Walked`.
-use Prim.Native.Nat.{ℕ, zero, suc, _+_, _*_, _/_, _%_, _^_, _≤_, _<_}
-use mathlib.Core.Path.{_≡_, sym, ap, ap₂, _∙_, subst}
-use mathlib.Core.Logic.{_⊎_, inl, inr}
-use mathlib.Core.List.{List, []}
+use Prim.Native.Nat.{ℕ, zero, suc, _+_, _*_, _/_, _%_, _^_, _≤_}
+use mathlib.Core.Path.{_≡_, sym, ap, ap₂, _∙_}
+use mathlib.Core.List.{List}
 use native.Mathlib.Omega.{arith}
-use native.Mathlib.Nat.{mul-add-mod-self-left, eq-zero-or-pos, div-one}
-use lib.ListN.{length, getD, drop, drop-of-length-le}
+use native.Mathlib.Nat.{mul-add-mod-self-left, div-one}
+use lib.ListN.{getD, drop}
 use lib.Seq.{getD-drop, drop-drop}
 use lib.Pow.{shr-shr}
 use Rattle.signed.specs.Digits.{Digit, null, of-four, less, recode}
 use Rattle.signed.proofs.Unique.{recode-zero, recode-step}
-use Rattle.signed.proofs.Length.{recode-length, at-most-one-more}
 
 -- ---- the lowest digit of n + c, and what it leaves, by the two lowest bits of n
 bit-cases : (P : ℕ → Type 0) (b : ℕ) → b ≤ 1 → P 0 → P 1 → P b
@@ -67,18 +65,3 @@ module _ (n k c b₀ b₁ : ℕ) (w : Walked n k c) (e₀ : b₀ ≡ n / 2 ^ k %
     rest = ap (λ (j : ℕ). drop j (recode n)) {x = suc k} {y = k + 1} (omega arith) ∙ sym (drop-drop 1 k (recode n)) ∙ ap (drop 1) (w .rest) ∙ first (n / 2 ^ k + c) .1
         ∙ ap recode (carry-rest (n / 2 ^ k) c (w .small) ∙ ap₂ (λ (x y : ℕ). x + y) (sym half) (ap₂ (λ (x y : ℕ). (x + y + c) / 2) (sym e₀) (sym bit)));
   }
-
--- what has no digits is 0
-no-digits : (m : ℕ) → recode m ≡ [] → m ≡ 0
-no-digits m e = go (eq-zero-or-pos m)
-  where
-    go : (m ≡ 0) ⊎ (0 < m) → m ≡ 0
-    go (inl z) = z
-    go (inr p) = absurd (omega (arith, subst (λ (l : List Digit). 3 * m < 2 ^ suc (length l)) e (recode-length m p .high)))
-
-pub ends : (n w k c : ℕ) → n < 2 ^ w → suc w ≤ k → Walked n k c → n / 2 ^ k + c ≡ 0
-ends n w k c h l v = no-digits (n / 2 ^ k + c) (sym (v .rest) ∙ drop-of-length-le (recode n) {i = k} (omega (arith, at-most-one-more n w h)))
-
--- and 1 is left before the last digit
-pub last : (n k c : ℕ) → Walked n k c → n / 2 ^ k + c ≡ 1 → length (drop k (recode n)) ≡ 1
-last n k c v e = ap length (v .rest ∙ ap recode e ∙ recode-step 1 (omega arith)) ∙ ap (λ (l : List Digit). suc (length l)) recode-zero
