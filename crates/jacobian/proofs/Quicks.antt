@@ -1,4 +1,4 @@
--- Sums by formula. Gives: where a formula of `genus2` or `genus3` finds a divisor, that is the rule's sum on the curve in code (`tried-two`, `tried-three` and
+-- Sums by formula. Gives: where a formula of `sum_genus2` or `sum_genus3` finds a divisor, that is the rule's sum on the curve in code (`tried-two`, `tried-three` and
 -- the like of a divisor with itself); where it finds none, what it says of its conditions is handed on. The neutral divisor adds nothing (`neutral-first`).
 use Prim.Native.Nat.{ℕ, _+_, _-_, _≤_}
 use mathlib.Core.Path.{_≡_, sym, ap, _∙_, subst, subst₂}

@@ -60,7 +60,7 @@ pub struct Powers {
 }
 
 // Step 1 of an addition: the same quotients over y, which is the Z of t times x.
-pub fn widen(t: Tuple, x: Residue, y: Residue, m: Modulus) -> Tuple
+fn widen(t: Tuple, x: Residue, y: Residue, m: Modulus) -> Tuple
     requires { ⌜ KeptTuple m t × (Kept m x × Kept m y) ⌝ }
     ensures { λ r. ⌜ Widened m t x y r ⌝ }
 {
@@ -78,7 +78,7 @@ pub fn widen(t: Tuple, x: Residue, y: Residue, m: Modulus) -> Tuple
 }
 
 // Step 1 where it is plain: over x.
-pub fn widen_plain(q: Quadratic, x: Residue, m: Modulus) -> Tuple
+fn widen_plain(q: Quadratic, x: Residue, m: Modulus) -> Tuple
     requires { ⌜ Held m (Divisor.Two q) × Kept m x ⌝ }
     ensures { λ r. ⌜ WidenedPlain m q x r ⌝ }
 {
@@ -96,7 +96,7 @@ pub fn widen_plain(q: Quadratic, x: Residue, m: Modulus) -> Tuple
 }
 
 // Step 2 begins: how both u differ.
-pub fn differ(w: Tuple, b: Tuple, m: Modulus) -> Gap
+fn u_gap(w: Tuple, b: Tuple, m: Modulus) -> Gap
     requires { ⌜ KeptTuple m w × KeptTuple m b ⌝ }
     ensures { λ r. ⌜ Differ m w b r ⌝ }
 {
@@ -112,7 +112,7 @@ pub fn differ(w: Tuple, b: Tuple, m: Modulus) -> Gap
 
 // Steps 2 to 4 of an addition: r and s of the line through both pairs. o is the other one, w is the same over the Z of b, which is the base. With
 // z3 = u1·z1 + z2 for the inverse's constant, s1 = z3·w1 + z1·w0 - u1·z1·w1 is z2·w1 + z1·w0.
-pub fn chord(o: Tuple, w: Tuple, b: Tuple, g: Gap, m: Modulus) -> Line
+fn chord(o: Tuple, w: Tuple, b: Tuple, g: Gap, m: Modulus) -> Line
     requires { ⌜ KeptTuple m o × (KeptTuple m w × (KeptTuple m b × Differ m w b g)) ⌝ }
     ensures { λ r. ⌜ Chorded m o w b r ⌝ }
 {
@@ -132,7 +132,7 @@ pub fn chord(o: Tuple, w: Tuple, b: Tuple, g: Gap, m: Modulus) -> Line
 
 // Step 3 of a doubling: k = (f - v²) / u modulo u. With d = 2 u1 - f4 and e = f3 + u1·(u1 - f4) it is
 // k1 = u1·d + e - 2 u0, k0 = f2 + 2 u0·d - v1² - u1·e.
-pub fn right(t: Tuple, f2: Residue, f3: Residue, f4: Residue, m: Modulus) -> RightSide
+fn cofactor_mod_u(t: Tuple, f2: Residue, f3: Residue, f4: Residue, m: Modulus) -> RightSide
     requires { ⌜ KeptTuple m t × (Kept m f2 × (Kept m f3 × Kept m f4)) ⌝ }
     ensures { λ r. ⌜ Righted m t f2 f3 f4 r ⌝ }
 {
@@ -152,7 +152,7 @@ pub fn right(t: Tuple, f2: Residue, f3: Residue, f4: Residue, m: Modulus) -> Rig
 }
 
 // Steps 1, 2 and 4 of a doubling: r times Z, and s, of the tangent. With i0 = 2 v0 - u1·2 v1 for the inverse's constant, s1 is 2 v0·k1 - 2 v1·k0.
-pub fn tangent(t: Tuple, k: RightSide, m: Modulus) -> Line
+fn tangent(t: Tuple, k: RightSide, m: Modulus) -> Line
     requires { ⌜ KeptTuple m t × KeptRight m k ⌝ }
     ensures { λ r. ⌜ Touched m t k r ⌝ }
 {
@@ -172,7 +172,7 @@ pub fn tangent(t: Tuple, k: RightSide, m: Modulus) -> Line
 }
 
 // Step 5, of both tables.
-pub fn prepare(b: Tuple, s: Line, m: Modulus) -> Powers
+fn prepare(b: Tuple, s: Line, m: Modulus) -> Powers
     requires { ⌜ KeptTuple m b × KeptLine m s ⌝ }
     ensures { λ r. ⌜ Prepared m b s r ⌝ }
 {
@@ -191,7 +191,7 @@ pub fn prepare(b: Tuple, s: Line, m: Modulus) -> Powers
 }
 
 // Step 7 of an addition: the new u, times S3.
-pub fn new_u(b: Tuple, s: Line, g: Gap, p: Powers, f4: Residue, m: Modulus) -> Duo
+fn new_u(b: Tuple, s: Line, g: Gap, p: Powers, f4: Residue, m: Modulus) -> Duo
     requires { ⌜ KeptTuple m b × (KeptLine m s × (Prepared m b s p × (KeptGap m g × Kept m f4))) ⌝ }
     ensures { λ r. ⌜ MakesU m b s g p f4 r ⌝ }
 {
@@ -205,7 +205,7 @@ pub fn new_u(b: Tuple, s: Line, g: Gap, p: Powers, f4: Residue, m: Modulus) -> D
 }
 
 // Step 7 of a doubling; d is 2 u1 - f4.
-pub fn new_u_twice(b: Tuple, s: Line, p: Powers, d: Residue, m: Modulus) -> Duo
+fn new_u_twice(b: Tuple, s: Line, p: Powers, d: Residue, m: Modulus) -> Duo
     requires { ⌜ KeptTuple m b × (KeptLine m s × (Prepared m b s p × Kept m d)) ⌝ }
     ensures { λ r. ⌜ MakesUTwice m b s p d r ⌝ }
 {
@@ -216,7 +216,7 @@ pub fn new_u_twice(b: Tuple, s: Line, p: Powers, d: Residue, m: Modulus) -> Duo
 }
 
 // Steps 6 and 8 to 10: the new v, and all over the new Z = Ra·S3. l is taken with v in it, S3 taken out: so Rb needs no product of its own.
-pub fn new_v(b: Tuple, s: Line, p: Powers, h: Duo, m: Modulus) -> Tuple
+fn new_v(b: Tuple, s: Line, p: Powers, h: Duo, m: Modulus) -> Tuple
     requires { ⌜ KeptTuple m b × (KeptLine m s × (KeptPowers m p × KeptDuo m h)) ⌝ }
     ensures { λ r. ⌜ MakesV m b s p h r ⌝ }
 {
@@ -238,11 +238,11 @@ pub fn new_v(b: Tuple, s: Line, p: Powers, h: Duo, m: Modulus) -> Tuple
 }
 
 // Steps 2 to 10 of an addition: b is the base, w is o over the Z of b.
-pub fn through(o: Tuple, w: Tuple, b: Tuple, f4: Residue, m: Modulus) -> Tuple
+fn through(o: Tuple, w: Tuple, b: Tuple, f4: Residue, m: Modulus) -> Tuple
     requires { ⌜ KeptTuple m o × (KeptTuple m w × (KeptTuple m b × Kept m f4)) ⌝ }
     ensures { λ r. ⌜ Through m o w b f4 r ⌝ }
 {
-    let g = differ(w, b, m);
+    let g = u_gap(w, b, m);
     let s = chord(o, w, b, g, m);
     let p = prepare(b, s, m);
     let h = new_u(b, s, g, p, f4, m);
@@ -274,7 +274,7 @@ pub fn double(a: Tuple, f2: Residue, f3: Residue, f4: Residue, m: Modulus) -> Tu
     requires { ⌜ KeptTuple m a × (Kept m f2 × (Kept m f3 × Kept m f4)) ⌝ }
     ensures { λ r. ⌜ Doubled m f2 f3 f4 a r ⌝ }
 {
-    let k = right(a, f2, f3, f4, m);
+    let k = cofactor_mod_u(a, f2, f3, f4, m);
     let s = tangent(a, k, m);
     let p = prepare(a, s, m);
     let h = new_u_twice(a, s, p, k.d, m);

@@ -28,7 +28,7 @@ fn open_two(c: Curve, a: Quadratic, b: Quadratic) -> Opening
 {
     let g = c.g;
     if g == 2 {
-        let o = sum_genus2::open(a, b, c.m);
+        let o = sum_genus2::chord(a, b, c.m);
         let k = sum_formulas::look(o.r, o.s.c1, c.m);
         match k {
             Condition::Special => Opening::Special,
@@ -44,7 +44,7 @@ fn open_three(c: Curve, a: Cubic, b: Cubic) -> Opening
     requires { ⌜ Sound c × (Holds c (Divisor.Three a) × Holds c (Divisor.Three b)) ⌝ }
     ensures { λ r. ⌜ Opened c (Divisor.Three a) (Divisor.Three b) r ⌝ }
 {
-    let o = sum_genus3_open::open(a, b, c.m);
+    let o = sum_genus3_open::chord(a, b, c.m);
     let k = sum_formulas::look(o.r, o.s.c2, c.m);
     match k {
         Condition::Special => Opening::Special,

@@ -30,7 +30,7 @@ pub struct Slope {
 }
 
 // i · u is r modulo the other u.
-pub fn invert(a: Quadratic, b: Quadratic, m: Modulus) -> Bezout
+pub fn invert_u(a: Quadratic, b: Quadratic, m: Modulus) -> Bezout
     requires { ⌜ Held m (Divisor.Two a) × Held m (Divisor.Two b) ⌝ }
     ensures { λ r. ⌜ Inverted m (ux m a) b r × Apart m a b (r .i) ⌝ }
 {
@@ -43,7 +43,7 @@ pub fn invert(a: Quadratic, b: Quadratic, m: Modulus) -> Bezout
 }
 
 // The other v, less v.
-pub fn gap(a: Quadratic, b: Quadratic, m: Modulus) -> Duo
+pub fn v_gap(a: Quadratic, b: Quadratic, m: Modulus) -> Duo
     requires { ⌜ Held m (Divisor.Two a) × Held m (Divisor.Two b) ⌝ }
     ensures { λ r. ⌜ Gap m a b r ⌝ }
 {
@@ -75,8 +75,8 @@ pub fn divide(r: Residue, s: Duo, i: Residue, m: Modulus) -> Slope
     Slope { w: w, wi: wi, t: t }
 }
 
-// The new u: only its top coefficients are looked at, since it divides. z is what `open` inverted with, so that t·(t - 2 z1) + z0 is at hand.
-pub fn quotient(a: Quadratic, b: Quadratic, z: Duo, x: Slope, f4: Residue, m: Modulus) -> Duo
+// The new u: only its top coefficients are looked at, since it divides. z is what `chord` inverted with, so that t·(t - 2 z1) + z0 is at hand.
+pub fn new_u(a: Quadratic, b: Quadratic, z: Duo, x: Slope, f4: Residue, m: Modulus) -> Duo
     requires { ⌜ Held m (Divisor.Two a) × (Held m (Divisor.Two b) × (KeptDuo m z × (Apart m a b z × (KeptSlope m x × Kept m f4)))) ⌝ }
     ensures { λ r. ⌜ Quotient m a b x f4 r ⌝ }
 {
@@ -91,7 +91,7 @@ pub fn quotient(a: Quadratic, b: Quadratic, z: Duo, x: Slope, f4: Residue, m: Mo
 }
 
 // The new v, and all of it settled.
-pub fn rest(a: Quadratic, x: Slope, n: Duo, m: Modulus) -> Quadratic
+pub fn new_v(a: Quadratic, x: Slope, n: Duo, m: Modulus) -> Quadratic
     requires { ⌜ Held m (Divisor.Two a) × (KeptSlope m x × KeptDuo m n) ⌝ }
     ensures { λ r. ⌜ Rest m a x n r ⌝ }
 {
@@ -125,8 +125,8 @@ pub fn line(a: Quadratic, b: Quadratic, s: Residue, f4: Residue, m: Modulus) -> 
     Linear { u0: u0, v0: v0 }
 }
 
-// i · 2 v is r modulo u: i inverts v alone, up to r / 2, so that y = v1² serves here and in `right`.
-pub fn tangent(a: Quadratic, y: Residue, m: Modulus) -> Bezout
+// i · 2 v is r modulo u: i inverts v alone, up to r / 2, so that y = v1² serves here and in `cofactor_mod_u`.
+pub fn invert_twice_v(a: Quadratic, y: Residue, m: Modulus) -> Bezout
     requires { ⌜ Held m (Divisor.Two a) × Square m a y ⌝ }
     ensures { λ r. ⌜ Inverted m (twice m a) a r ⌝ }
 {
@@ -139,7 +139,14 @@ pub fn tangent(a: Quadratic, y: Residue, m: Modulus) -> Bezout
 }
 
 // (f - v²) / u modulo u.
-pub fn right(a: Quadratic, y: Residue, f2: Residue, f3: Residue, f4: Residue, m: Modulus) -> Duo
+pub fn cofactor_mod_u(
+    a: Quadratic,
+    y: Residue,
+    f2: Residue,
+    f3: Residue,
+    f4: Residue,
+    m: Modulus,
+) -> Duo
     requires { ⌜ Held m (Divisor.Two a) × (Square m a y × (Kept m f2 × (Kept m f3 × Kept m f4))) ⌝ }
     ensures { λ r. ⌜ Right m a f2 f3 f4 r ⌝ }
 {
@@ -153,7 +160,7 @@ pub fn right(a: Quadratic, y: Residue, f2: Residue, f3: Residue, f4: Residue, m:
 }
 
 // The new u of a pair with itself.
-pub fn quotient_twice(a: Quadratic, x: Slope, f4: Residue, m: Modulus) -> Duo
+pub fn new_u_twice(a: Quadratic, x: Slope, f4: Residue, m: Modulus) -> Duo
     requires { ⌜ Held m (Divisor.Two a) × (KeptSlope m x × Kept m f4) ⌝ }
     ensures { λ r. ⌜ Quotient m a a x f4 r ⌝ }
 {

@@ -1,11 +1,11 @@
-// Genus 3 by formula, from s' / r to the sum, above `opens3`: steps 5 to 11 of source 004's table 1 (addition) and 6 to 12 of its table 2 (doubling), for
+// Genus 3 by formula, from s' / r to the sum, above `sum_genus3_open`: steps 5 to 11 of source 004's table 1 (addition) and 6 to 12 of its table 2 (doubling), for
 // any f_6, where the tables have 0: it enters the first quotient's last coefficient and the answer's u_2, and no other. Each step promises an equation of K[x]; (u, v) is the pair a, the base; b is
 // the other one. The two tables differ here only in the first quotient.
 // The letters w, s, z (table 2: g) and t are the tables'; n and m stand for their u and v with a tilde. Misprints mended: in step 8 of table 1, t2, t3 and
 // t4 stand before the coefficients 3 and 2 that they use; the headings of table 1's steps 9 and 11 and of table 2's 10 and 12 write u for v, and that of
 // step 9 degree 2 for 3.
-// With `opens3` a sum takes 73 products and 5 squares under 47 reductions, a double 67 and 9 under 48: schoolbook, by twos under one reduction, where
-// Toom's 70 products each want their own. One inverse stands between `open` and `close`, so that sums side by side can share it.
+// With `sum_genus3_open` a sum takes 73 products and 5 squares under 47 reductions, a double 67 and 9 under 48: schoolbook, by twos under one reduction, where
+// Toom's 70 products each want their own. One inverse stands between `chord` and `close`, so that sums side by side can share it.
 ghost use Rattle.algebra.proofs.poly.Poly.{poly};
 ghost use Rattle.field.specs.Residues.{Good, Kept};
 ghost use Rattle.divisor.specs.Divisors.{Held};
@@ -46,7 +46,7 @@ pub struct Slope {
 }
 
 // s' / r = w · S and wi = 1 / w, given i = 1 / (r · s'2).
-pub fn divide(o: Opened, i: Residue, m: Modulus) -> Slope
+fn divide(o: Opened, i: Residue, m: Modulus) -> Slope
     requires { ⌜ Divisible m o i ⌝ }
     ensures { λ x. ⌜ Slopes m o x ⌝ }
 {
@@ -64,7 +64,7 @@ pub fn divide(o: Opened, i: Residue, m: Modulus) -> Slope
 }
 
 // S · u.
-pub fn stretch(a: Cubic, x: Slope, m: Modulus) -> Five
+fn stretch(a: Cubic, x: Slope, m: Modulus) -> Five
     requires { ⌜ Held m (Divisor.Three a) × KeptSlope m x ⌝ }
     ensures { λ z. ⌜ Stretched m a x z ⌝ }
 {
@@ -83,7 +83,7 @@ pub fn stretch(a: Cubic, x: Slope, m: Modulus) -> Five
 }
 
 // The first quotient, from the top down, in the right order. What is divided is known to be a multiple, so its top coefficients are enough.
-pub fn quotient(a: Cubic, b: Cubic, x: Slope, z: Five, f6: Residue, m: Modulus) -> Four
+fn new_u(a: Cubic, b: Cubic, x: Slope, z: Five, f6: Residue, m: Modulus) -> Four
     requires { ⌜ Held m (Divisor.Three a) × (Held m (Divisor.Three b) × (KeptSlope m x × (KeptFive m z × Kept m f6))) ⌝ }
     ensures { λ n. ⌜ Quotient m f6 a b x (quinticOf m z) n ⌝ }
 {
@@ -110,7 +110,7 @@ pub fn quotient(a: Cubic, b: Cubic, x: Slope, z: Five, f6: Residue, m: Modulus) 
 }
 
 // The same of a pair with itself: S² is divided off.
-pub fn quotient_twice(a: Cubic, x: Slope, f6: Residue, m: Modulus) -> Four
+fn new_u_twice(a: Cubic, x: Slope, f6: Residue, m: Modulus) -> Four
     requires { ⌜ Held m (Divisor.Three a) × (KeptSlope m x × Kept m f6) ⌝ }
     ensures { λ n. ⌜ Quotient m f6 a a x (poly (K m) .mul (slopeOf m x) (uOf m a)) n ⌝ }
 {
@@ -132,7 +132,7 @@ pub fn quotient_twice(a: Cubic, x: Slope, f6: Residue, m: Modulus) -> Four
 }
 
 // v + s · u modulo it; its opposite belongs to the pair, and the second step turns the sign back.
-pub fn rest(a: Cubic, x: Slope, z: Five, n: Four, m: Modulus) -> Four
+fn new_v(a: Cubic, x: Slope, z: Five, n: Four, m: Modulus) -> Four
     requires { ⌜ Held m (Divisor.Three a) × (KeptSlope m x × (KeptFive m z × KeptFour m n)) ⌝ }
     ensures { λ t. ⌜ Rest m a x z n t ⌝ }
 {
@@ -150,7 +150,7 @@ pub fn rest(a: Cubic, x: Slope, z: Five, n: Four, m: Modulus) -> Four
 }
 
 // The second step, settled: u = (f - t²) / n, v = t modulo u.
-pub fn second(n: Four, t: Four, f4: Residue, f5: Residue, f6: Residue, m: Modulus) -> Cubic
+fn second(n: Four, t: Four, f4: Residue, f5: Residue, f6: Residue, m: Modulus) -> Cubic
     requires { ⌜ Good m × (KeptFour m n × (KeptFour m t × (Kept m f4 × (Kept m f5 × Kept m f6)))) ⌝ }
     ensures { λ d. ⌜ Second m n t f4 f5 f6 d ⌝ }
 {
@@ -190,13 +190,13 @@ pub fn close(
 {
     let y = divide(o, i, m);
     let z = stretch(a, y, m);
-    let n = quotient(a, b, y, z, f6, m);
-    let t = rest(a, y, z, n, m);
+    let n = new_u(a, b, y, z, f6, m);
+    let t = new_v(a, y, z, n, m);
     second(n, t, f4, f5, f6, m)
 }
 
 // The same of a with itself.
-pub fn close_twice(
+fn close_twice(
     a: Cubic,
     o: Opened,
     i: Residue,
@@ -210,8 +210,8 @@ pub fn close_twice(
 {
     let y = divide(o, i, m);
     let z = stretch(a, y, m);
-    let n = quotient_twice(a, y, f6, m);
-    let t = rest(a, y, z, n, m);
+    let n = new_u_twice(a, y, f6, m);
+    let t = new_v(a, y, z, n, m);
     second(n, t, f4, f5, f6, m)
 }
 
@@ -220,7 +220,7 @@ pub fn add(a: Cubic, b: Cubic, f4: Residue, f5: Residue, f6: Residue, m: Modulus
     requires { ⌜ Held m (Divisor.Three a) × (Held m (Divisor.Three b) × (Kept m f4 × (Kept m f5 × Kept m f6))) ⌝ }
     ensures { λ r. ⌜ Sum3 m f4 f5 f6 a b r ⌝ }
 {
-    let o = sum_genus3_open::open(a, b, m);
+    let o = sum_genus3_open::chord(a, b, m);
     let k = sum_formulas::look(o.r, o.s.c2, m);
     match k {
         Condition::Special => Sought::Special,
@@ -239,7 +239,7 @@ pub fn double(a: Cubic, f3: Residue, f4: Residue, f5: Residue, f6: Residue, m: M
     requires { ⌜ Held m (Divisor.Three a) × (Kept m f3 × (Kept m f4 × (Kept m f5 × Kept m f6))) ⌝ }
     ensures { λ r. ⌜ Double3 m f3 f4 f5 f6 a r ⌝ }
 {
-    let o = sum_genus3_open::open_twice(a, f3, f4, f5, f6, m);
+    let o = sum_genus3_open::tangent(a, f3, f4, f5, f6, m);
     let k = sum_formulas::look(o.r, o.s.c2, m);
     match k {
         Condition::Special => Sought::Special,

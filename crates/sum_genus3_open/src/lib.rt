@@ -35,7 +35,7 @@ pub struct Opened {
 }
 
 // i · u is r modulo the other u.
-pub fn invert(a: Cubic, b: Cubic, m: Modulus) -> Bezout
+fn invert_u(a: Cubic, b: Cubic, m: Modulus) -> Bezout
     requires { ⌜ Held m (Divisor.Three a) × Held m (Divisor.Three b) ⌝ }
     ensures { λ x. ⌜ Inverts m (uOf m a) b x ⌝ }
 {
@@ -60,7 +60,7 @@ pub fn invert(a: Cubic, b: Cubic, m: Modulus) -> Bezout
 }
 
 // The other v, less v.
-pub fn gap(a: Cubic, b: Cubic, m: Modulus) -> Tri
+fn v_gap(a: Cubic, b: Cubic, m: Modulus) -> Tri
     requires { ⌜ Held m (Divisor.Three a) × Held m (Divisor.Three b) ⌝ }
     ensures { λ c. ⌜ Gap m a b c ⌝ }
 {
@@ -75,7 +75,7 @@ pub fn gap(a: Cubic, b: Cubic, m: Modulus) -> Tri
 }
 
 // c · i modulo the other u. Only its top is brought below p: that alone is tested for 0.
-pub fn times(c: Tri, x: Bezout, b: Cubic, m: Modulus) -> Tri
+fn times(c: Tri, x: Bezout, b: Cubic, m: Modulus) -> Tri
     requires { ⌜ KeptTri m c × (Inner m b x × Held m (Divisor.Three b)) ⌝ }
     ensures { λ s. ⌜ Times m c x b s ⌝ }
 {
@@ -95,7 +95,7 @@ pub fn times(c: Tri, x: Bezout, b: Cubic, m: Modulus) -> Tri
 }
 
 // i · 2v is r modulo u.
-pub fn tangent(a: Cubic, m: Modulus) -> Bezout
+fn invert_twice_v(a: Cubic, m: Modulus) -> Bezout
     requires { ⌜ Held m (Divisor.Three a) ⌝ }
     ensures { λ x. ⌜ Inverts m (twice m a) a x ⌝ }
 {
@@ -118,7 +118,7 @@ pub fn tangent(a: Cubic, m: Modulus) -> Bezout
 }
 
 // (f - v²) / u modulo u: f0, f1, f2 do not enter.
-pub fn right(a: Cubic, f3: Residue, f4: Residue, f5: Residue, f6: Residue, m: Modulus) -> Tri
+fn cofactor_mod_u(a: Cubic, f3: Residue, f4: Residue, f5: Residue, f6: Residue, m: Modulus) -> Tri
     requires { ⌜ Held m (Divisor.Three a) × (Kept m f3 × (Kept m f4 × (Kept m f5 × Kept m f6))) ⌝ }
     ensures { λ c. ⌜ Right m a f3 f4 f5 f6 c ⌝ }
 {
@@ -142,31 +142,24 @@ pub fn right(a: Cubic, f3: Residue, f4: Residue, f5: Residue, f6: Residue, m: Mo
 }
 
 // r and s' of two divisors. r is 0 where the two u have a common factor.
-pub fn open(a: Cubic, b: Cubic, m: Modulus) -> Opened
+pub fn chord(a: Cubic, b: Cubic, m: Modulus) -> Opened
     requires { ⌜ Held m (Divisor.Three a) × Held m (Divisor.Three b) ⌝ }
     ensures { λ o. ⌜ Opens m a b o ⌝ }
 {
-    let x = invert(a, b, m);
-    let c = gap(a, b, m);
+    let x = invert_u(a, b, m);
+    let c = v_gap(a, b, m);
     let s = times(c, x, b, m);
     let r = x.r;
     Opened { r: r, s: s }
 }
 
 // r and s' of a divisor with itself. r is 0 where u and v have a common factor.
-pub fn open_twice(
-    a: Cubic,
-    f3: Residue,
-    f4: Residue,
-    f5: Residue,
-    f6: Residue,
-    m: Modulus,
-) -> Opened
+pub fn tangent(a: Cubic, f3: Residue, f4: Residue, f5: Residue, f6: Residue, m: Modulus) -> Opened
     requires { ⌜ Held m (Divisor.Three a) × (Kept m f3 × (Kept m f4 × (Kept m f5 × Kept m f6))) ⌝ }
     ensures { λ o. ⌜ OpensTwice m f3 f4 f5 f6 a o ⌝ }
 {
-    let x = tangent(a, m);
-    let c = right(a, f3, f4, f5, f6, m);
+    let x = invert_twice_v(a, m);
+    let c = cofactor_mod_u(a, f3, f4, f5, f6, m);
     let s = times(c, x, a, m);
     let r = x.r;
     Opened { r: r, s: s }

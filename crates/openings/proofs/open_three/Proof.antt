@@ -6,11 +6,11 @@ use Rattle.openings.proofs.open_three.Tie as tie
 use Rattle.openings.proofs.open_three.Reads as reads
 use Rattle.openings.proofs.open_three.Lts as lts
 use Rattle.sum_formulas.proofs.look.Reads as look-reads
-use Rattle.sum_genus3_open.proofs.open.Reads as open-reads
+use Rattle.sum_genus3_open.proofs.chord.Reads as chord-reads
 
 -- src/lib.rt:47:9
-open-requires : tie.Need-open-requires
-open-requires c κs = search needs
+chord-requires : tie.Need-chord-requires
+chord-requires c κs = search needs
 
 -- src/lib.rt:48:9
 look-requires : tie.Need-look-requires
@@ -31,7 +31,7 @@ enum-told-3 c = search needs
 -- src/lib.rt:43:1
 returns : tie.Need-returns
 returns c =
-    let o = c .before .before .before .«open» in
+    let o = c .before .before .before .chord in
     let k = c .before .before .look in
     record {
       from = inl (inl (o .ensures .none (looked-known (c .before .before .before .before .args .c .m) (o .result .r) (o .result .s .c2) (c .enum-told .given .1) (k .ensures))));
@@ -41,7 +41,7 @@ returns c =
 -- src/lib.rt:43:1
 returns-2 : tie.Need-returns-2
 returns-2 c =
-    let o = c .before .before .before .«open» in
+    let o = c .before .before .before .chord in
     let k = c .before .before .look in
     let l = looked-known (c .before .before .before .before .args .c .m) (o .result .r) (o .result .s .c2) (c .enum-told2 .given .1) (k .ensures) in
     record {
@@ -53,7 +53,7 @@ returns-2 c =
 returns-3 : tie.Need-returns-3
 returns-3 c =
     let s = c .before .before .before .before in
-    let o = c .before .before .before .«open» in
+    let o = c .before .before .before .chord in
     let k = c .before .before .look in
     record {
       from = o .ensures;
@@ -64,7 +64,7 @@ pub open-three-spec : {M : Type 1} → statement M
 open-three-spec =
     tie.close
     (tie.spec
-    open-requires
+    chord-requires
     look-requires
     enum-told
     enum-told-2

@@ -13,26 +13,26 @@ divide-requires c κs = search needs
 stretch-requires : tie.Need-stretch-requires
 stretch-requires c κs = search needs
 
-quotient-requires : tie.Need-quotient-requires
-quotient-requires c κs =
+new-u-requires : tie.Need-new-u-requires
+new-u-requires c κs =
     let s = c .before .before in
     (s .pre .0, (s .pre .1 .0, (c .before .divide .ensures .kept, (c .stretch .ensures .kept, s .pre .1 .1 .1 .1 .1))))
 
-rest-requires : tie.Need-rest-requires
-rest-requires c κs = search needs
+new-v-requires : tie.Need-new-v-requires
+new-v-requires c κs = search needs
 
 second-requires : tie.Need-second-requires
 second-requires c κs =
     let s = c .before .before .before .before in
-    (s .pre .0 .good, (c .before .quotient .ensures .kept, (c .rest .ensures .kept, (s .pre .1 .1 .1 .0, s .pre .1 .1 .1 .1))))
+    (s .pre .0 .good, (c .before .new-u .ensures .kept, (c .new-v .ensures .kept, (s .pre .1 .1 .1 .0, s .pre .1 .1 .1 .1))))
 
 returns : tie.Need-returns
 returns c =
     let s = c .before .before .before .before .before in
     let y = c .before .before .before .before .divide in
     let z = c .before .before .before .stretch in
-    let n = c .before .before .quotient in
-    let t = c .before .rest in
+    let n = c .before .before .new-u in
+    let t = c .before .new-v in
     record {
       held = c .second .ensures .held;
       is = ends (s .args .m) (s .args .f4) (s .args .f5) (s .args .f6) (s .args .a) (s .args .b) (s .args .o) (y .result) (y .ensures) (z .result) (z .ensures) (n .result)
@@ -41,4 +41,4 @@ returns c =
     }
 
 pub close-spec : {M : Type 1} → statement M
-close-spec = tie.close (tie.spec divide-requires stretch-requires quotient-requires rest-requires second-requires returns)
+close-spec = tie.close (tie.spec divide-requires stretch-requires new-u-requires new-v-requires second-requires returns)

@@ -9,11 +9,11 @@ divide-requires c κs = search needs
 stretch-requires : tie.Need-stretch-requires
 stretch-requires c κs = search needs
 
-quotient-twice-requires : tie.Need-quotient-twice-requires
-quotient-twice-requires c κs = search needs
+new-u-twice-requires : tie.Need-new-u-twice-requires
+new-u-twice-requires c κs = search needs
 
-rest-requires : tie.Need-rest-requires
-rest-requires c κs = search needs
+new-v-requires : tie.Need-new-v-requires
+new-v-requires c κs = search needs
 
 second-requires : tie.Need-second-requires
 second-requires c κs = search needs
@@ -23,8 +23,8 @@ returns c =
     let s = c .before .before .before .before .before in
     let y = c .before .before .before .before .divide in
     let z = c .before .before .before .stretch in
-    let n = c .before .before .quotient-twice in
-    let t = c .before .rest in
+    let n = c .before .before .new-u-twice in
+    let t = c .before .new-v in
     record {
       held = c .second .ensures .held;
       is = ends (s .args .m) (s .args .f4) (s .args .f5) (s .args .f6) (s .args .a) (s .args .a) (s .args .o) (y .result) (y .ensures) (z .result) (z .ensures) (n .result) (n .ensures)
@@ -32,4 +32,4 @@ returns c =
     }
 
 pub close-twice-spec : {M : Type 1} → statement M
-close-twice-spec = tie.close (tie.spec divide-requires stretch-requires quotient-twice-requires rest-requires second-requires returns)
+close-twice-spec = tie.close (tie.spec divide-requires stretch-requires new-u-twice-requires new-v-requires second-requires returns)

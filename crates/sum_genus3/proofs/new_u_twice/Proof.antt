@@ -1,0 +1,67 @@
+use mathlib.Core.Path.{refl, ap₂, _∙_}
+use Rattle.algebra.proofs.zmod.Zmod.{zmod}
+use Rattle.field.proofs.Laws.{settled-kept}
+use Rattle.sum_formulas.proofs.Close3.{quotient-twice}
+use Rattle.sum_genus3.proofs.new_u_twice.Statement.{statement}
+use Rattle.sum_genus3.proofs.new_u_twice.Tie as tie
+
+dbl-requires : tie.Need-dbl-requires
+dbl-requires c κs = let s = c in s .pre .1 .0 .s1
+
+sqr-requires : tie.Need-sqr-requires
+sqr-requires c κs = let s = c .before in s .pre .1 .0 .s1
+
+dbl-requires-2 : tie.Need-dbl-requires-2
+dbl-requires-2 c κs = let s = c .before .before in s .pre .1 .0 .s0
+
+add-requires : tie.Need-add-requires
+add-requires c κs = (c .before .sqr .ensures .kept, c .dbl2 .ensures .kept)
+
+dbl-requires-3 : tie.Need-dbl-requires-3
+dbl-requires-3 c κs = let s = c .before .before .before .before in settled-kept (s .args .m) (s .pre .0 .v .1 .1 .0)
+
+sub-requires : tie.Need-sub-requires
+sub-requires c κs = let s = c .before .before .before .before .before in (c .dbl3 .ensures .kept, s .pre .1 .0 .wi)
+
+dot-requires : tie.Need-dot-requires
+dot-requires c κs = let s = c .before .before .before .before .before .before in (c .before .before .before .before .before .dbl .ensures .kept, s .pre .1 .0 .s0, s .pre .1 .0 .wi, c .sub .ensures .kept)
+
+sub-requires-2 : tie.Need-sub-requires-2
+sub-requires-2 c κs = let s = c .before .before .before .before .before .before .before in (s .pre .1 .0 .s1, settled-kept (s .args .m) (s .pre .0 .u .1 .1 .0))
+
+dbl-requires-4 : tie.Need-dbl-requires-4
+dbl-requires-4 c κs = let s = c .before .before .before .before .before .before .before .before in settled-kept (s .args .m) (s .pre .0 .u .1 .1 .0)
+
+sub-requires-3 : tie.Need-sub-requires-3
+sub-requires-3 c κs = let s = c .before .before .before .before .before .before .before .before .before in (c .dbl4 .ensures .kept, s .pre .1 .1)
+
+dot-requires-2 : tie.Need-dot-requires-2
+dot-requires-2 c κs = let s = c .before .before .before .before .before .before .before .before .before .before in (c .before .before .sub2 .ensures .kept, c .before .before .before .before .before .dbl3 .ensures .kept, s .pre .1 .0 .wi, c .sub3 .ensures .kept)
+
+dbl-requires-5 : tie.Need-dbl-requires-5
+dbl-requires-5 c κs = let s = c .before .before .before .before .before .before .before .before .before .before .before in settled-kept (s .args .m) (s .pre .0 .v .1 .0)
+
+add-requires-2 : tie.Need-add-requires-2
+add-requires-2 c κs = (c .before .dot2 .ensures .kept, c .dbl5 .ensures .kept)
+
+dot-requires-3 : tie.Need-dot-requires-3
+dot-requires-3 c κs = let s = c .before .before .before .before .before .before .before .before .before .before .before .before .before in (s .pre .1 .0 .s0, s .pre .1 .0 .s0, s .pre .1 .0 .wi, c .add2 .ensures .kept)
+
+returns : tie.Need-returns
+returns c =
+    let s = c .before .before .before .before .before .before .before .before .before .before .before .before .before .before in
+    let K = zmod (s .args .m .p) in
+    record {
+      kept = record { c0 = c .dot3 .ensures .kept; c1 = c .before .before .before .before .before .before .before .dot .ensures .kept; c2 = c .before .before .before .before .before .before .before .before .before .before .add .ensures .kept; c3 = c .before .before .before .before .before .before .before .before .before .before .before .before .before .dbl .ensures .kept };
+      tops = quotient-twice K _ _ _ _ _ _ _ _ _ _ _ _ _ _ _ _
+          (c .before .before .before .before .before .before .before .before .before .before .before .before .before .dbl .ensures .is)
+          (c .before .before .before .before .before .before .before .before .before .before .add .ensures .is ∙ ap₂ (K .add) (c .before .before .before .before .before .before .before .before .before .before .before .before .sqr .ensures .is) (c .before .before .before .before .before .before .before .before .before .before .before .dbl2 .ensures .is))
+          (c .before .before .before .before .before .before .before .before .before .dbl3 .ensures .is)
+          (c .before .before .before .before .before .before .before .dot .ensures .is ∙ ap₂ (K .add) refl (ap₂ (K .mul) refl (c .before .before .before .before .before .before .before .before .sub .ensures .is)))
+          (c .before .add2 .ensures .is ∙ ap₂ (K .add) (c .before .before .before .dot2 .ensures .is ∙ ap₂ (K .add) (ap₂ (K .mul) (c .before .before .before .before .before .before .sub2 .ensures .is) refl) (ap₂ (K .mul) refl (c .before .before .before .before .sub3 .ensures .is ∙ ap₂ (λ s t. K .add s (K .neg t)) (c .before .before .before .before .before .dbl4 .ensures .is) refl))) (c .before .before .dbl5 .ensures .is))
+          (c .dot3 .ensures .is);
+    }
+
+pub new-u-twice-spec : {M : Type 1} → statement M
+new-u-twice-spec =
+    tie.close (tie.spec dbl-requires sqr-requires dbl-requires-2 add-requires dbl-requires-3 sub-requires dot-requires sub-requires-2 dbl-requires-4 sub-requires-3 dot-requires-2 dbl-requires-5 add-requires-2 dot-requires-3 returns)
