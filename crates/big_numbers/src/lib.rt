@@ -15,7 +15,7 @@ pub struct Divided {
 }
 
 // The number of some bytes, with leading zeros.
-pub fn of(s: &[u8]) -> [u8; MOST_SCALAR]
+pub fn from_bytes(s: &[u8]) -> [u8; MOST_SCALAR]
     requires { ⌜ length (now s) ≤ 32 ⌝ }
     ensures { λ r. ⌜ number r ≡ number (now (s .entry)) ⌝ }
 {

@@ -15,9 +15,9 @@ pub fn quicker(c: Curve, a: Divisor, s: &[u8]) -> Multiple
 {
     let g = c.g;
     if g == 2 {
-        return multiple::of(c, a, s);
+        return multiple::by_tuples(c, a, s);
     }
-    multiple_affine::of(c, a, s)
+    multiple_affine::affine(c, a, s)
 }
 
 pub fn multiply(curve: &[u8], a: &[u8], scalar: &[u8], out: &mut [u8]) -> Answer
@@ -42,5 +42,5 @@ pub fn multiply_inversion_free(curve: &[u8], a: &[u8], scalar: &[u8], out: &mut 
     }
     let c = factors.curve;
     let d = factors.divisor;
-    call_factors::write_multiple(multiple::of(c, d, scalar), c.m, out)
+    call_factors::write_multiple(multiple::by_tuples(c, d, scalar), c.m, out)
 }

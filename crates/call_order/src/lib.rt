@@ -53,7 +53,7 @@ fn is_order(c: Curve, a: Divisor, order: &[u8], primes: &[u8]) -> bool
     if refusals::MOST_LISTED < primes.len() {
         return false;
     }
-    let n = big_numbers::of(order);
+    let n = big_numbers::from_bytes(order);
     let low = big_numbers::capped(n);
     if low == 0 {
         return false;

@@ -139,11 +139,11 @@ fn further(c: Curve, a: Divisor, b: Divisor, at: &[u8], r: State, k: usize) -> R
 }
 
 // The highest digit is a itself.
-pub fn of(c: Curve, a: Divisor, s: &[u8]) -> Multiple
+pub fn by_tuples(c: Curve, a: Divisor, s: &[u8]) -> Multiple
     requires { ⌜ ToMultiply c a (now s) ⌝ }
     ensures { λ r. ⌜ Multiplied c a (number (now (s .entry))) r ⌝ }
 {
-    let n = Digits::of(s);
+    let n = Digits::from_bytes(s);
     let length = n.length;
     let nonzeros = n.nonzeros;
     if length == 0 {

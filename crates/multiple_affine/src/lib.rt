@@ -22,11 +22,11 @@ pub fn step(c: Curve, a: Divisor, b: Divisor, r: Divisor, digit: u8) -> Divisor
 }
 
 // The highest digit is a itself, so a doubling is made for each digit below it and an addition for each of these that is nonzero.
-pub fn of(c: Curve, a: Divisor, s: &[u8]) -> Multiple
+pub fn affine(c: Curve, a: Divisor, s: &[u8]) -> Multiple
     requires { ⌜ ToMultiply c a (now s) ⌝ }
     ensures { λ r. ⌜ Multiplied c a (number (now (s .entry))) r ⌝ }
 {
-    let n = Digits::of(s);
+    let n = Digits::from_bytes(s);
     let length = n.length;
     let nonzeros = n.nonzeros;
     if length == 0 {

@@ -43,7 +43,7 @@ struct Counts {
 }
 
 impl Counts {
-    fn of(s: &[u8]) -> Counts
+    fn from_bytes(s: &[u8]) -> Counts
         requires { ⌜ length (now s) ≤ 32 ⌝ }
         ensures { λ r. ⌜ Counted (number (now (s .entry))) r ⌝ }
     {
@@ -68,11 +68,11 @@ impl Counts {
 
 impl Digits {
     // Digit k is bit k and its carry less twice the next carry, which is half of bit k, bit k + 1 and the carry together.
-    pub fn of(s: &[u8]) -> Digits
+    pub fn from_bytes(s: &[u8]) -> Digits
         requires { ⌜ length (now s) ≤ 32 ⌝ }
         ensures { λ r. ⌜ Recoded (number (now (s .entry))) r ⌝ }
     {
-        let counts = Counts::of(s);
+        let counts = Counts::from_bytes(s);
         let mut at: [u8; 257] = [1; 257];
         let end = 8 * s.len() + 1;
         let mut next = bit(s, 0);

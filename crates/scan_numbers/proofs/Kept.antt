@@ -1,4 +1,4 @@
--- What `resumed` and `stored` promise: where each place was read as the element of its number, the divisor has the elements of its numbers; where each
+-- What `residues_of` and `numbers_of` promise: where each place was read as the element of its number, the divisor has the elements of its numbers; where each
 -- was written as the number of its element, it has the numbers of its elements.
 use Prim.Native.Nat.{ℕ, zero, suc, _*_, _≤_, _<_}
 use mathlib.Core.Path.{_≡_, refl, sym, ap₂, _∙_, subst}

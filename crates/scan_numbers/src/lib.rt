@@ -11,7 +11,7 @@ use field::Residue;
 use field::ResidueRead;
 
 // A plain number, below p, as a residue; and back.
-fn entered(r: Residue, m: Modulus) -> Residue
+fn to_residue(r: Residue, m: Modulus) -> Residue
     requires { ⌜ Good m × InRange m r ⌝ }
     ensures { λ x. ⌜ Settles m x (emb (m .p) (raw r)) ⌝ }
 {
@@ -22,14 +22,14 @@ fn entered(r: Residue, m: Modulus) -> Residue
     }
 }
 
-fn left(r: Residue, m: Modulus) -> Residue
+fn to_number(r: Residue, m: Modulus) -> Residue
     requires { ⌜ Settled m r ⌝ }
     ensures { λ x. ⌜ raw x ≡ num (m .p) (el m r) ⌝ }
 {
     Residue::from_raw(r.number(m))
 }
 
-pub fn resumed(d: Divisor, m: Modulus) -> Divisor
+pub fn residues_of(d: Divisor, m: Modulus) -> Divisor
     requires { ⌜ Good m × AllIn m d ⌝ }
     ensures { λ r. ⌜ Resumed m d r ⌝ }
 {
@@ -38,13 +38,13 @@ pub fn resumed(d: Divisor, m: Modulus) -> Divisor
     let mut r = d.row();
     let mut k: usize = 0;
     while k < n {
-        r[k] = entered(r[k], m);
+        r[k] = to_residue(r[k], m);
         k += 1;
     }
     Divisor::of_row(w, r)
 }
 
-pub fn stored(d: Divisor, m: Modulus) -> Divisor
+pub fn numbers_of(d: Divisor, m: Modulus) -> Divisor
     requires { ⌜ Held m d ⌝ }
     ensures { λ r. ⌜ Stored m d r ⌝ }
 {
@@ -53,7 +53,7 @@ pub fn stored(d: Divisor, m: Modulus) -> Divisor
     let mut r = d.row();
     let mut k: usize = 0;
     while k < n {
-        r[k] = left(r[k], m);
+        r[k] = to_number(r[k], m);
         k += 1;
     }
     Divisor::of_row(w, r)

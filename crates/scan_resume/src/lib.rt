@@ -48,7 +48,7 @@ pub fn take_up(c: Curve, d: Divisor, count: u64) -> TakenUp
             divisor: d,
         };
     }
-    let x = scan_numbers::resumed(d, m);
+    let x = scan_numbers::residues_of(d, m);
     if !c.contains(x) {
         return TakenUp {
             number: refusals::RUNNING_TOTAL,

@@ -29,7 +29,7 @@ impl Running {
         let pole = self.pole;
         let m = c.m;
         Running {
-            divisor: scan_numbers::stored(jacobian::sum(c, total, d), m),
+            divisor: scan_numbers::numbers_of(jacobian::sum(c, total, d), m),
             count: n + 1,
             pole: pole,
         }

@@ -3,10 +3,10 @@ use lib.ListN.{getD}
 use borrow.Author.Needs.{needs}
 use native.Mathlib.Omega.{arith}
 use Rattle.scalar.proofs.Counting.{few-ones, few-carried, Reading, reading-begins, reading-turns, reading-ends}
-use Rattle.scalar.proofs.Counts.of.Statement.{statement}
-use Rattle.scalar.proofs.Counts.of.Tie as tie
-use Rattle.scalar.proofs.Counts.of.Reads as reads
-use Rattle.scalar.proofs.Counts.of.Lts as lts
+use Rattle.scalar.proofs.Counts.from_bytes.Statement.{statement}
+use Rattle.scalar.proofs.Counts.from_bytes.Tie as tie
+use Rattle.scalar.proofs.Counts.from_bytes.Reads as reads
+use Rattle.scalar.proofs.Counts.from_bytes.Lts as lts
 use Rattle.scalar.proofs.risen.Reads as risen-reads
 
 abbrev Inv-loop : tie.InvT-loop
@@ -86,8 +86,8 @@ returns c =
     let e = reading-ends (c .before .before .before .args .s .now) (λ i. c .before .before .shared-slice-known .given i .fits) (v .carry) (v .length) (v .nonzeros) (v .i) (v .inv) (c .loop-test .left) in
     record { length-is = e .0; nonzeros-is = e .1 }
 
-pub of-spec : {M : Type 1} → statement M
-of-spec =
+pub from-bytes-spec : {M : Type 1} → statement M
+from-bytes-spec =
     tie.close
     (tie.spec
     Inv-loop

@@ -4,8 +4,8 @@ use Prim.Native.Nat.{_-_}
 use Rattle.divisor.proofs.Laws.{weight-le}
 use Rattle.scan_numbers.proofs.Mapped.{Changing, change-begin, change-on}
 use Rattle.scan_numbers.proofs.Kept.{Leaves, leave-at, stored-is}
-use Rattle.scan_numbers.proofs.stored.Statement.{statement}
-use Rattle.scan_numbers.proofs.stored.Tie as tie
+use Rattle.scan_numbers.proofs.numbers_of.Statement.{statement}
+use Rattle.scan_numbers.proofs.numbers_of.Tie as tie
 
 abbrev Inv-loop : tie.InvT-loop
 Inv-loop m w n r₀ k₀ r k = Changing (Leaves m) w r₀ r k
@@ -25,14 +25,14 @@ row-requires c κs = search needs
 loop-holds : tie.Need-loop-holds Inv-loop μ-loop
 loop-holds c = change-begin (Leaves (c .before .before .args .m)) _ _
 
-mul-left : tie.Need-mul-left Inv-loop μ-loop
-mul-left c = omega (arith, weight-le (c .before .before .before .before .args .d))
+mul-to-number : tie.Need-mul-to-number Inv-loop μ-loop
+mul-to-number c = omega (arith, weight-le (c .before .before .before .before .args .d))
 
-array-copy-out-left : tie.Need-array-copy-out-left Inv-loop μ-loop
-array-copy-out-left c = omega (arith, weight-le (c .before .before .before .before .args .d))
+array-copy-out-to-number : tie.Need-array-copy-out-to-number Inv-loop μ-loop
+array-copy-out-to-number c = omega (arith, weight-le (c .before .before .before .before .args .d))
 
-left-requires : tie.Need-left-requires Inv-loop μ-loop
-left-requires c κs = let s = c .before .before .before .before .before in leave-at (s .args .m) (s .args .d) _ _ (c .before .before .before .row .ensures) (c .before .before .before .before .weight .ensures) (s .pre) (c .before .before .loop .inv) (c .before .loop-test .taken)
+to-number-requires : tie.Need-to-number-requires Inv-loop μ-loop
+to-number-requires c κs = let s = c .before .before .before .before .before in leave-at (s .args .m) (s .args .d) _ _ (c .before .before .before .row .ensures) (c .before .before .before .before .weight .ensures) (s .pre) (c .before .before .loop .inv) (c .before .loop-test .taken)
 
 mul-r : tie.Need-mul-r Inv-loop μ-loop
 mul-r c = omega (arith, weight-le (c .before .before .before .before .before .before .args .d))
@@ -47,7 +47,7 @@ loop-less : tie.Need-loop-less Inv-loop μ-loop
 loop-less c = omega arith
 
 loop-again : tie.Need-loop-again Inv-loop μ-loop
-loop-again c = let s = c .before .before .before .before .before .before in change-on (Leaves (s .args .m)) (s .args .d) _ _ (c .before .before .before .before .row .ensures) (c .before .before .before .before .before .weight .ensures) _ _ (c .before .before .before .loop .inv) _ (c .before .before .loop-test .taken) (c .left .ensures)
+loop-again c = let s = c .before .before .before .before .before .before in change-on (Leaves (s .args .m)) (s .args .d) _ _ (c .before .before .before .before .row .ensures) (c .before .before .before .before .before .weight .ensures) _ _ (c .before .before .before .loop .inv) _ (c .before .before .loop-test .taken) (c .to-number .ensures)
 
 of-row-requires : tie.Need-of-row-requires Inv-loop μ-loop
 of-row-requires c κs = omega (arith, weight-le (c .before .before .before .before .args .d))
@@ -55,8 +55,8 @@ of-row-requires c κs = omega (arith, weight-le (c .before .before .before .befo
 returns : tie.Need-returns Inv-loop μ-loop
 returns c = let s = c .before .before .before .before .before in stored-is (s .args .m) (s .args .d) _ _ (c .before .before .before .row .ensures) (c .before .before .before .before .weight .ensures) _ _ _ (c .before .loop-test .left) (c .of-row .ensures) (c .before .before .loop .inv)
 
-pub stored-spec : {M : Type 1} → statement M
-stored-spec =
+pub numbers-of-spec : {M : Type 1} → statement M
+numbers-of-spec =
     tie.close
     (tie.spec
     Inv-loop
@@ -65,9 +65,9 @@ stored-spec =
     mul-n
     row-requires
     loop-holds
-    mul-left
-    array-copy-out-left
-    left-requires
+    mul-to-number
+    array-copy-out-to-number
+    to-number-requires
     mul-r
     array-set-from-r
     add-k

@@ -4,8 +4,8 @@ use Rattle.rules.specs.Bytes.{number}
 use Rattle.folds.proofs.Counted.{doublings-are, additions-are, no-nonzeros, some-nonzero}
 use Rattle.folds.proofs.Multiplying.{nothing}
 use Rattle.multiple.proofs.Running.{Running, begin, turn, some-at, end}
-use Rattle.multiple.proofs.of.Statement.{statement}
-use Rattle.multiple.proofs.of.Tie as tie
+use Rattle.multiple.proofs.by_tuples.Statement.{statement}
+use Rattle.multiple.proofs.by_tuples.Tie as tie
 
 abbrev Inv-loop : tie.InvT-loop
 Inv-loop c a s length nonzeros at b r₀ k₀ r k = Running c a at length r k
@@ -13,8 +13,8 @@ Inv-loop c a s length nonzeros at b r₀ k₀ r k = Running c a at length r k
 abbrev μ-loop : tie.MeasureT-loop
 μ-loop c a s length nonzeros at b r₀ k₀ r k = k
 
-of-requires : tie.Need-of-requires Inv-loop μ-loop
-of-requires c κs = search needs
+from-bytes-requires : tie.Need-from-bytes-requires Inv-loop μ-loop
+from-bytes-requires c κs = search needs
 
 neutral-requires : tie.Need-neutral-requires Inv-loop μ-loop
 neutral-requires c κs = search needs
@@ -22,7 +22,7 @@ neutral-requires c κs = search needs
 returns : tie.Need-returns Inv-loop μ-loop
 returns c =
     let s = c .before .before .before .before in
-    let n = c .before .before .of in
+    let n = c .before .before .from-bytes in
     let x = number (s .args .s .now) in
     record {
       gives = rw (c .neutral .ensures) (nothing (s .args .c) (s .args .a) x (n .result) (n .ensures) (s .pre .sound) (s .pre .holds) (omega arith));
@@ -40,7 +40,7 @@ sub-k : tie.Need-sub-k Inv-loop μ-loop
 sub-k c = search needs
 
 loop-holds : tie.Need-loop-holds Inv-loop μ-loop
-loop-holds c = let s = c .before .before .before .before .before .before in let n = c .before .before .before .before .of in begin (s .args .c) (s .args .a) (number (s .args .s .now)) (n .result) (n .ensures) (s .pre .sound) (s .pre .holds) (omega arith) (c .keep .result) (c .keep .ensures)
+loop-holds c = let s = c .before .before .before .before .before .before in let n = c .before .before .before .before .from-bytes in begin (s .args .c) (s .args .a) (number (s .args .s .now)) (n .result) (n .ensures) (s .pre .sound) (s .pre .holds) (omega arith) (c .keep .result) (c .keep .ensures)
 
 slice-aggregate-further : tie.Need-slice-aggregate-further Inv-loop μ-loop
 slice-aggregate-further c = search needs
@@ -48,7 +48,7 @@ slice-aggregate-further c = search needs
 further-requires : tie.Need-further-requires Inv-loop μ-loop
 further-requires c κs =
     let s = c .before .before .before .before .before .before .before .before .before in
-    let n = c .before .before .before .before .before .before .before .of in
+    let n = c .before .before .before .before .before .before .before .from-bytes in
     let v = c .before .before .loop in
     (record { sound = s .pre .sound; right = s .pre .holds; opposed = c .before .before .before .before .opposite .ensures; place = omega (arith, v .inv .place, n .ensures .within, n .ensures .room); reaches = v .inv .means }, c .before .loop-test .taken)
 
@@ -56,21 +56,21 @@ loop-less : tie.Need-loop-less Inv-loop μ-loop
 loop-less c = omega (arith, c .further .ensures .less)
 
 loop-again : tie.Need-loop-again Inv-loop μ-loop
-loop-again c = let s = c .before .before .before .before .before .before .before .before .before .before in let n = c .before .before .before .before .before .before .before .before .of in let v = c .before .before .before .loop in turn (s .args .c) (s .args .a) (n .result .at) (n .result .length) (v .r) (v .k) (v .inv) (c .further .result) (c .further .ensures)
+loop-again c = let s = c .before .before .before .before .before .before .before .before .before .before in let n = c .before .before .before .before .before .before .before .before .from-bytes in let v = c .before .before .before .loop in turn (s .args .c) (s .args .a) (n .result .at) (n .result .length) (v .r) (v .k) (v .inv) (c .further .result) (c .further .ensures)
 
 plain-requires : tie.Need-plain-requires Inv-loop μ-loop
-plain-requires c κs = let s = c .before .before .before .before .before .before .before .before in let v = c .before .loop in (s .pre .sound, some-at (s .args .c) (s .args .a) (c .before .before .before .before .before .before .of .result .at) (v .r) (v .k) (v .inv .means))
+plain-requires c κs = let s = c .before .before .before .before .before .before .before .before in let v = c .before .loop in (s .pre .sound, some-at (s .args .c) (s .args .a) (c .before .before .before .before .before .before .from-bytes .result .at) (v .r) (v .k) (v .inv .means))
 
 sub-t18 : tie.Need-sub-t18 Inv-loop μ-loop
 sub-t18 c = search needs
 
 sub-t20 : tie.Need-sub-t20 Inv-loop μ-loop
-sub-t20 c = let n = c .before .before .before .before .before .before .before .of in omega (arith, some-nonzero (number (c .before .before .before .before .before .before .before .before .before .args .s .now)) (n .result .length) (n .ensures .length-is) (omega arith), n .ensures .nonzeros-is)
+sub-t20 c = let n = c .before .before .before .before .before .before .before .from-bytes in omega (arith, some-nonzero (number (c .before .before .before .before .before .before .before .before .before .args .s .now)) (n .result .length) (n .ensures .length-is) (omega arith), n .ensures .nonzeros-is)
 
 returns-2 : tie.Need-returns-2 Inv-loop μ-loop
 returns-2 c =
     let s = c .before .before .before .before .before .before .before .before .before in
-    let n = c .before .before .before .before .before .before .before .of in
+    let n = c .before .before .before .before .before .before .before .from-bytes in
     let v = c .before .before .loop in
     let x = number (s .args .s .now) in
     record {
@@ -79,13 +79,13 @@ returns-2 c =
       additions-is = omega (arith, additions-are x (n .result .nonzeros) (n .ensures .nonzeros-is));
     }
 
-pub of-spec : {M : Type 1} → statement M
-of-spec =
+pub by-tuples-spec : {M : Type 1} → statement M
+by-tuples-spec =
     tie.close
     (tie.spec
     Inv-loop
     μ-loop
-    of-requires
+    from-bytes-requires
     neutral-requires
     returns
     opposite-requires

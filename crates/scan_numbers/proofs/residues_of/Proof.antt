@@ -4,8 +4,8 @@ use Prim.Native.Nat.{_-_}
 use Rattle.divisor.proofs.Laws.{weight-le}
 use Rattle.scan_numbers.proofs.Mapped.{Changing, change-begin, change-on}
 use Rattle.scan_numbers.proofs.Kept.{Enters, enter-at, resumed-is}
-use Rattle.scan_numbers.proofs.resumed.Statement.{statement}
-use Rattle.scan_numbers.proofs.resumed.Tie as tie
+use Rattle.scan_numbers.proofs.residues_of.Statement.{statement}
+use Rattle.scan_numbers.proofs.residues_of.Tie as tie
 
 abbrev Inv-loop : tie.InvT-loop
 Inv-loop m w n r₀ k₀ r k = Changing (Enters m) w r₀ r k
@@ -25,14 +25,14 @@ row-requires c κs = search needs
 loop-holds : tie.Need-loop-holds Inv-loop μ-loop
 loop-holds c = change-begin (Enters (c .before .before .args .m)) _ _
 
-mul-entered : tie.Need-mul-entered Inv-loop μ-loop
-mul-entered c = omega (arith, weight-le (c .before .before .before .before .args .d))
+mul-to-residue : tie.Need-mul-to-residue Inv-loop μ-loop
+mul-to-residue c = omega (arith, weight-le (c .before .before .before .before .args .d))
 
-array-copy-out-entered : tie.Need-array-copy-out-entered Inv-loop μ-loop
-array-copy-out-entered c = omega (arith, weight-le (c .before .before .before .before .args .d))
+array-copy-out-to-residue : tie.Need-array-copy-out-to-residue Inv-loop μ-loop
+array-copy-out-to-residue c = omega (arith, weight-le (c .before .before .before .before .args .d))
 
-entered-requires : tie.Need-entered-requires Inv-loop μ-loop
-entered-requires c κs = let s = c .before .before .before .before .before in (s .pre .0, enter-at (s .args .m) (s .args .d) _ _ (c .before .before .before .row .ensures) (c .before .before .before .before .weight .ensures) (s .pre .1) (c .before .before .loop .inv) (c .before .loop-test .taken))
+to-residue-requires : tie.Need-to-residue-requires Inv-loop μ-loop
+to-residue-requires c κs = let s = c .before .before .before .before .before in (s .pre .0, enter-at (s .args .m) (s .args .d) _ _ (c .before .before .before .row .ensures) (c .before .before .before .before .weight .ensures) (s .pre .1) (c .before .before .loop .inv) (c .before .loop-test .taken))
 
 mul-r : tie.Need-mul-r Inv-loop μ-loop
 mul-r c = omega (arith, weight-le (c .before .before .before .before .before .before .args .d))
@@ -47,7 +47,7 @@ loop-less : tie.Need-loop-less Inv-loop μ-loop
 loop-less c = omega arith
 
 loop-again : tie.Need-loop-again Inv-loop μ-loop
-loop-again c = let s = c .before .before .before .before .before .before in change-on (Enters (s .args .m)) (s .args .d) _ _ (c .before .before .before .before .row .ensures) (c .before .before .before .before .before .weight .ensures) _ _ (c .before .before .before .loop .inv) _ (c .before .before .loop-test .taken) (c .entered .ensures)
+loop-again c = let s = c .before .before .before .before .before .before in change-on (Enters (s .args .m)) (s .args .d) _ _ (c .before .before .before .before .row .ensures) (c .before .before .before .before .before .weight .ensures) _ _ (c .before .before .before .loop .inv) _ (c .before .before .loop-test .taken) (c .to-residue .ensures)
 
 of-row-requires : tie.Need-of-row-requires Inv-loop μ-loop
 of-row-requires c κs = omega (arith, weight-le (c .before .before .before .before .args .d))
@@ -55,8 +55,8 @@ of-row-requires c κs = omega (arith, weight-le (c .before .before .before .befo
 returns : tie.Need-returns Inv-loop μ-loop
 returns c = let s = c .before .before .before .before .before in resumed-is (s .args .m) (s .args .d) _ _ (c .before .before .before .row .ensures) (c .before .before .before .before .weight .ensures) _ _ _ (c .before .loop-test .left) (c .of-row .ensures) (s .pre .0) (c .before .before .loop .inv)
 
-pub resumed-spec : {M : Type 1} → statement M
-resumed-spec =
+pub residues-of-spec : {M : Type 1} → statement M
+residues-of-spec =
     tie.close
     (tie.spec
     Inv-loop
@@ -65,9 +65,9 @@ resumed-spec =
     mul-n
     row-requires
     loop-holds
-    mul-entered
-    array-copy-out-entered
-    entered-requires
+    mul-to-residue
+    array-copy-out-to-residue
+    to-residue-requires
     mul-r
     array-set-from-r
     add-k

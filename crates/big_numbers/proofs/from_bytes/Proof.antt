@@ -3,8 +3,8 @@ use borrow.Author.Needs.{needs}
 use Prim.Native.Nat.{_-_}
 use lib.ListN.{length}
 use Rattle.big_numbers.proofs.Numbers.{Copied, copy-begin, copy-turn, copy-end}
-use Rattle.big_numbers.proofs.of.Statement.{statement}
-use Rattle.big_numbers.proofs.of.Tie as tie
+use Rattle.big_numbers.proofs.from_bytes.Statement.{statement}
+use Rattle.big_numbers.proofs.from_bytes.Tie as tie
 
 abbrev Inv-loop : tie.InvT-loop
 Inv-loop s n₀ from k₀ n k = Copied s n from k
@@ -39,8 +39,8 @@ loop-again c = let v = c .before .before .loop in copy-turn (c .before .before .
 returns : tie.Need-returns Inv-loop μ-loop
 returns c = let v = c .before .loop in copy-end (c .before .before .args .s .now) (v .n) _ (v .k) (v .inv) (omega (arith, c .before .before .pre)) (c .loop-test .left)
 
-pub of-spec : {M : Type 1} → statement M
-of-spec =
+pub from-bytes-spec : {M : Type 1} → statement M
+from-bytes-spec =
     tie.close
     (tie.spec
     Inv-loop

@@ -2,11 +2,11 @@ use borrow.Author.Needs.{needs}
 use Prim.Native.Nat.{_-_}
 use native.Mathlib.Omega.{arith}
 use Rattle.scalar.proofs.Recoding.{Recoding, begin, turn, recoded}
-use Rattle.scalar.proofs.Digits.of.Statement.{statement}
-use Rattle.scalar.proofs.Digits.of.Tie as tie
-use Rattle.scalar.proofs.Digits.of.Reads as reads
-use Rattle.scalar.proofs.Digits.of.Lts as lts
-use Rattle.scalar.proofs.Counts.of.Reads as of-reads
+use Rattle.scalar.proofs.Digits.from_bytes.Statement.{statement}
+use Rattle.scalar.proofs.Digits.from_bytes.Tie as tie
+use Rattle.scalar.proofs.Digits.from_bytes.Reads as reads
+use Rattle.scalar.proofs.Digits.from_bytes.Lts as lts
+use Rattle.scalar.proofs.Counts.from_bytes.Reads as from-bytes-reads
 use Rattle.scalar.proofs.bit.Reads as bit-reads
 
 abbrev Inv-loop : tie.InvT-loop
@@ -16,8 +16,8 @@ abbrev μ-loop : tie.MeasureT-loop
 μ-loop s counts at₀ end next₀ carry₀ k₀ at next carry k = end - k
 
 -- src/lib.rt:75:13
-of-requires : tie.Need-of-requires Inv-loop μ-loop
-of-requires c κs = search needs
+from-bytes-requires : tie.Need-from-bytes-requires Inv-loop μ-loop
+from-bytes-requires c κs = search needs
 
 -- src/lib.rt:77:19
 mul-end : tie.Need-mul-end Inv-loop μ-loop
@@ -85,15 +85,15 @@ loop-again c =
 returns : tie.Need-returns Inv-loop μ-loop
 returns c =
     let v = c .before .loop in
-    recoded (c .before .before .before .before .before .args .s .now) (v .at) (v .next) (v .carry) (v .k) (v .inv) (c .before .before .before .before .before .pre) (λ i. c .before .before .before .before .shared-slice-known .given i .fits) (c .loop-test .left) (c .before .before .before .of .result) (c .before .before .before .of .ensures)
+    recoded (c .before .before .before .before .before .args .s .now) (v .at) (v .next) (v .carry) (v .k) (v .inv) (c .before .before .before .before .before .pre) (λ i. c .before .before .before .before .shared-slice-known .given i .fits) (c .loop-test .left) (c .before .before .before .from-bytes .result) (c .before .before .before .from-bytes .ensures)
 
-pub of-spec : {M : Type 1} → statement M
-of-spec =
+pub from-bytes-spec : {M : Type 1} → statement M
+from-bytes-spec =
     tie.close
     (tie.spec
     Inv-loop
     μ-loop
-    of-requires
+    from-bytes-requires
     mul-end
     add-end
     bit-requires

@@ -1,8 +1,8 @@
 use native.Mathlib.Omega.{arith}
 use Rattle.field.proofs.Read.{read-below, read-above}
 use borrow.Author.Needs.{needs}
-use Rattle.scan_numbers.proofs.entered.Statement.{statement}
-use Rattle.scan_numbers.proofs.entered.Tie as tie
+use Rattle.scan_numbers.proofs.to_residue.Statement.{statement}
+use Rattle.scan_numbers.proofs.to_residue.Tie as tie
 
 to-raw-requires : tie.Need-to-raw-requires
 to-raw-requires c κs = search needs
@@ -22,6 +22,6 @@ returns c = read-below _ _ _ _ _ (c .before .before .before .read .ensures) (c .
 returns-2 : tie.Need-returns-2
 returns-2 c = absurd (omega (arith, c .before .before .before .before .pre .1 .below, read-above _ _ _ _ (c .before .before .read .ensures) (c .enum-told .given .1) (c .before .before .before .to-raw .ensures)))
 
-pub entered-spec : {M : Type 1} → statement M
-entered-spec =
+pub to-residue-spec : {M : Type 1} → statement M
+to-residue-spec =
     tie.close (tie.spec to-raw-requires read-requires enum-known-read enum-told returns returns-2)
