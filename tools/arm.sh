@@ -111,6 +111,22 @@ mv "$room/arm.o" "$room/$("$kit/$own/toolchain/bin/llvm-ar" t "$room/before.a")"
 mv "$room/arm.a" "$arm/libtablet.a"
 say "$arm/libtablet.a, by $("$clang" --version | head -n 1) for $triple"
 
+# A frame of a page or more is touched page by page before anything else: behind a branch the registers of that loop could be in use (docs/DECISIONS.md, 46).
+probes() {
+    awk '
+        /^[0-9a-f]+ <.*>:$/ { name = $2; gsub(/^<|>:$/, "", name); left = "" }
+        /^ *[0-9a-f]+:\t/ {
+            if (left && $0 ~ /\tsub\tsp, sp, #0x[0-9a-f]+, lsl #12/) { print name ": touches its stack behind " left; bad = 1 }
+            if ($2 ~ /^(b|br|bl|blr|ret|cbn?z|tbn?z|b\..*)$/) { left = $2 }
+        }
+        END { exit bad }'
+}
+if printf '0000 <early>:\n   0:\tcbz\tx0, 40 <early+0x40>\n   4:\tsub\tsp, sp, #0x1, lsl #12\n' | probes >/dev/null; then
+    fail "the check of the stack sees no fault where there is one"
+fi
+aarch64-linux-gnu-objdump -d --no-show-raw-insn "$arm/libtablet.a" >"$room/listing"
+probes <"$room/listing" || fail "a function touches its stack behind a branch"
+
 # The tests: on this machine's own processor where that is an Arm, otherwise emulated.
 c_program hostile
 wanted=$("${emulator[@]}" target/foreign/hostile) || fail "hostile calls failed on x86-64: $wanted"

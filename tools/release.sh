@@ -23,7 +23,7 @@ want cmake cmake
 want pkg-config pkg-config
 library
 for name in tally census; do made target/bin/$name $name rt check $name; done
-[ "${1:-}" != --arm ] || bash tools/arm.sh
+[ "${1:-}" != --arm ] || env -u YUBI_LIB_DIR bash tools/arm.sh
 
 version=$(cat VERSION)
 templates=bindings/dist
