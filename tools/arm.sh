@@ -145,11 +145,8 @@ printed=$("${emulator[@]}" "$arm/example") || fail "case P was refused"
 [ "$printed" = "$(cat crates/tally/stdout)" ] || fail "that isn't case P: $printed"
 say "case P"
 
-needed=$(aarch64-linux-gnu-nm -u "$arm/libtablet.a" | sed -n 's/^ *U //p' | sort -u | paste -sd' ')
-case $needed in
-"memcpy memset" | "memcpy memmove memset") say "from C's library it needs $needed" ;;
-*) fail "the library needs $needed" ;;
-esac
+needed=$(needs aarch64-linux-gnu-nm "$arm/libtablet.a")
+[ "$needed" = "memcpy memset" ] || fail "the library needs $needed"
 aarch64-linux-gnu-gcc -shared -nostdlib -Wl,-z,text -Wl,--whole-archive "$arm/libtablet.a" -Wl,--no-whole-archive -o "$room/libtablet.so" ||
     fail "it doesn't make a shared object without relocations in its code"
 

@@ -157,6 +157,9 @@ vectors_hold() {
     say "$held lines of vectors, all as expected"
 }
 
+# needs NM LIBRARY: what the library doesn't have itself.
+needs() { "$1" -u "$2" | sed -n 's/^ *U //p' | sort -u | paste -sd' '; }
+
 # rust_program NAME: builds bindings/NAME with both engines, by rustc alone, to target/foreign/NAME.
 rust_program() {
     local name=$1 to=target/foreign

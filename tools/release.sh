@@ -5,7 +5,7 @@
 #     bash tools/release.sh --arm     that, and for 64-bit Arm Linux the library and its header (tools/arm.sh)
 #
 # makes target/dist/yubisorade-VERSION-TRIPLE and a .tar.gz of it, with files for pkg-config and CMake, an example, checksums, the version and the
-# toolchain's own (`rt version`). The same sources and toolchain make the same bytes. Then it unpacks each outside this checkout, with no rt on the PATH,
+# toolchain's own (`rt version`); target/dist/SHA256SUMS has the archives' own checksums. The same sources and toolchain make the same bytes. Then it unpacks each outside this checkout, with no rt on the PATH,
 # and builds the example by make, by CMake and by hand and runs the programs: exit 1 where one doesn't print what it must.
 set -eu
 unset CDPATH
@@ -21,6 +21,8 @@ want_c
 want make make
 want cmake cmake
 want pkg-config pkg-config
+nm="nm"
+[ ${#emulator[@]} = 0 ] || nm=x86_64-linux-gnu-nm
 library
 for name in tally census; do made target/bin/$name $name rt check $name; done
 [ "${1:-}" != --arm ] || env -u YUBI_LIB_DIR bash tools/arm.sh
@@ -120,8 +122,12 @@ The programs, in a folder with the files curve and batch, or with a file curve:
 
   cd HERE/example/case-p && HERE/bin/tally     the three lines above
   cd HERE/example/case-p && HERE/bin/census    every valid divisor of the curve, a record a line
+
+What they refuse is one line, refused NUMBER PLACE: the header says what each number means and what to do.
 '
 proved="Each function of the library and of the programs was proved to meet its contract, to do nothing undefined and to end, before it was compiled."
+needed=$(needs "$nm" target/staticlib/libtablet.a)
+[ "$needed" = "memcpy memset" ] || fail "the library needs $needed"
 laid target/staticlib/libtablet.a
 tried "${emulator[@]}"
 
@@ -145,4 +151,6 @@ x86-64 library, but for the lines that say how a struct is handed over on Arm; i
     laid target/arm/libtablet.a
     if [ "$(uname -m)" = aarch64 ]; then tried; else tried qemu-aarch64; fi
 fi
-say "$(find "$dist" -name '*.tar.gz' | wc -l) archives in target/dist with $files files; $ways ways to use them, all of which print what they must"
+(cd "$dist" && sha256sum ./*.tar.gz | sed 's, \./, ,') >"$room/sums"
+mv "$room/sums" "$dist/SHA256SUMS"
+say "in target/dist: archives $(wc -l <"$dist/SHA256SUMS"), files $files, ways to use them $ways, all of which print what they must"
