@@ -53,7 +53,7 @@ impl RunningTotal {
     ///
     /// # Errors
     /// 15 where the total is another curve's; 14 where it holds 4,096 already; 8 where the scan has under 4 bytes; 20,
-    /// [`Refusal::OtherPole`], where it is for another pole; 8 to 11 for its record. The place is always 1.
+    /// [`Refusal::OtherPole`], where it is for another pole; 8 to 11 for its record, with place 1. The total stays as it was.
     pub fn scan(&mut self, curve: &Curve, scan: &[u8]) -> Result<(), Refusal> {
         calls::scan(&mut self.0, curve.record(), scan)
     }
