@@ -23,6 +23,7 @@ check() {
 }
 
 check 'the pages and the tree' python3 tools/check/docs.py
+check 'a lie in a page is seen' python3 tools/check/lies.py
 # Where a library is there: that of YUBI_LIB_DIR, or the one that `rt staticlib tablet` wrote.
 if [ -f "${YUBI_LIB_DIR:-target/staticlib}/libtablet.a" ]; then
     check 'the lines of C in README.md' bash tools/check/readme.sh

@@ -251,7 +251,7 @@ def outside():
     for folder in ("include", "bindings", "tools", "bin", "demo", "docs"):
         for path in glob.glob(os.path.join(ROOT, folder, "**"), recursive=True):
             found |= {os.path.basename(path), os.path.basename(path).split(".")[0]}
-            if path.endswith((".h", ".c", ".rs", ".sh", ".py")) and not path.endswith("docs.py"):
+            if path.endswith((".h", ".c", ".rs", ".sh", ".py")) and not path.endswith(("docs.py", "lies.py")):
                 found |= set(re.findall(r"[\w-]+", text(path)))
     return found
 
