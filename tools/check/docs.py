@@ -145,7 +145,7 @@ def check_rule_edits():
 def check_rule_files():
     """The sentence on the edits of rules by file: `N change specs/FILE`, further ones `N FILE`."""
     stated = re.search(r"Of the edits of `rules` (.*?)\.", flowing("docs/proofs/CALLS.md"))
-    said = {file: value(n) for n, file in re.findall(NUMBER + r" (?:changes? )?(?:specs/)?([A-Z]\w+)", stated.group(1))} if stated else {}
+    said = {file: value(n) for n, file in re.findall(NUMBER + r" (?:changes? )?(?:specs/)?((?:[a-z]\w*/)*[A-Z]\w+)", stated.group(1))} if stated else {}
     differ("CALLS.md, edits of rules by file of specs/", {file: n for file, n in said.items() if n}, counts.edits_of("rules"))
 
 
@@ -333,7 +333,7 @@ def check_tour():
         for name in re.findall(r"`([^`]+)`", step):
             if re.split(r"[.:]+", name)[-1] not in stand and name not in CRATES and not name.startswith("&"):
                 wrong.append("TOUR.md names `%s`, and it doesn't stand in %s" % (name, ", ".join(files) or "a file of its step"))
-    rows = re.findall(r"^\| (\d+) \| `(\w+)::(\w+)` \| .* \| (.*) \|$", text("docs/TOUR.md"), re.M)
+    rows = re.findall(r"^\| (\d+) \| `(\w+)::([\w:]+)` \| .* \| (.*) \|$", text("docs/TOUR.md"), re.M)
     if not rows or len(rows) > 18 or len({crate for _, crate, _, _ in rows}) > 18:
         wrong.append("TOUR.md's addition has %d rows and %d crates, and 1 to 18 are wanted" % (len(rows), len({crate for _, crate, _, _ in rows})))
     specs = set().union(*(names for path, names in DEFINED.items() if "/specs/" in path or "/proofs/" in path))
