@@ -1,20 +1,20 @@
 -- Calls that begin with a curve and one divisor: each rule goes on from `one-rule`, so what stops that stops the call, with the same number and
 -- place.
 use Prim.Native.Nat.{ℕ}
-use mathlib.Core.Path.{_≡_, refl, sym, ap, ap₂, _∙_, subst}
+use mathlib.Core.Path.{_≡_, refl, ap, _∙_}
 use mathlib.Core.Bool.{true}
 use mathlib.Core.List.{List}
-use native.Mathlib.Omega.{arith}
 use Rattle.rules.specs.Checks.{Checked, refused, taken, go-on}
 use Rattle.rules.specs.Records.{CurveRecord, PairOf, read-curve, read-divisor}
-use Rattle.rules.proofs.calls.Refusals.{on-taken, on-refused, divisor-numbered}
+use Rattle.rules.proofs.calls.Refusals.{on-taken, on-refused}
 use Rattle.divisor.specs.declared.Divisor.{Divisor}
-use Rattle.record_curve.specs.declared.CurveRead.{CurveRead}
+use Rattle.curve.specs.declared.Curve.{Curve}
+use Rattle.record_curve.specs.declared.CurveRead.the-variants.{Taken as TakenCurve, Refused as RefusedCurve}
 use Rattle.record_divisor.specs.declared.DivisorRead.the-variants.{Taken, Refused}
 use Rattle.curve.specs.Record.{recordOf}
 use Rattle.record_curve.specs.Read.{CurveIs}
 use Rattle.record_divisor.specs.Read.{DivisorIs}
-use Rattle.call_answer.specs.declared.CurveAndDivisor.{CurveAndDivisor}
+use Rattle.call_answer.specs.declared.CurveAndDivisor.the-variants.{Taken as TakenFirst, Refused as RefusedFirst}
 use Rattle.call_answer.specs.Answers.{FirstRead, one-rule, OneIs}
 
 -- a divisor checked on a curve that was taken, then `go`
@@ -38,34 +38,20 @@ module _ {B : Type 0} (go : FirstRead → Checked B) (s a : List ℕ) where
   one-goes x e = both go a (read-curve s) ∙ on-taken _ go e
 
 -- ---- what `read_curve_and_divisor` answers
-module _ (s a : List ℕ) (x : CurveAndDivisor) where
-  pub one-none : (r : CurveRead) → CurveIs s r → (r .number ≡ 0 → ⊥) → x .number ≡ r .number → x .place ≡ 0 → OneIs s a x
-  one-none r h n e p = record {
-    sound = λ z. absurd (n (sym e ∙ z));
-    holds = λ z. absurd (n (sym e ∙ z));
-    takes = λ z. absurd (n (sym e ∙ z));
-    refuses = λ z. ap (λ t. go-on t (λ c. go-on (read-divisor c 1 a) (λ y. taken (c, y)))) (h .refuses n) ∙ ap₂ refused (sym e) (sym p);
-  }
+module _ (s a : List ℕ) where
+  pub one-none : {n : ℕ} → CurveIs s (RefusedCurve n) → OneIs s a (RefusedFirst n 0)
+  one-none h = ap (λ t. go-on t (λ c. go-on (read-divisor c 1 a) (λ y. taken (c, y)))) h
 
-  module _ (r : CurveRead) (h : CurveIs s r) (z : r .number ≡ 0) where
-    first : one-rule s a ≡ go-on (read-divisor (recordOf (r .curve)) 1 a) (λ y. taken (recordOf (r .curve), y))
-    first = ap (λ t. go-on t (λ c. go-on (read-divisor c 1 a) (λ y. taken (c, y)))) (h .takes z)
+  module _ (c : Curve) (h : CurveIs s (TakenCurve c)) where
+    first : one-rule s a ≡ go-on (read-divisor (recordOf c) 1 a) (λ y. taken (recordOf c, y))
+    first = ap (λ t. go-on t (λ c. go-on (read-divisor c 1 a) (λ y. taken (c, y)))) (h .1)
 
-    pub one-taken : (d : Divisor) → DivisorIs (r .curve) true a 0 (Taken d) → x ≡ record { number = 0; place = 0; curve = r .curve; divisor = d } → OneIs s a x
-    one-taken d k e = subst (OneIs s a) (sym e) (record {
-      sound = λ q. h .sound z;
-      holds = λ q. k .0;
-      takes = λ q. first ∙ ap (λ t. go-on t (λ y. taken (recordOf (r .curve), y))) (k .1 1);
-      refuses = λ q. absurd (q refl);
-    })
+    pub one-taken : (d : Divisor) → DivisorIs c true a 0 (Taken d) → OneIs s a (TakenFirst c d)
+    one-taken d k = record {
+      sound = h .0;
+      holds = k .0;
+      is = first ∙ ap (λ t. go-on t (λ y. taken (recordOf c, y))) (k .1 1);
+    }
 
-    pub one-refused : (n : ℕ) (d : Divisor) → DivisorIs (r .curve) true a 0 (Refused n) → x ≡ record { number = n; place = 1; curve = r .curve; divisor = d } → OneIs s a x
-    one-refused n d k e = subst (OneIs s a) (sym e) (record {
-      sound = λ q. absurd (some q);
-      holds = λ q. absurd (some q);
-      takes = λ q. absurd (some q);
-      refuses = λ q. first ∙ ap (λ t. go-on t (λ y. taken (recordOf (r .curve), y))) (k 1);
-    })
-      where
-        some : n ≡ 0 → ⊥
-        some q = omega (arith, divisor-numbered (recordOf (r .curve)) 1 true a 0 n 1 (k 1), q)
+    pub one-refused : (n : ℕ) → DivisorIs c true a 0 (Refused n) → OneIs s a (RefusedFirst n 1)
+    one-refused n k = first ∙ ap (λ t. go-on t (λ y. taken (recordOf c, y))) (k 1)

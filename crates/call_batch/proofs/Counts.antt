@@ -10,7 +10,7 @@ use Rattle.curve.specs.declared.Curve.{Curve}
 use Rattle.record_divisor.specs.declared.DivisorRead.{DivisorRead}
 use Rattle.record_divisor.specs.declared.DivisorRead.the-variants.{Taken, Refused}
 use Rattle.record_divisor.specs.Read.{DivisorIs}
-use Rattle.record_curve.specs.declared.CurveRead.{CurveRead}
+use Rattle.record_curve.specs.declared.CurveRead.the-variants.{Taken as TakenCurve, Refused as RefusedCurve}
 use Rattle.record_curve.specs.Read.{CurveIs}
 use Rattle.call_answer.proofs.Turns.{Going, begins, ends, full, refuses, turns}
 use Rattle.rules.specs.Calls.{counted, check-batch}
@@ -39,12 +39,12 @@ module _ (c : Curve) (s : List ℕ) where
     count-turn r more room is e v = record { going = turns (i .going) more room r is e v refl }
 
 -- ---- the call
-module _ (s b : List ℕ) (r : CurveRead) (h : CurveIs s r) where
-  pub no-curve : (r .number ≡ 0 → ⊥) → BatchIs s b (RefusedBatch (r .number) 0)
+module _ (s b : List ℕ) where
+  pub no-curve : {n : ℕ} → CurveIs s (RefusedCurve n) → BatchIs s b (RefusedBatch n 0)
   unfolding check-batch
-  no-curve z = on-refused _ (λ c. counted c b) (h .refuses z)
+  no-curve h = on-refused _ (λ c. counted c b) h
 
-  pub on-curve : r .number ≡ 0 → (x : BatchRead) → CountedIs (r .curve) b x → BatchIs s b x
+  pub on-curve : (c : Curve) → CurveIs s (TakenCurve c) → (x : BatchRead) → CountedIs c b x → BatchIs s b x
   unfolding check-batch
-  on-curve z (TakenBatch k) e = on-taken _ (λ c. counted c b) (h .takes z) ∙ e
-  on-curve z (RefusedBatch n k) e = on-taken _ (λ c. counted c b) (h .takes z) ∙ e
+  on-curve c h (TakenBatch k) e = on-taken _ (λ c. counted c b) (h .1) ∙ e
+  on-curve c h (RefusedBatch n k) e = on-taken _ (λ c. counted c b) (h .1) ∙ e

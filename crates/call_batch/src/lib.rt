@@ -2,6 +2,7 @@
 ghost use Rattle.curve.specs.Curves.{Sound};
 ghost use Rattle.call_batch.specs.Counts.{CountedIs, BatchIs};
 use curve::Curve;
+use record_curve::CurveRead;
 use record_divisor::DivisorRead;
 
 // How many records a batch has, or a number and its place.
@@ -36,11 +37,8 @@ fn count_on(c: Curve, s: &[u8]) -> BatchRead
 pub fn check_batch(curve: &[u8], batch: &[u8]) -> BatchRead
     ensures { λ r. ⌜ BatchIs (now (curve .entry)) (now (batch .entry)) r ⌝ }
 {
-    let read = record_curve::read_curve(curve);
-    let c = read.curve;
-    let number = read.number;
-    if number != 0 {
-        return BatchRead::Refused(number, 0);
+    match record_curve::read_curve(curve) {
+        CurveRead::Taken(c) => count_on(c, batch),
+        CurveRead::Refused(n) => BatchRead::Refused(n, 0),
     }
-    count_on(c, batch)
 }

@@ -1,12 +1,11 @@
--- From what was read and found to the rule's answer: a training curve, the divisor on it, the next one.
+-- From what was read and found to what the rule comes to: a training curve, the divisor on it, the next one.
 use Prim.Native.Nat.{ℕ, _≤_, _<_}
 use mathlib.Core.Path.{_≡_, refl, ap, _∙_}
 use mathlib.Core.Bool.{true}
 use mathlib.Core.List.{List}
-use native.Mathlib.Omega.{arith}
 use Rattle.rules.specs.Checks.{Checked, taken, go-on}
 use Rattle.rules.specs.Records.{CurveRecord, read-curve, read-divisor, divisor-bytes}
-use Rattle.rules.specs.Calls.{Result, deliver, write, next-call}
+use Rattle.rules.specs.Calls.{Result}
 use Rattle.rules.proofs.calls.Refusals.{on-taken, on-refused}
 use Rattle.rules.proofs.calls.Next.{not-training, for-training}
 use Rattle.rules.proofs.calls.Written.{only}
@@ -14,60 +13,59 @@ use Rattle.divisor.specs.declared.Divisor.{Divisor}
 use Rattle.divisor.specs.Divisors.{pair}
 use Rattle.curve.specs.declared.Curve.{Curve}
 use Rattle.curve.specs.Record.{recordOf}
-use Rattle.record_curve.specs.declared.CurveRead.{CurveRead}
+use Rattle.record_curve.specs.declared.CurveRead.the-variants.{Taken as TakenCurve, Refused as RefusedCurve}
 use Rattle.record_curve.specs.Read.{CurveIs}
 use Rattle.record_divisor.specs.declared.DivisorRead.the-variants.{Taken, Refused}
 use Rattle.record_divisor.specs.Read.{DivisorIs}
-use Rattle.call_answer.specs.declared.Answer.{Answer}
-use Rattle.call_answer.specs.declared.Answer.the-variants.{Refused as RefusedAnswer}
-use Rattle.call_answer.specs.Answers.{Wrote}
-use Rattle.call_answer.proofs.Written.{refused-as, goes-on}
+use Rattle.call_answer.specs.declared.Made.{Made}
+use Rattle.call_answer.specs.declared.Made.the-variants.{Done as DoneMade, Refused as RefusedMade}
+use Rattle.call_answer.specs.Answers.{Makes}
+use Rattle.call_answer.proofs.Written.{made-refused, made-done, made-as}
 use Rattle.divisor_census.specs.declared.Next.the-variants.{Found, Last}
 use Rattle.divisor_census.specs.Rows.{NextIs}
-use Rattle.call_census.specs.declared.Training.{Training}
-use Rattle.call_census.specs.Training.{TrainingIs, next-result}
+use Rattle.call_census.specs.Training.{TrainingIs, next-result, next-rule}
 
 -- ---- the curve
-module _ (s : List ℕ) (r : CurveRead) (h : CurveIs s r) where
-  pub training-no-curve : (r .number ≡ 0 → ⊥) → TrainingIs s (record { number = r .number; curve = r .curve })
-  training-no-curve n = record { sound = λ z. absurd (n z); takes = λ z. absurd (n z); refuses = λ z. on-refused (read-curve s) _ (h .refuses n) }
+module _ (s : List ℕ) where
+  pub training-no-curve : {n : ℕ} → CurveIs s (RefusedCurve n) → TrainingIs s (RefusedCurve n)
+  training-no-curve h = on-refused (read-curve s) _ h
 
-  module _ (z : r .number ≡ 0) where
-    pub training-large : 13 < r .curve .m .p → TrainingIs s (record { number = 25; curve = r .curve })
-    training-large l = record { sound = λ q. absurd (omega arith); takes = λ q. absurd (omega arith); refuses = λ q. not-training s (h .takes z) l }
+  module _ (c : Curve) (h : CurveIs s (TakenCurve c)) where
+    pub training-large : 13 < c .m .p → TrainingIs s (RefusedCurve 25)
+    training-large l = not-training s (h .1) l
 
-    pub training-taken : r .curve .m .p ≤ 13 → TrainingIs s (record { number = 0; curve = r .curve })
-    training-taken l = record { sound = λ q. h .sound z; takes = λ q. for-training s (h .takes z) l; refuses = λ q. absurd (q refl) }
+    pub training-taken : c .m .p ≤ 13 → TrainingIs s (TakenCurve c)
+    training-taken l = (h .0, for-training s (h .1) l)
 
 -- ---- the next one
-module _ (c : Curve) (d : Divisor) (out : List ℕ) where
-  abbrev R : CurveRecord
-  R = recordOf c
+module _ (c : Curve) (d : Divisor) where
+  abbrev rest : Checked (Result (Unit {0}))
+  rest = next-result (recordOf c) (pair (c .m) d)
 
-  pub next-none : NextIs c d Last → Wrote (RefusedAnswer 24 0) out (deliver tt out (next-result R (pair (c .m) d)))
-  next-none h = refused-as (ap (λ t. deliver tt out (go-on t (λ y. taken (only (divisor-bytes (R .p) y))))) h)
+  pub next-none : NextIs c d Last → Makes (RefusedMade 24 0) rest
+  next-none h = made-refused (ap (λ t. go-on t (λ y. taken (only (divisor-bytes (c .m .p) y)))) h)
 
-  pub next-found : {r : Answer} {o : List ℕ} (y : Divisor) → NextIs c d (Found y) → Wrote r o (write out (divisor-bytes (c .m .p) (pair (c .m) y))) → Wrote r o (deliver tt out (next-result R (pair (c .m) d)))
-  next-found y h w = goes-on (ap (λ t. deliver tt out (go-on t (λ y. taken (only (divisor-bytes (R .p) y))))) (h .1)) w
+  pub next-found : (y : Divisor) → NextIs c d (Found y) → Makes (DoneMade y (c .m) 0 0) rest
+  next-found y h = made-done y (c .m) tt (h .0 .held) refl (ap (λ t. go-on t (λ y. taken (only (divisor-bytes (c .m .p) y)))) (h .1))
 
 -- ---- the call
-module _ (s a out : List ℕ) (t : Training) (h : TrainingIs s t) where
-  rest : CurveRecord → Checked (Result (Unit {0}))
-  rest c = go-on (read-divisor c 1 a) (next-result c)
+module _ (s a : List ℕ) where
+  after : CurveRecord → Checked (Result (Unit {0}))
+  after c = go-on (read-divisor c 1 a) (next-result c)
 
-  pub call-no-curve : (t .number ≡ 0 → ⊥) → Wrote (RefusedAnswer (t .number) 0) out (next-call s a out)
-  unfolding next-call rest
-  call-no-curve n = refused-as (ap (λ x. deliver tt out (go-on x rest)) (h .refuses n))
+  pub call-no-curve : {n : ℕ} → TrainingIs s (RefusedCurve n) → Makes (RefusedMade n 0) (next-rule s a)
+  unfolding after
+  call-no-curve h = made-refused (ap (λ x. go-on x after) h)
 
-  module _ (z : t .number ≡ 0) where
-    goes : {r : Checked (Result (Unit {0}))} → rest (recordOf (t .curve)) ≡ r → next-call s a out ≡ deliver tt out r
-    unfolding next-call rest
-    goes e = ap (λ x. deliver tt out (go-on x rest)) (h .takes z) ∙ ap (deliver tt out) e
+  module _ (c : Curve) (h : TrainingIs s (TakenCurve c)) where
+    goes : {r : Checked (Result (Unit {0}))} → after (recordOf c) ≡ r → next-rule s a ≡ r
+    unfolding after
+    goes e = ap (λ x. go-on x after) (h .1) ∙ e
 
-    pub call-no-divisor : {n : ℕ} → DivisorIs (t .curve) true a 0 (Refused n) → Wrote (RefusedAnswer n 1) out (next-call s a out)
-    unfolding rest
-    call-no-divisor k = refused-as (goes (on-refused (read-divisor (recordOf (t .curve)) 1 a) (next-result (recordOf (t .curve))) (k 1)))
+    pub call-no-divisor : {n : ℕ} → DivisorIs c true a 0 (Refused n) → Makes (RefusedMade n 1) (next-rule s a)
+    unfolding after
+    call-no-divisor k = made-refused (goes (on-refused (read-divisor (recordOf c) 1 a) (next-result (recordOf c)) (k 1)))
 
-    pub call-done : {r : Answer} {o : List ℕ} (d : Divisor) → DivisorIs (t .curve) true a 0 (Taken d) → Wrote r o (deliver tt out (next-result (recordOf (t .curve)) (pair (t .curve .m) d))) → Wrote r o (next-call s a out)
-    unfolding rest
-    call-done d k w = goes-on (goes (on-taken (read-divisor (recordOf (t .curve)) 1 a) (next-result (recordOf (t .curve))) (k .1 1))) w
+    pub call-made : (r : Made) (d : Divisor) → DivisorIs c true a 0 (Taken d) → Makes r (next-result (recordOf c) (pair (c .m) d)) → Makes r (next-rule s a)
+    unfolding after
+    call-made r d k w = made-as (goes (on-taken (read-divisor (recordOf c) 1 a) (next-result (recordOf c)) (k .1 1))) w

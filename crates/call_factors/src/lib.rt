@@ -1,56 +1,39 @@
-// What every multiplication reads, checks, writes and answers, whichever the engine: the call but for the multiple itself.
+// What every multiplication reads, checks and makes, whichever the engine: the call but for the multiple itself.
 ghost use Rattle.divisor.specs.Divisors.{Held};
-ghost use Rattle.call_factors.specs.Multiples.{FactorsIs, WroteMultiple};
-use call_answer::Answer;
+ghost use Rattle.call_factors.specs.Multiples.{FactorsIs, MultipleMade, key-result};
 use call_answer::CurveAndDivisor;
-use divisor::Divisor;
+use call_answer::Made;
 use field::Modulus;
 use folds::Multiple;
 
-// What every multiplication reads and checks: number 12 where the scalar is too long, then 19 where the divisor is neutral.
+// Number 12 where the scalar is too long, then 19 where the divisor is neutral.
 pub fn read_factors(curve: &[u8], a: &[u8], scalar: &[u8]) -> CurveAndDivisor
     ensures { λ r. ⌜ FactorsIs (now (curve .entry)) (now (a .entry)) (now (scalar .entry)) r ⌝ }
 {
-    let x = call_answer::read_curve_and_divisor(curve, a);
-    if x.number != 0 {
-        return x;
+    match call_answer::read_curve_and_divisor(curve, a) {
+        CurveAndDivisor::Taken(c, d) => {
+            if refusals::MOST_SCALAR < scalar.len() {
+                return CurveAndDivisor::Refused(refusals::SCALAR_LENGTH, 0);
+            }
+            let given = d.weight();
+            if given == 0 {
+                return CurveAndDivisor::Refused(refusals::EMPTY_KEY, 0);
+            }
+            CurveAndDivisor::Taken(c, d)
+        }
+        CurveAndDivisor::Refused(n, k) => CurveAndDivisor::Refused(n, k),
     }
-    if refusals::MOST_SCALAR < scalar.len() {
-        let c = x.curve;
-        return CurveAndDivisor {
-            number: refusals::SCALAR_LENGTH,
-            place: 0,
-            curve: c,
-            divisor: Divisor::neutral(),
-        };
-    }
-    let d = x.divisor;
-    let given = d.weight();
-    if given == 0 {
-        let c = x.curve;
-        return CurveAndDivisor {
-            number: refusals::EMPTY_KEY,
-            place: 0,
-            curve: c,
-            divisor: d,
-        };
-    }
-    x
 }
 
-// What every multiplication writes and answers, with doublings and additions: number 19 where the multiple is neutral, then 13 where the output is too short.
-pub fn write_multiple(y: Multiple, m: Modulus, out: &mut [u8]) -> Answer
+// A multiple with its doublings and additions: number 19 where it is neutral.
+pub fn key_of(y: Multiple, m: Modulus) -> Made
     requires { ⌜ Held m (y .divisor) ⌝ }
-    ensures { λ r. ⌜ WroteMultiple y m (now (out .entry)) r (now (out .exit)) ⌝ }
+    ensures { λ r. ⌜ MultipleMade r (key-result y m) ⌝ }
 {
     let e = y.divisor;
     let w = e.weight();
     if w == 0 {
-        return Answer::Refused(refusals::EMPTY_KEY, 0);
+        return Made::Refused(refusals::EMPTY_KEY, 0);
     }
-    let n = call_answer::write_out(e, m, out);
-    if n == 0 {
-        return Answer::Refused(refusals::OUTPUT_LENGTH, 0);
-    }
-    Answer::Done(n, y.doublings, y.additions)
+    Made::Done(e, m, y.doublings, y.additions)
 }

@@ -2,8 +2,10 @@
 ghost use Rattle.rules.specs.Bytes.{number};
 ghost use Rattle.rules.specs.Calls.{multiply-call};
 ghost use Rattle.folds.specs.Contracts.{ToMultiply, Multiplied};
-ghost use Rattle.call_factors.specs.Multiples.{MultipleIs};
+ghost use Rattle.call_factors.specs.Multiples.{MultipleIs, MultipleMade, multiplying};
 use call_answer::Answer;
+use call_answer::CurveAndDivisor;
+use call_answer::Made;
 use curve::Curve;
 use divisor::Divisor;
 use folds::Multiple;
@@ -20,27 +22,33 @@ pub fn quicker(c: Curve, a: Divisor, s: &[u8]) -> Multiple
     multiple_affine::affine(c, a, s)
 }
 
+fn multiplied(curve: &[u8], a: &[u8], scalar: &[u8]) -> Made
+    ensures { λ r. ⌜ MultipleMade r (multiplying (now (curve .entry)) (now (a .entry)) (now (scalar .entry))) ⌝ }
+{
+    match call_factors::read_factors(curve, a, scalar) {
+        CurveAndDivisor::Taken(c, d) => call_factors::key_of(quicker(c, d, scalar), c.m),
+        CurveAndDivisor::Refused(n, k) => Made::Refused(n, k),
+    }
+}
+
 pub fn multiply(curve: &[u8], a: &[u8], scalar: &[u8], out: &mut [u8]) -> Answer
     ensures { λ r. ⌜ MultipleIs r (now (out .exit)) (multiply-call (now (curve .entry)) (now (a .entry)) (now (scalar .entry)) (now (out .entry))) ⌝ }
 {
-    let x = call_factors::read_factors(curve, a, scalar);
-    if x.number != 0 {
-        return Answer::Refused(x.number, x.place);
-    }
-    let c = x.curve;
-    let d = x.divisor;
-    call_factors::write_multiple(quicker(c, d, scalar), c.m, out)
+    call_answer::deliver(multiplied(curve, a, scalar), out)
 }
 
 // The same by the second engine.
+fn multiplied_free(curve: &[u8], a: &[u8], scalar: &[u8]) -> Made
+    ensures { λ r. ⌜ MultipleMade r (multiplying (now (curve .entry)) (now (a .entry)) (now (scalar .entry))) ⌝ }
+{
+    match call_factors::read_factors(curve, a, scalar) {
+        CurveAndDivisor::Taken(c, d) => call_factors::key_of(multiple::of(c, d, scalar), c.m),
+        CurveAndDivisor::Refused(n, k) => Made::Refused(n, k),
+    }
+}
+
 pub fn multiply_inversion_free(curve: &[u8], a: &[u8], scalar: &[u8], out: &mut [u8]) -> Answer
     ensures { λ r. ⌜ MultipleIs r (now (out .exit)) (multiply-call (now (curve .entry)) (now (a .entry)) (now (scalar .entry)) (now (out .entry))) ⌝ }
 {
-    let factors = call_factors::read_factors(curve, a, scalar);
-    if factors.number != 0 {
-        return Answer::Refused(factors.number, factors.place);
-    }
-    let c = factors.curve;
-    let d = factors.divisor;
-    call_factors::write_multiple(multiple::by_tuples(c, d, scalar), c.m, out)
+    call_answer::deliver(multiplied_free(curve, a, scalar), out)
 }

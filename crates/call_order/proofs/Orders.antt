@@ -8,32 +8,34 @@ use Rattle.rules.specs.Records.{CurveRecord, PairOf}
 use Rattle.rules.specs.Calls.{Result, order-checks, check-order}
 use Rattle.rules.proofs.calls.Written.{only}
 use Rattle.rules.proofs.calls.Orders.{Tested, checks-long, checks-pass, checks-fail}
+use Rattle.divisor.specs.declared.Divisor.{Divisor}
 use Rattle.divisor.specs.Divisors.{pair}
+use Rattle.curve.specs.declared.Curve.{Curve}
 use Rattle.curve.specs.Record.{recordOf}
 use Rattle.call_answer.specs.declared.Answer.the-variants.{Done, Refused}
-use Rattle.call_answer.specs.declared.CurveAndDivisor.{CurveAndDivisor}
+use Rattle.call_answer.specs.declared.CurveAndDivisor.the-variants.{Taken, Refused as RefusedFirst}
 use Rattle.call_answer.specs.Answers.{CheckIs, FirstRead, OneIs}
 use Rattle.call_answer.proofs.Firsts.{one-stops, one-goes}
 use Rattle.call_answer.proofs.Written.{answer}
 
-module _ (s a order primes : List ℕ) (x : CurveAndDivisor) (h : OneIs s a x) where
-  abbrev c : CurveRecord
-  c = recordOf (x .curve)
-
-  abbrev d : PairOf c
-  d = pair (x .curve .m) (x .divisor)
-
+module _ (s a order primes : List ℕ) where
   go : FirstRead → Checked (Result (Unit {0}))
   go p = first-failed (order-checks (p .0) order primes (p .1)) (only [])
 
-  pub order-refused : (x .number ≡ 0 → ⊥) → CheckIs (Refused (x .number) (x .place)) (check-order s a order primes)
+  pub order-refused : {n k : ℕ} → OneIs s a (RefusedFirst n k) → CheckIs (Refused n k) (check-order s a order primes)
   unfolding go check-order
-  order-refused n = sym (ap answer (one-stops go s a (x .number) (x .place) (h .refuses n)))
+  order-refused {n} {k} h = sym (ap answer (one-stops go s a n k h))
 
-  module _ (z : x .number ≡ 0) where
+  module _ (e : Curve) (x : Divisor) (h : OneIs s a (Taken e x)) where
+    abbrev c : CurveRecord
+    c = recordOf e
+
+    abbrev d : PairOf c
+    d = pair (e .m) x
+
     on : {r : Checked (Result (Unit {0}))} → first-failed (order-checks c order primes d) (only []) ≡ r → answer r ≡ (check-order s a order primes, (0, 0))
     unfolding go check-order
-    on e = sym (ap answer (one-goes go s a (c, d) (h .takes z) ∙ e))
+    on q = sym (ap answer (one-goes go s a (c, d) (h .is) ∙ q))
 
     pub order-long : 32 < length order → CheckIs (Refused 12 0) (check-order s a order primes)
     order-long l = on (checks-long (only []) c order primes d l)

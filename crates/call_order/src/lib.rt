@@ -9,6 +9,7 @@ ghost use Rattle.folds.specs.Contracts.{ToMultiply};
 ghost use Rattle.call_answer.specs.Answers.{CheckIs};
 ghost use Rattle.call_order.specs.Folds.{Folding, ToLook, Folded, NoneBelow};
 use call_answer::Answer;
+use call_answer::CurveAndDivisor;
 use curve::Curve;
 use divisor::Divisor;
 use refusals::MOST_SCALAR;
@@ -70,17 +71,16 @@ fn is_order(c: Curve, a: Divisor, order: &[u8], primes: &[u8]) -> bool
 pub fn check_order(curve: &[u8], divisor: &[u8], order: &[u8], primes: &[u8]) -> Answer
     ensures { λ r. ⌜ CheckIs r (check-order (now (curve .entry)) (now (divisor .entry)) (now (order .entry)) (now (primes .entry))) ⌝ }
 {
-    let x = call_answer::read_curve_and_divisor(curve, divisor);
-    if x.number != 0 {
-        return Answer::Refused(x.number, x.place);
+    match call_answer::read_curve_and_divisor(curve, divisor) {
+        CurveAndDivisor::Taken(c, d) => {
+            if MOST_SCALAR < order.len() {
+                return Answer::Refused(refusals::SCALAR_LENGTH, 0);
+            }
+            if is_order(c, d, order, primes) {
+                return Answer::Done(0, 0, 0);
+            }
+            Answer::Refused(refusals::ORDER, 0)
+        }
+        CurveAndDivisor::Refused(n, k) => Answer::Refused(n, k),
     }
-    if MOST_SCALAR < order.len() {
-        return Answer::Refused(refusals::SCALAR_LENGTH, 0);
-    }
-    let c = x.curve;
-    let d = x.divisor;
-    if is_order(c, d, order, primes) {
-        return Answer::Done(0, 0, 0);
-    }
-    Answer::Refused(refusals::ORDER, 0)
 }

@@ -7,22 +7,23 @@ use Rattle.rules.specs.Checks.{Checked, taken, go-on}
 use Rattle.rules.specs.Lists.{batch, Repeat, first-repeat}
 use Rattle.rules.specs.Calls.{Result, deliver, repeat-call}
 use Rattle.rules.proofs.calls.Refusals.{on-taken, on-refused}
-use Rattle.record_curve.specs.declared.CurveRead.{CurveRead}
+use Rattle.curve.specs.declared.Curve.{Curve}
+use Rattle.record_curve.specs.declared.CurveRead.the-variants.{Taken as TakenCurve, Refused as RefusedCurve}
 use Rattle.record_curve.specs.Read.{CurveIs}
 use Rattle.call_answer.specs.declared.Answer.{Answer}
 use Rattle.call_answer.specs.declared.Answer.the-variants.{Refused}
 use Rattle.call_answer.proofs.Written.{goes-on, stopped-as}
-use Rattle.call_repeat.specs.Repeats.{no-repeat, repeat-rule, RepeatIs}
+use Rattle.call_repeat.specs.Repeats.{no-repeat, repeat-on, RepeatIs}
 
-module _ (s b : List ℕ) (r : CurveRead) (h : CurveIs s r) where
+module _ (s b : List ℕ) where
   -- what follows on a curve that was taken
   abbrev next : CurveRecord → Checked (Result Repeat)
   next c = go-on (batch c (λ l d. l ++ (d ∷ [])) b []) (λ x. taken (record { bytes = []; own = first-repeat (c .p) (x .result) }))
 
-  pub no-curve : (r .number ≡ 0 → ⊥) → RepeatIs (Refused (r .number) 0) (repeat-call s b)
+  pub no-curve : {n : ℕ} → CurveIs s (RefusedCurve n) → RepeatIs (Refused n 0) (repeat-call s b)
   unfolding repeat-call
-  no-curve z = stopped-as no-repeat refl refl (ap (deliver no-repeat []) (on-refused _ next (h .refuses z)))
+  no-curve h = stopped-as no-repeat refl refl (ap (deliver no-repeat []) (on-refused _ next h))
 
-  pub on-curve : r .number ≡ 0 → {x : Answer} → RepeatIs x (repeat-rule (r .curve) b) → RepeatIs x (repeat-call s b)
+  pub on-curve : (c : Curve) → CurveIs s (TakenCurve c) → {x : Answer} → RepeatIs x (repeat-on c b) → RepeatIs x (repeat-call s b)
   unfolding repeat-call
-  on-curve z e = goes-on (ap (deliver no-repeat []) (on-taken _ next (h .takes z))) e
+  on-curve c h e = goes-on (ap (deliver no-repeat []) (on-taken _ next (h .1))) e

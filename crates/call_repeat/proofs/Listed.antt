@@ -26,7 +26,7 @@ use Rattle.call_answer.proofs.Turns.{Going, begins, read-taken, ends, full, ref
 use Rattle.call_repeat.specs.declared.Repeat.{Repeat as Found}
 use Rattle.call_repeat.specs.declared.Repeat.the-variants.{Pair as FoundPair, Nothing as FoundNothing}
 use Rattle.call_repeat.specs.Rows.{pairAt, SameIn, Row, Rows, placesOf}
-use Rattle.call_repeat.specs.Repeats.{list-rule, no-repeat, repeat-of, repeat-rule, RepeatIs}
+use Rattle.call_repeat.specs.Repeats.{list-rule, no-repeat, repeat-of, repeat-on, RepeatIs}
 use Rattle.call_repeat.proofs.Chains.{stands}
 
 abbrev snoc : {A : Type 0} → List A → A → List A
@@ -49,13 +49,13 @@ module _ (c : Curve) (s : List ℕ) where
 
   module _ (places : List ℕ) (k a : ℕ) (i : Listing c s places k a) where
     -- what the call goes on with
-    as-rule : {x : Checked (Batch (List (PairOf (recordOf c))))} → list-rule c s ≡ x → repeat-rule c s ≡ deliver no-repeat [] (repeat-of c x)
+    as-rule : {x : Checked (Batch (List (PairOf (recordOf c))))} → list-rule c s ≡ x → repeat-on c s ≡ deliver no-repeat [] (repeat-of c x)
     as-rule e = ap (λ x. deliver no-repeat [] (repeat-of c x)) e
 
-    pub list-full : a < length s → k ≡ 4096 → RepeatIs (RefusedAnswer 14 0) (repeat-rule c s)
+    pub list-full : a < length s → k ≡ 4096 → RepeatIs (RefusedAnswer 14 0) (repeat-on c s)
     list-full more e = stopped-as no-repeat refl refl (as-rule (full (i .going) more e))
 
-    pub list-refuses : (r : DivisorRead) {n : ℕ} → a < length s → k < 4096 → DivisorIs c false s a r → r ≡ Refused n → RepeatIs (RefusedAnswer n (k + 1)) (repeat-rule c s)
+    pub list-refuses : (r : DivisorRead) {n : ℕ} → a < length s → k < 4096 → DivisorIs c false s a r → r ≡ Refused n → RepeatIs (RefusedAnswer n (k + 1)) (repeat-on c s)
     list-refuses r more room is e = stopped-as no-repeat refl refl (as-rule (refuses (i .going) more room r is e))
 
     pub list-turn : (r : DivisorRead) {x : Divisor} {w : ℕ} → a < length s → k < 4096 → DivisorIs c false s a r → r ≡ Taken x → w ≡ getD s a 0 → Listing c s (set places k a) (k + 1) (a + 1 + 16 * w)
@@ -88,11 +88,11 @@ module _ (c : Curve) (s : List ℕ) where
           from : (a b : ℕ) → a < b → b < k → SameAt (i .l) a b → SameIn c s places a b
           from a b l h q = subst₂ Same (i .at a (omega arith)) (i .at b h) q
 
-      answered : {r : Repeat} → placesOf f ≡ r → RepeatIs (Done 0 (r .first) (r .second)) (repeat-rule c s)
+      answered : {r : Repeat} → placesOf f ≡ r → RepeatIs (Done 0 (r .first) (r .second)) (repeat-on c s)
       answered {r} e = goes-on (as-rule (ends (i .going) over) ∙ ap (λ (t : Repeat). record { answer = done 0; out = []; own = t }) (found ∙ e)) (record { values = refl; bytes = refl })
 
-      pub list-pair : {x y : ℕ} → f ≡ FoundPair x y → RepeatIs (Done 0 (x + 1) (y + 1)) (repeat-rule c s)
+      pub list-pair : {x y : ℕ} → f ≡ FoundPair x y → RepeatIs (Done 0 (x + 1) (y + 1)) (repeat-on c s)
       list-pair {x} {y} e = answered (ap placesOf e ∙ ap₂ (λ i j. record { first = i; second = j }) {x = suc x} {y = x + 1} {u = suc y} {v = y + 1} (omega arith) (omega arith))
 
-      pub list-nothing : f ≡ FoundNothing → RepeatIs (Done 0 0 0) (repeat-rule c s)
+      pub list-nothing : f ≡ FoundNothing → RepeatIs (Done 0 0 0) (repeat-on c s)
       list-nothing e = answered (ap placesOf e)

@@ -21,8 +21,8 @@ no-repeat = record { first = 0; second = 0 }
 abbrev pub repeat-of : (c : Curve) → Checked (Batch (List (PairOf (recordOf c)))) → Checked (Result Repeat)
 repeat-of c x = go-on x (λ b. taken (record { bytes = []; own = first-repeat (c .m .p) (b .result) }))
 
-abbrev pub repeat-rule : (c : Curve) → List ℕ → Reply Repeat
-repeat-rule c s = deliver no-repeat [] (repeat-of c (list-rule c s))
+abbrev pub repeat-on : (c : Curve) → List ℕ → Reply Repeat
+repeat-on c s = deliver no-repeat [] (repeat-of c (list-rule c s))
 
 -- nothing is written
 abbrev pub RepeatIs : Answer → Reply Repeat → Type 0

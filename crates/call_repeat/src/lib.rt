@@ -7,11 +7,12 @@ ghost use Rattle.rules.specs.Calls.{repeat-call};
 ghost use Rattle.rules.specs.First.{FirstIs};
 ghost use Rattle.field.specs.Primes.{Decides};
 ghost use Rattle.curve.specs.Curves.{Sound};
-ghost use Rattle.call_repeat.specs.Repeats.{repeat-rule, RepeatIs};
+ghost use Rattle.call_repeat.specs.Repeats.{repeat-on, RepeatIs};
 ghost use Rattle.call_repeat.specs.Chains.{mix, chainOf, Whole, Excludes, lowest32, lowest64};
 ghost use Rattle.call_repeat.specs.Rows.{Row, SameAs, SameIn, Rows, placesOf};
 use call_answer::Answer;
 use curve::Curve;
+use record_curve::CurveRead;
 use record_divisor::DivisorRead;
 
 pub enum Repeat {
@@ -135,9 +136,9 @@ fn search(c: Curve, s: &[u8], places: &[usize], n: usize) -> Repeat
 }
 
 // The first repeat of a batch on a curve that was taken: where its records begin.
-fn repeat_of(c: Curve, s: &[u8]) -> Answer
+pub fn repeat_on(c: Curve, s: &[u8]) -> Answer
     requires { ⌜ Sound c ⌝ }
-    ensures { λ r. ⌜ RepeatIs r (repeat-rule c (now (s .entry))) ⌝ }
+    ensures { λ r. ⌜ RepeatIs r (repeat-on c (now (s .entry))) ⌝ }
 {
     let mut places = [0usize; refusals::MOST];
     let mut n: usize = 0;
@@ -167,11 +168,8 @@ fn repeat_of(c: Curve, s: &[u8]) -> Answer
 pub fn first_repeat(curve: &[u8], batch: &[u8]) -> Answer
     ensures { λ r. ⌜ RepeatIs r (repeat-call (now (curve .entry)) (now (batch .entry))) ⌝ }
 {
-    let read = record_curve::read_curve(curve);
-    let c = read.curve;
-    let number = read.number;
-    if number != 0 {
-        return Answer::Refused(number, 0);
+    match record_curve::read_curve(curve) {
+        CurveRead::Taken(c) => repeat_on(c, batch),
+        CurveRead::Refused(n) => Answer::Refused(n, 0),
     }
-    repeat_of(c, batch)
 }

@@ -6,7 +6,7 @@ use native.Mathlib.Omega.{arith}
 use lib.ListN.{length, take, drop, length-append, length-drop}
 use lib.Seq.{sets, sets-eq, take-at, drop-at, drop-drop, take-all, drop-length}
 use Rattle.rules.specs.Checks.{Checked, taken, go-on}
-use Rattle.rules.specs.Records.{CurveRecord, PairOf, divisor-bytes}
+use Rattle.rules.specs.Records.{PairOf, divisor-bytes}
 use Rattle.rules.specs.Split.{part-at, rest-at, split-root}
 use Rattle.rules.specs.Calls.{Result, deliver, write, split-result, split-call}
 use Rattle.rules.proofs.calls.Refusals.{on-taken, on-refused}
@@ -15,46 +15,46 @@ use Rattle.field.specs.declared.Modulus.{Modulus}
 use Rattle.divisor.specs.declared.Divisor.{Divisor}
 use Rattle.divisor.specs.declared.Divisor.the-variants.{Neutral, One, Two, Three}
 use Rattle.divisor.specs.Divisors.{weightOf, pair}
+use Rattle.curve.specs.declared.Curve.{Curve}
 use Rattle.curve.specs.Record.{recordOf}
 use Rattle.divisor_split.specs.Splits.{PartsOf}
 use Rattle.call_answer.specs.declared.Answer.{Answer}
 use Rattle.call_answer.specs.declared.Answer.the-variants.{Done, Refused}
-use Rattle.call_answer.specs.declared.CurveAndDivisor.{CurveAndDivisor}
+use Rattle.call_answer.specs.declared.CurveAndDivisor.the-variants.{Taken, Refused as RefusedFirst}
 use Rattle.call_answer.specs.Answers.{FirstRead, OneIs, Wrote}
 use Rattle.call_answer.proofs.Firsts.{one-stops, one-goes}
 use Rattle.call_answer.proofs.Written.{divisor-length, refused-as, goes-on, put-none, put-all, wrote-none, wrote-all}
 
-module _ (s a out : List ℕ) (x : CurveAndDivisor) (h : OneIs s a x) where
-  abbrev c : CurveRecord
-  c = recordOf (x .curve)
-
-  abbrev d : PairOf c
-  d = pair (x .curve .m) (x .divisor)
-
+module _ (s a out : List ℕ) where
   parts : FirstRead → Checked (Result (Unit {0}))
   parts p = go-on (split-root (p .0 .p) (p .1)) (λ y. taken (split-result (p .0) (p .1) y))
 
-  pub split-refused : (x .number ≡ 0 → ⊥) → Wrote (Refused (x .number) (x .place)) out (split-call s a out)
+  pub split-refused : {n k : ℕ} → OneIs s a (RefusedFirst n k) → Wrote (Refused n k) out (split-call s a out)
   unfolding parts split-call
-  split-refused n = refused-as (ap (deliver tt out) (one-stops parts s a (x .number) (x .place) (h .refuses n)))
+  split-refused {n} {k} h = refused-as (ap (deliver tt out) (one-stops parts s a n k h))
 
-  module _ (z : x .number ≡ 0) where
-    pos : 0 < x .curve .m .p
-    pos = omega (arith, h .sound z .good .ring .from)
+  module _ (c : Curve) (x : Divisor) (h : OneIs s a (Taken c x)) where
+    abbrev p : ℕ
+    p = c .m .p
 
-    came : {r : Checked (Result (Unit {0}))} → parts (c, d) ≡ r → split-call s a out ≡ deliver tt out r
+    abbrev d : PairOf (recordOf c)
+    d = pair (c .m) x
+
+    pos : 0 < p
+    pos = omega (arith, h .sound .good .ring .from)
+
+    came : {r : Checked (Result (Unit {0}))} → parts (recordOf c, d) ≡ r → split-call s a out ≡ deliver tt out r
     unfolding parts split-call
-    came e = ap (deliver tt out) (one-goes parts s a (c, d) (h .takes z) ∙ e)
+    came e = ap (deliver tt out) (one-goes parts s a (recordOf c, d) (h .is) ∙ e)
 
-    pub split-nowhere : NoSplit (x .curve .m .p) d → Wrote (Refused 26 0) out (split-call s a out)
+    pub split-nowhere : NoSplit p d → Wrote (Refused 26 0) out (split-call s a out)
     unfolding parts
-    split-nowhere n = refused-as (came (on-refused _ (λ y. taken (split-result c d y)) (split-none (x .curve .m .p) d pos n)))
+    split-nowhere n = refused-as (came (on-refused _ (λ y. taken (split-result (recordOf c) d y)) (split-none p d pos n)))
 
-    pub split-done : {r : Answer} {o : List ℕ} {e f : Divisor} → PartsOf (x .curve .m) (x .divisor) e f
-        → Wrote r o (write out (divisor-bytes (x .curve .m .p) (pair (x .curve .m) e) ++ divisor-bytes (x .curve .m .p) (pair (x .curve .m) f))) → Wrote r o (split-call s a out)
+    pub split-done : {r : Answer} {o : List ℕ} {e f : Divisor} → PartsOf (c .m) x e f → Wrote r o (write out (divisor-bytes p (pair (c .m) e) ++ divisor-bytes p (pair (c .m) f))) → Wrote r o (split-call s a out)
     unfolding parts
-    split-done k w = goes-on (came (on-taken _ (λ y. taken (split-result c d y)) (split-at (x .curve .m .p) d pos (k .y) (k .at)))
-        ∙ ap₂ (λ s t. write out (divisor-bytes (c .p) s ++ divisor-bytes (c .p) t)) (sym (k .first .is)) (sym (k .second .is))) w
+    split-done k w = goes-on (came (on-taken _ (λ y. taken (split-result (recordOf c) d y)) (split-at p d pos (k .y) (k .at)))
+        ∙ ap₂ (λ s t. write out (divisor-bytes p s ++ divisor-bytes p t)) (sym (k .first .is)) (sym (k .second .is))) w
 
 -- ---- one behind the other
 module _ (out a b : List ℕ) (n : ℕ) (long : length a ≡ n) (room : n + length b ≤ length out) where

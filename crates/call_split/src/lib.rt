@@ -5,6 +5,7 @@ ghost use Rattle.rules.specs.Records.{divisor-bytes};
 ghost use Rattle.divisor.specs.Divisors.{pair, Held};
 ghost use Rattle.call_answer.specs.Answers.{Wrote};
 use call_answer::Answer;
+use call_answer::CurveAndDivisor;
 use divisor::Divisor;
 use divisor_split::Parted;
 use field::Modulus;
@@ -27,14 +28,11 @@ fn write_both(a: Divisor, b: Divisor, m: Modulus, out: &mut [u8]) -> Answer
 pub fn split(curve: &[u8], a: &[u8], out: &mut [u8]) -> Answer
     ensures { λ r. ⌜ Wrote r (now (out .exit)) (split-call (now (curve .entry)) (now (a .entry)) (now (out .entry))) ⌝ }
 {
-    let x = call_answer::read_curve_and_divisor(curve, a);
-    if x.number != 0 {
-        return Answer::Refused(x.number, x.place);
-    }
-    let c = x.curve;
-    let d = x.divisor;
-    match divisor_split::split(d, c.m) {
-        Parted::Parts(y, z) => write_both(y, z, c.m, out),
-        Parted::NoParts => Answer::Refused(refusals::NO_ROOT, 0),
+    match call_answer::read_curve_and_divisor(curve, a) {
+        CurveAndDivisor::Taken(c, d) => match divisor_split::split(d, c.m) {
+            Parted::Parts(y, z) => write_both(y, z, c.m, out),
+            Parted::NoParts => Answer::Refused(refusals::NO_ROOT, 0),
+        },
+        CurveAndDivisor::Refused(n, k) => Answer::Refused(n, k),
     }
 }

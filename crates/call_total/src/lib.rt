@@ -1,11 +1,13 @@
 // The total of a batch: records one after the other, read in one pass. The sums are kept as values, sixteen side by side, and written once.
 ghost use Rattle.rules.specs.Calls.{total-call};
 ghost use Rattle.curve.specs.Curves.{Sound};
-ghost use Rattle.call_total.specs.Totals.{TotalIs, TotalAnswerIs};
+ghost use Rattle.call_total.specs.Totals.{TotalIs, TotalMade, TotalAnswerIs, totalling};
 use call_answer::Answer;
+use call_answer::Made;
 use curve::Curve;
 use divisor::Divisor;
 use field::Residue;
+use record_curve::CurveRead;
 use record_divisor::DivisorRead;
 use sum_lanes::LANES;
 use sum_lanes::Waiting;
@@ -18,7 +20,7 @@ pub enum TotalRead {
 
 // Record i goes to lane i modulo 16. Where one waits for each lane, all sixteen are added with one inverse between them; the lanes, and those that still wait, are
 // added up at the end. That this is the total from first to last is demand 3.
-pub fn total_of(c: Curve, s: &[u8]) -> TotalRead
+pub fn total_on(c: Curve, s: &[u8]) -> TotalRead
     requires { ⌜ Sound c ⌝ }
     ensures { λ r. ⌜ TotalIs c (now (s .entry)) r ⌝ }
 {
@@ -75,24 +77,24 @@ pub fn total_of(c: Curve, s: &[u8]) -> TotalRead
     TotalRead::Done(jacobian::sum(c, x, y), k)
 }
 
+fn totalled(curve: &[u8], batch: &[u8]) -> Made
+    ensures { λ r. ⌜ TotalMade r (totalling (now (curve .entry)) (now (batch .entry))) ⌝ }
+{
+    match record_curve::read_curve(curve) {
+        CurveRead::Taken(c) => match total_on(c, batch) {
+            TotalRead::Done(t, k) => {
+                let m = c.m;
+                Made::Done(t, m, k, 0)
+            }
+            TotalRead::Refused(n, k) => Made::Refused(n, k),
+        },
+        CurveRead::Refused(n) => Made::Refused(n, 0),
+    }
+}
+
 // Its own number is the count of records.
 pub fn total_batch(curve: &[u8], batch: &[u8], out: &mut [u8]) -> Answer
     ensures { λ r. ⌜ TotalAnswerIs r (now (out .exit)) (total-call (now (curve .entry)) (now (batch .entry)) (now (out .entry))) ⌝ }
 {
-    let read = record_curve::read_curve(curve);
-    let c = read.curve;
-    let number = read.number;
-    if number != 0 {
-        return Answer::Refused(number, 0);
-    }
-    match total_of(c, batch) {
-        TotalRead::Done(t, k) => {
-            let n = call_answer::write_out(t, c.m, out);
-            if n == 0 {
-                return Answer::Refused(refusals::OUTPUT_LENGTH, 0);
-            }
-            Answer::Done(n, k, 0)
-        }
-        TotalRead::Refused(n, k) => Answer::Refused(n, k),
-    }
+    call_answer::deliver(totalled(curve, batch), out)
 }

@@ -30,6 +30,7 @@ use Rattle.record_bytes.proofs.Rows.{words-append, below-append}
 use Rattle.record_numbers.specs.declared.Residues.{Residues}
 use Rattle.record_numbers.specs.Read.{ResiduesIs}
 use Rattle.record_curve_head.specs.Heads.{low-rule}
+use Rattle.record_curve.specs.declared.CurveRead.the-variants.{Taken, Refused}
 use Rattle.record_curve.specs.Read.{ToRead, CoefficientsIs}
 
 module _ (s : List ℕ) (g : ℕ) (m : Modulus) (h : ToRead s g m) where
@@ -53,13 +54,13 @@ module _ (s : List ℕ) (g : ℕ) (m : Modulus) (h : ToRead s g m) where
         ∙ ap (below? (m .p)) (words-append s 14 5 (2 * g - 4)) ∙ below-append (m .p) (words s 14 5) (words s 54 (2 * g - 4))
         ∙ sym (ap₂ both (hl .below) (hh .below))
 
-    refused-six : both (lo .below) (hi .below) ≡ false → (c : Curve) → CoefficientsIs s g m (record { number = 6; curve = c })
-    refused-six e c = λ here. record { sound = λ z. absurd (omega arith); takes = λ z. absurd (omega arith); refuses = λ z. here ∙ by-below (both-are ∙ e) }
+    refused-six : both (lo .below) (hi .below) ≡ false → CoefficientsIs s g m (Refused 6)
+    refused-six e = λ here. here ∙ by-below (both-are ∙ e)
 
-    pub low-large : lo .below ≡ false → (c : Curve) → CoefficientsIs s g m (record { number = 6; curve = c })
+    pub low-large : lo .below ≡ false → CoefficientsIs s g m (Refused 6)
     low-large e = refused-six (ap (λ b. both b (hi .below)) e)
 
-    pub high-large : lo .below ≡ true → hi .below ≡ false → (c : Curve) → CoefficientsIs s g m (record { number = 6; curve = c })
+    pub high-large : lo .below ≡ true → hi .below ≡ false → CoefficientsIs s g m (Refused 6)
     high-large d e = refused-six (ap₂ both d e)
 
     module _ (z : Residue) where
@@ -112,16 +113,11 @@ module _ (s : List ℕ) (g : ℕ) (m : Modulus) (h : ToRead s g m) where
           sound : Free → Sound built
           sound a = record { good = h .good; least = h .least; most = h .most; settled = shaped .settled; square-free = free a }
 
-          pub built-curve : Free → CoefficientsIs s g m (record { number = 0; curve = built })
-          built-curve a = λ here. record {
-            sound = λ z. sound a;
-            takes = λ z. here ∙ by-below below ∙ by-free (square-free-test (m .p) (h .good .prime) g low .1 (subst (λ r. SquareFree (curve r)) record-is (free a))) ∙ ap taken (sym record-is);
-            refuses = λ z. absurd (z refl);
-          }
+          pub built-curve : Free → CoefficientsIs s g m (Taken built)
+          built-curve a = λ here. (
+            sound a,
+            here ∙ by-below below ∙ by-free (square-free-test (m .p) (h .good .prime) g low .1 (subst (λ r. SquareFree (curve r)) record-is (free a))) ∙ ap taken (sym record-is),
+          )
 
-          pub repeated : (Free → ⊥) → CoefficientsIs s g m (record { number = 7; curve = built })
-          repeated n = λ here. record {
-            sound = λ z. absurd (omega arith);
-            takes = λ z. absurd (omega arith);
-            refuses = λ z. here ∙ by-below below ∙ by-free (otherwise (square-free? (curve rule)) (λ e. n (free-back (by-rule (square-free-test (m .p) (h .good .prime) g low .0 e)))));
-          }
+          pub repeated : (Free → ⊥) → CoefficientsIs s g m (Refused 7)
+          repeated n = λ here. here ∙ by-below below ∙ by-free (otherwise (square-free? (curve rule)) (λ e. n (free-back (by-rule (square-free-test (m .p) (h .good .prime) g low .0 e)))))

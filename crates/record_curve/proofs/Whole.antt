@@ -1,26 +1,20 @@
 -- A curve record as a whole: the first checks, then p, then what stands behind it, are the rule `read-curve`.
 use Prim.Native.Nat.{ℕ}
-use mathlib.Core.Path.{_≡_, sym, ap, ap₂, _∙_, subst}
+use mathlib.Core.Path.{_≡_, sym, ap₂, _∙_}
 use mathlib.Core.List.{List}
 use native.Mathlib.Omega.{arith}
 use lib.ListN.{getD}
-use Rattle.rules.specs.Records.{refused, read-curve}
 use Rattle.rules.proofs.calls.CurveRecords.{genus-is}
 use Rattle.field.specs.declared.Modulus.{Modulus}
 use Rattle.record_curve_head.specs.Heads.{Headed, HeadIs, low-rule}
-use Rattle.record_curve_prime.specs.Primes.{PrimeTaken, PrimeRefused}
+use Rattle.record_curve_prime.specs.Primes.{PrimeTaken}
 use Rattle.record_curve.specs.declared.CurveRead.{CurveRead}
+use Rattle.record_curve.specs.declared.CurveRead.the-variants.{Refused}
 use Rattle.record_curve.specs.Read.{CurveIs, ToRead, CoefficientsIs}
 
 module _ (s : List ℕ) where
-  refused-as : (n : ℕ) (r : CurveRead) → (n ≡ 0 → ⊥) → r .number ≡ n → read-curve s ≡ refused n 0 → CurveIs s r
-  refused-as n r ne e h = record { sound = λ z. absurd (ne (sym e ∙ z)); takes = λ z. absurd (ne (sym e ∙ z)); refuses = λ z. h ∙ ap (λ (k : ℕ). refused k 0) (sym e) }
-
-  pub head-refused : (n : ℕ) → HeadIs s n → (r : CurveRead) → (n ≡ 0 → ⊥) → r .number ≡ n → CurveIs s r
-  head-refused n h r ne e = refused-as n r ne e (h .stops ne)
-
-  pub prime-refused : (n : ℕ) → PrimeRefused s n → (r : CurveRead) → r .number ≡ n → CurveIs s r
-  prime-refused n h r e = refused-as n r (h .some) e (h .is)
+  pub head-refused : (n : ℕ) → HeadIs s n → (n ≡ 0 → ⊥) → CurveIs s (Refused n)
+  head-refused n h some = h .stops some
 
   module _ (m : Modulus) (h : PrimeTaken s m) (g : ℕ) (g-is : g ≡ getD s 5 0) where
     pub to-read : Headed s → ToRead s g m

@@ -10,12 +10,11 @@ use Rattle.curve.specs.Curves.{Sound}
 use Rattle.curve.specs.Record.{recordOf}
 use Rattle.record_curve_head.specs.Heads.{low-rule}
 use Rattle.record_curve.specs.declared.CurveRead.{CurveRead}
+use Rattle.record_curve.specs.declared.CurveRead.the-variants.{Taken, Refused}
 
--- a curve read, or a number other than 0
-pub record CurveIs (s : List ℕ) (r : CurveRead) : Type 0 where
-  pub sound : r .number ≡ 0 → Sound (r .curve)
-  pub takes : r .number ≡ 0 → read-curve s ≡ taken (recordOf (r .curve))
-  pub refuses : (r .number ≡ 0 → ⊥) → read-curve s ≡ refused (r .number) 0
+abbrev pub CurveIs : List ℕ → CurveRead → Type 0
+CurveIs s (Taken c) = Sound c × (read-curve s ≡ taken (recordOf c))
+CurveIs s (Refused n) = read-curve s ≡ refused n 0
 
 -- ---- what stands behind p
 pub record ToRead (s : List ℕ) (g : ℕ) (m : Modulus) : Type 0 where

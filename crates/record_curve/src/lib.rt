@@ -1,15 +1,12 @@
 // Curve records: bytes in, a curve out. What is read and what is refused is what the rules say, in their order.
-ghost use mathlib.Core.Path.{_≡_};
 ghost use Rattle.record_curve.specs.Read.{CurveIs, ToRead, CoefficientsIs};
 use curve::Curve;
 use field::Modulus;
-use field::Residue;
 use record_curve_prime::PrimeRead;
 
-// The number is 0 where the curve was taken.
-pub struct CurveRead {
-    pub number: u64,
-    pub curve: Curve,
+pub enum CurveRead {
+    Taken(Curve),
+    Refused(u64),
 }
 
 // What stands behind p: refusals 6 and 7.
@@ -35,43 +32,12 @@ fn read_coefficients(s: &[u8], g: usize, m: Modulus) -> CurveRead
     if low.below {
         if high.below {
             if poly_euclid::is_square_free(few::f_of(c), m) {
-                return CurveRead {
-                    number: 0,
-                    curve: c,
-                };
+                return CurveRead::Taken(c);
             }
-            return CurveRead {
-                number: refusals::REPEATED_FACTOR,
-                curve: c,
-            };
+            return CurveRead::Refused(refusals::REPEATED_FACTOR);
         }
     }
-    CurveRead {
-        number: refusals::CURVE_COEFFICIENT,
-        curve: c,
-    }
-}
-
-// A refusal before a modulus was read.
-fn no_curve(number: u64) -> CurveRead
-    ensures { λ r. ⌜ r .number ≡ number ⌝ }
-{
-    let z = Residue::zero();
-    let c = Curve {
-        m: Modulus::least(),
-        g: 2,
-        f0: z,
-        f1: z,
-        f2: z,
-        f3: z,
-        f4: z,
-        f5: z,
-        f6: z,
-    };
-    CurveRead {
-        number: number,
-        curve: c,
-    }
+    CurveRead::Refused(refusals::CURVE_COEFFICIENT)
 }
 
 pub fn read_curve(s: &[u8]) -> CurveRead
@@ -79,10 +45,10 @@ pub fn read_curve(s: &[u8]) -> CurveRead
 {
     let number = record_curve_head::head_number(s);
     if number != 0 {
-        return no_curve(number);
+        return CurveRead::Refused(number);
     }
     match record_curve_prime::read_prime(s) {
         PrimeRead::Modulo(m) => read_coefficients(s, record_bytes::wide(s[5]) as usize, m),
-        PrimeRead::Refused(n) => no_curve(n),
+        PrimeRead::Refused(n) => CurveRead::Refused(n),
     }
 }

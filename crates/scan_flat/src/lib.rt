@@ -3,7 +3,7 @@
 ghost use mathlib.Core.Path.{_≡_};
 ghost use Rattle.field.specs.Primes.{Decides};
 ghost use Rattle.scan_resume.specs.Resumes.{totalOf};
-ghost use Rattle.scan_flat.specs.Flats.{flat-running, Cut};
+ghost use Rattle.scan_flat.specs.Flats.{flat-running, Flattened, Cut};
 use divisor::Cubic;
 use divisor::Divisor;
 use divisor::Linear;
@@ -122,34 +122,39 @@ pub fn flatten_running(t: Running) -> YubiRunning
     }
 }
 
-pub fn same(a: YubiRunning, b: YubiRunning) -> bool
-    ensures { λ r. ⌜ Decides r (a ≡ b) ⌝ }
+// Whether a total can have been flattened.
+pub fn is_flat(t: YubiRunning) -> bool
+    ensures { λ r. ⌜ Decides r (Flattened t) ⌝ }
 {
-    if a.weight != b.weight {
+    let w = t.weight;
+    if 3 < w {
         return false;
     }
-    if a.u0 != b.u0 {
+    if w == 3 {
+        return true;
+    }
+    if t.u2 != 0 {
         return false;
     }
-    if a.u1 != b.u1 {
+    if t.v2 != 0 {
         return false;
     }
-    if a.u2 != b.u2 {
+    if w == 2 {
+        return true;
+    }
+    if t.u1 != 0 {
         return false;
     }
-    if a.v0 != b.v0 {
+    if t.v1 != 0 {
         return false;
     }
-    if a.v1 != b.v1 {
+    if w == 1 {
+        return true;
+    }
+    if t.u0 != 0 {
         return false;
     }
-    if a.v2 != b.v2 {
-        return false;
-    }
-    if a.count != b.count {
-        return false;
-    }
-    if a.pole != b.pole {
+    if t.v0 != 0 {
         return false;
     }
     true

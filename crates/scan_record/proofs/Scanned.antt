@@ -20,13 +20,13 @@ use Rattle.curve.specs.declared.Curve.{Curve}
 use Rattle.curve.specs.Curves.{curveOf, Sound}
 use Rattle.scan_total.specs.declared.Running.{Running}
 use Rattle.scan_total.specs.Totals.{ToTake, Taken}
-use Rattle.record_curve.specs.declared.CurveRead.{CurveRead}
+use Rattle.record_curve.specs.declared.CurveRead.the-variants.{Taken as TakenCurve, Refused as RefusedCurve}
 use Rattle.record_divisor.specs.declared.DivisorRead.{DivisorRead}
 use Rattle.record_divisor.specs.declared.DivisorRead.the-variants.{Taken as Read, Refused as NotRead}
 use Rattle.curve.specs.Record.{recordOf}
 use Rattle.record_curve.specs.Read.{CurveIs}
 use Rattle.record_divisor.specs.Read.{DivisorIs}
-use Rattle.scan_resume.specs.declared.TakenUp.{TakenUp}
+use Rattle.scan_resume.specs.declared.TakenUp.the-variants.{Taken as TakenAgain, Refused as NotTakenUp}
 use Rattle.scan_resume.specs.Resumes.{ResumeIs}
 use Rattle.scan_record.specs.declared.ScanAnswer.{ScanAnswer}
 use Rattle.scan_record.specs.declared.ScanAnswer.the-variants.{Done, Refused}
@@ -53,47 +53,46 @@ module _ (c : Curve) (t : Running) (a : List ℕ) where
   unfolding scan-on
   rule-is e = ap (deliver rule []) e
 
-  module _ (r : TakenUp) (h : ResumeIs c (t .divisor) (t .count) r) where
-    pub not-resumed : (r .number ≡ 0 → ⊥) → scannedOf t (Refused (r .number) 0) ≡ scan-on (recordOf c) rule a
-    not-resumed z = sym (rule-is (on-refused _ rest (h .refuses z (t .pole))))
+  pub not-resumed : {n : ℕ} → ResumeIs c (t .divisor) (t .count) (NotTakenUp n) → scannedOf t (Refused n 0) ≡ scan-on (recordOf c) rule a
+  not-resumed h = sym (rule-is (on-refused _ rest (h (t .pole))))
 
-    module _ (z : r .number ≡ 0) where
-      resumed : go-on (resume (recordOf c) rule) rest ≡ rest (pair (c .m) (r .divisor))
-      resumed = on-taken _ rest (h .takes z (t .pole))
+  module _ (total : Divisor) (h : ResumeIs c (t .divisor) (t .count) (TakenAgain total)) where
+    resumed : go-on (resume (recordOf c) rule) rest ≡ rest (pair (c .m) total)
+    resumed = on-taken _ rest (h .takes (t .pole))
 
-      -- the pole's four bytes: not there, or another's; n is their number
-      pub no-pole : length a < 4 → scannedOf t (Refused 8 1) ≡ scan-on (recordOf c) rule a
-      no-pole l = sym (rule-is (resumed ∙ on-refused (scan-record (t .pole) a) (reads (pair (c .m) (r .divisor))) (rw (lt-leb 4 (length a) l) refl)))
+    -- the pole's four bytes: not there, or another's; n is their number
+    pub no-pole : length a < 4 → scannedOf t (Refused 8 1) ≡ scan-on (recordOf c) rule a
+    no-pole l = sym (rule-is (resumed ∙ on-refused (scan-record (t .pole) a) (reads (pair (c .m) total)) (rw (lt-leb 4 (length a) l) refl)))
 
-      module _ (l : 4 ≤ length a) {n : ℕ} (n-is : n ≡ word32 a 0) where
-        pub other-pole : (n ≡ t .pole → ⊥) → scannedOf t (Refused 20 0) ≡ scan-on (recordOf c) rule a
-        other-pole q = sym (rule-is (resumed ∙ on-refused (scan-record (t .pole) a) (reads (pair (c .m) (r .divisor))) (rw (le-leb 4 (length a) l, ne-eqb (word32 a 0) (t .pole) (λ e. q (n-is ∙ e))) refl)))
+    module _ (l : 4 ≤ length a) {n : ℕ} (n-is : n ≡ word32 a 0) where
+      pub other-pole : (n ≡ t .pole → ⊥) → scannedOf t (Refused 20 0) ≡ scan-on (recordOf c) rule a
+      other-pole q = sym (rule-is (resumed ∙ on-refused (scan-record (t .pole) a) (reads (pair (c .m) total)) (rw (le-leb 4 (length a) l, ne-eqb (word32 a 0) (t .pole) (λ e. q (n-is ∙ e))) refl)))
 
-        module _ (q : n ≡ t .pole) (b : DivisorRead) (b-is : DivisorIs c true (take (length a - 4) (drop 4 a)) 0 b) where
-          behind : DivisorIs c true (drop 4 a) 0 b
-          behind = subst (λ (s : List ℕ). DivisorIs c true s 0 b) (part-from a 4) b-is
+      module _ (q : n ≡ t .pole) (b : DivisorRead) (b-is : DivisorIs c true (take (length a - 4) (drop 4 a)) 0 b) where
+        behind : DivisorIs c true (drop 4 a) 0 b
+        behind = subst (λ (s : List ℕ). DivisorIs c true s 0 b) (part-from a 4) b-is
 
-          for-pole : go-on (resume (recordOf c) rule) rest ≡ reads (pair (c .m) (r .divisor)) (drop 4 a)
-          for-pole = resumed ∙ on-taken (scan-record (t .pole) a) (reads (pair (c .m) (r .divisor))) (scan-taken (t .pole) a l (sym n-is ∙ q))
+        for-pole : go-on (resume (recordOf c) rule) rest ≡ reads (pair (c .m) total) (drop 4 a)
+        for-pole = resumed ∙ on-taken (scan-record (t .pole) a) (reads (pair (c .m) total)) (scan-taken (t .pole) a l (sym n-is ∙ q))
 
-          pub not-read : (k : ℕ) → b ≡ NotRead k → scannedOf t (Refused k 1) ≡ scan-on (recordOf c) rule a
-          not-read k e = sym (rule-is (for-pole ∙ on-refused _ (sums (pair (c .m) (r .divisor))) (subst (DivisorIs c true (drop 4 a) 0) e behind 1)))
+        pub not-read : (k : ℕ) → b ≡ NotRead k → scannedOf t (Refused k 1) ≡ scan-on (recordOf c) rule a
+        not-read k e = sym (rule-is (for-pole ∙ on-refused _ (sums (pair (c .m) total)) (subst (DivisorIs c true (drop 4 a) 0) e behind 1)))
 
-          module _ (d : Divisor) (e : b ≡ Read d) where
-            read : DivisorIs c true (drop 4 a) 0 (Read d)
-            read = subst (DivisorIs c true (drop 4 a) 0) e behind
+        module _ (d : Divisor) (e : b ≡ Read d) where
+          read : DivisorIs c true (drop 4 a) 0 (Read d)
+          read = subst (DivisorIs c true (drop 4 a) 0) e behind
 
-            pub to-take : Sound c → ToTake c t (r .divisor) d
-            to-take s = record { sound = s; total = h .holds z; taken = read .0; room = omega (arith, h .room z) }
+          pub to-take : Sound c → ToTake c t total d
+          to-take s = record { sound = s; total = h .holds; taken = read .0; room = omega (arith, h .room) }
 
-            pub scanned : (x : Running) → Taken c t (r .divisor) d x → scannedOf t (Done x) ≡ scan-on (recordOf c) rule a
-            scanned x k = total-is ∙ sym (rule-is (for-pole ∙ on-taken _ (sums (pair (c .m) (r .divisor))) (read .1 1)))
-              where
-                total-is : scannedOf t (Done x) ≡ deliver rule [] (sums (pair (c .m) (r .divisor)) (pair (c .m) d))
-                total-is = λ i. record { answer = done 0; out = []; own = record { u = k .u-is i; v = k .v-is i; count = k .count-is i; pole = k .pole-is i } }
+          pub scanned : (x : Running) → Taken c t total d x → scannedOf t (Done x) ≡ scan-on (recordOf c) rule a
+          scanned x k = total-is ∙ sym (rule-is (for-pole ∙ on-taken _ (sums (pair (c .m) total)) (read .1 1)))
+            where
+              total-is : scannedOf t (Done x) ≡ deliver rule [] (sums (pair (c .m) total) (pair (c .m) d))
+              total-is = λ i. record { answer = done 0; out = []; own = record { u = k .u-is i; v = k .v-is i; count = k .count-is i; pole = k .pole-is i } }
 
 -- the curve first
-module _ (t : Running) (s a : List ℕ) (r : CurveRead) (h : CurveIs s r) where
+module _ (t : Running) (s a : List ℕ) where
   abbrev go : CurveRecord → Checked (Result RuleRunning)
   go c = rule-scanned c (runningOf t) a
 
@@ -101,9 +100,9 @@ module _ (t : Running) (s a : List ℕ) (r : CurveRead) (h : CurveIs s r) where
   unfolding scan-call
   call-is e = ap (deliver (runningOf t) []) e
 
-  pub no-curve : (r .number ≡ 0 → ⊥) → scannedOf t (Refused (r .number) 0) ≡ scan-call (runningOf t) s a
-  no-curve z = sym (call-is (on-refused _ go (h .refuses z)))
+  pub no-curve : {n : ℕ} → CurveIs s (RefusedCurve n) → scannedOf t (Refused n 0) ≡ scan-call (runningOf t) s a
+  no-curve h = sym (call-is (on-refused _ go h))
 
-  pub on-curve : r .number ≡ 0 → (x : ScanAnswer) → scannedOf t x ≡ scan-on (recordOf (r .curve)) (runningOf t) a → scannedOf t x ≡ scan-call (runningOf t) s a
+  pub on-curve : (c : Curve) → CurveIs s (TakenCurve c) → (x : ScanAnswer) → scannedOf t x ≡ scan-on (recordOf c) (runningOf t) a → scannedOf t x ≡ scan-call (runningOf t) s a
   unfolding scan-on
-  on-curve z x e = e ∙ sym (call-is (on-taken _ go (h .takes z)))
+  on-curve c h x e = e ∙ sym (call-is (on-taken _ go (h .1)))

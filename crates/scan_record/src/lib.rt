@@ -5,7 +5,9 @@ ghost use Rattle.curve.specs.Curves.{Sound};
 ghost use Rattle.curve.specs.Record.{recordOf};
 ghost use Rattle.scan_record.specs.Scans.{runningOf, scannedOf};
 use curve::Curve;
+use record_curve::CurveRead;
 use record_divisor::DivisorRead;
+use scan_resume::TakenUp;
 use scan_total::Running;
 
 pub enum ScanAnswer {
@@ -20,33 +22,29 @@ pub fn scan_on(c: Curve, t: Running, record: &[u8]) -> ScanAnswer
 {
     let before = t.divisor;
     let count = t.count;
-    let x = scan_resume::take_up(c, before, count);
-    let number = x.number;
-    let total = x.divisor;
-    if number != 0 {
-        return ScanAnswer::Refused(number, 0);
-    }
-    if record.len() < 4 {
-        return ScanAnswer::Refused(refusals::DIVISOR_LENGTH, 1);
-    }
-    let pole = t.pole as u64;
-    if record_bytes::read32(record, 0) != pole {
-        return ScanAnswer::Refused(refusals::OTHER_POLE, 0);
-    }
-    match record_divisor::divisor_at(c, true, &record[4..], 0) {
-        DivisorRead::Taken(d) => ScanAnswer::Done(t.take(c, total, d)),
-        DivisorRead::Refused(n) => ScanAnswer::Refused(n, 1),
+    match scan_resume::take_up(c, before, count) {
+        TakenUp::Taken(total) => {
+            if record.len() < 4 {
+                return ScanAnswer::Refused(refusals::DIVISOR_LENGTH, 1);
+            }
+            let pole = t.pole as u64;
+            if record_bytes::read32(record, 0) != pole {
+                return ScanAnswer::Refused(refusals::OTHER_POLE, 0);
+            }
+            match record_divisor::divisor_at(c, true, &record[4..], 0) {
+                DivisorRead::Taken(d) => ScanAnswer::Done(t.take(c, total, d)),
+                DivisorRead::Refused(n) => ScanAnswer::Refused(n, 1),
+            }
+        }
+        TakenUp::Refused(n) => ScanAnswer::Refused(n, 0),
     }
 }
 
 pub fn scan(t: Running, curve: &[u8], record: &[u8]) -> ScanAnswer
     ensures { λ r. ⌜ scannedOf t r ≡ scan-call (runningOf t) (now (curve .entry)) (now («record» .entry)) ⌝ }
 {
-    let read = record_curve::read_curve(curve);
-    let c = read.curve;
-    let number = read.number;
-    if number != 0 {
-        return ScanAnswer::Refused(number, 0);
+    match record_curve::read_curve(curve) {
+        CurveRead::Taken(c) => scan_on(c, t, record),
+        CurveRead::Refused(n) => ScanAnswer::Refused(n, 0),
     }
-    scan_on(c, t, record)
 }

@@ -20,6 +20,7 @@ use Rattle.divisor.proofs.Laws.{weight-is, weight-is-v}
 use Rattle.curve.specs.declared.Curve.{Curve}
 use Rattle.curve.specs.Curves.{curveOf, Divided}
 use Rattle.curve.specs.Record.{recordOf}
+use Rattle.scan_resume.specs.declared.TakenUp.the-variants.{Taken, Refused}
 use Rattle.scan_resume.specs.Resumes.{totalOf, ResumeIs}
 use Rattle.field.proofs.Decide.{otherwise}
 use Rattle.scan_resume.proofs.Ranges.{all-below, not-below, one-length, length-raw}
@@ -38,46 +39,37 @@ module _ (c : Curve) (d : Divisor) (count : ℕ) where
       (refused 15 0))
       (refused 15 0)
 
-  stops : (n : ℕ) (y : Divisor) → 0 < n → ((pole : ℕ) → resume (recordOf c) (totalOf d count pole) ≡ refused n 0) → ResumeIs c d count (record { number = n; divisor = y })
-  stops n y l e = record {
-    holds = λ z. absurd (omega arith);
-    room = λ z. absurd (omega arith);
-    takes = λ z. absurd (omega arith);
-    refuses = λ z. e;
-  }
-
   module _ (w : ℕ) (w-is : w ≡ weightOf d) where
-    pub heavy : c .g < w → ResumeIs c d count (record { number = 15; divisor = d })
+    pub heavy : c .g < w → ResumeIs c d count (Refused 15)
     unfolding resume
-    heavy l = stops 15 d (omega arith) (λ pole. rw (lt-leb (length (map raw (us d))) (c .g) (omega (arith, length-raw d))))
+    heavy l = λ pole. rw (lt-leb (length (map raw (us d))) (c .g) (omega (arith, length-raw d)))
 
     module _ (light : w ≤ c .g) where
-      pub out-of-range : (AllIn (c .m) d → ⊥) → ResumeIs c d count (record { number = 15; divisor = d })
+      pub out-of-range : (AllIn (c .m) d → ⊥) → ResumeIs c d count (Refused 15)
       unfolding resume
-      out-of-range n = stops 15 d (omega arith) (λ pole. rw (le-leb (length (map raw (us d))) (c .g) (omega (arith, length-raw d)), same, not-below (c .m) d n))
+      out-of-range n = λ pole. rw (le-leb (length (map raw (us d))) (c .g) (omega (arith, length-raw d)), same, not-below (c .m) d n)
 
       module _ (all : AllIn (c .m) d) (x : Divisor) (hx : Resumed (c .m) d x) where
         rule-is : (pole : ℕ) → resume (recordOf c) (totalOf d count pole) ≡ last (pair (c .m) x)
         unfolding resume
         rule-is pole = rw (le-leb (length (map raw (us d))) (c .g) (omega (arith, length-raw d)), same, all-below (c .m) d all) refl ∙ ap last (hx .is)
 
-        pub off-curve : (Divided c x → ⊥) → ResumeIs c d count (record { number = 15; divisor = d })
-        off-curve n = stops 15 d (omega arith) (λ pole. rule-is pole ∙ rw (otherwise (on-curve? (curveOf c) (pair (c .m) x)) (λ e. n (on-curve-test (curveOf c) (pair (c .m) x) .0 e))))
+        pub off-curve : (Divided c x → ⊥) → ResumeIs c d count (Refused 15)
+        off-curve n = λ pole. rule-is pole ∙ rw (otherwise (on-curve? (curveOf c) (pair (c .m) x)) (λ e. n (on-curve-test (curveOf c) (pair (c .m) x) .0 e)))
 
         module _ (on : Divided c x) where
           counted : (pole : ℕ) → resume (recordOf c) (totalOf d count pole) ≡ choose (leb (count) most-records) (choose (ltb (count) most-records) (taken (pair (c .m) x)) (refused 14 0)) (refused 15 0)
           counted pole = rule-is pole ∙ rw (on-curve-test (curveOf c) (pair (c .m) x) .1 on)
 
-          pub overfull : most-records < count → ResumeIs c d count (record { number = 15; divisor = d })
-          overfull l = stops 15 d (omega arith) (λ pole. counted pole ∙ rw (lt-leb (count) most-records l))
+          pub overfull : most-records < count → ResumeIs c d count (Refused 15)
+          overfull l = λ pole. counted pole ∙ rw (lt-leb (count) most-records l)
 
-          pub full : count ≡ most-records → ResumeIs c d count (record { number = 14; divisor = d })
-          full e = stops 14 d (omega arith) (λ pole. counted pole ∙ rw (le-leb (count) most-records (omega arith), le-ltb (count) most-records (omega arith)))
+          pub full : count ≡ most-records → ResumeIs c d count (Refused 14)
+          full e = λ pole. counted pole ∙ rw (le-leb (count) most-records (omega arith), le-ltb (count) most-records (omega arith))
 
-          pub goes-on : count < most-records → ResumeIs c d count (record { number = 0; divisor = x })
+          pub goes-on : count < most-records → ResumeIs c d count (Taken x)
           goes-on l = record {
-            holds = λ z. record { held = hx .held; valid = record { fits = omega (arith, weight-is (c .m) x, weight-is-v (c .m) x); small = omega (arith, weight-is (c .m) x, hx .weight); divides = on } };
-            room = λ z. l;
-            takes = λ z pole. counted pole ∙ rw (le-leb (count) most-records (omega arith), lt-ltb (count) most-records l);
-            refuses = λ z. absurd (z refl);
+            holds = record { held = hx .held; valid = record { fits = omega (arith, weight-is (c .m) x, weight-is-v (c .m) x); small = omega (arith, weight-is (c .m) x, hx .weight); divides = on } };
+            room = l;
+            takes = λ pole. counted pole ∙ rw (le-leb (count) most-records (omega arith), lt-ltb (count) most-records l);
           }

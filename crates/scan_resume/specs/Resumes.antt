@@ -12,13 +12,17 @@ use Rattle.curve.specs.declared.Curve.{Curve}
 use Rattle.curve.specs.Curves.{Holds}
 use Rattle.curve.specs.Record.{recordOf}
 use Rattle.scan_resume.specs.declared.TakenUp.{TakenUp}
+use Rattle.scan_resume.specs.declared.TakenUp.the-variants.{Taken, Refused}
 
 -- its divisor by the numbers it is written as, its count and its pole
 abbrev pub totalOf : Divisor → ℕ → ℕ → RuleRunning
 totalOf d count pole = record { u = map raw (us d); v = map raw (vs d); count = count; pole = pole }
 
-pub record ResumeIs (c : Curve) (d : Divisor) (count : ℕ) (r : TakenUp) : Type 0 where
-  pub holds : r .number ≡ 0 → Holds c (r .divisor)
-  pub room : r .number ≡ 0 → count < most-records
-  pub takes : r .number ≡ 0 → (pole : ℕ) → resume (recordOf c) (totalOf d count pole) ≡ taken (pair (c .m) (r .divisor))
-  pub refuses : (r .number ≡ 0 → ⊥) → (pole : ℕ) → resume (recordOf c) (totalOf d count pole) ≡ refused (r .number) 0
+pub record Resumes (c : Curve) (d : Divisor) (count : ℕ) (x : Divisor) : Type 0 where
+  pub holds : Holds c x
+  pub room : count < most-records
+  pub takes : (pole : ℕ) → resume (recordOf c) (totalOf d count pole) ≡ taken (pair (c .m) x)
+
+abbrev pub ResumeIs : Curve → Divisor → ℕ → TakenUp → Type 0
+ResumeIs c d count (Taken x) = Resumes c d count x
+ResumeIs c d count (Refused n) = (pole : ℕ) → resume (recordOf c) (totalOf d count pole) ≡ refused n 0

@@ -24,10 +24,10 @@ pub fn in_range(d: Divisor, m: Modulus) -> bool
     true
 }
 
-// A total's divisor taken up again, beside 0; or beside 15 or 14, where it can't go on, any divisor.
-pub struct TakenUp {
-    pub number: u64,
-    pub divisor: Divisor,
+// A total's divisor taken up again; or 15 or 14, where it can't go on.
+pub enum TakenUp {
+    Taken(Divisor),
+    Refused(u64),
 }
 
 pub fn take_up(c: Curve, d: Divisor, count: u64) -> TakenUp
@@ -37,38 +37,20 @@ pub fn take_up(c: Curve, d: Divisor, count: u64) -> TakenUp
     let g = c.g;
     let m = c.m;
     if g < d.weight() {
-        return TakenUp {
-            number: refusals::RUNNING_TOTAL,
-            divisor: d,
-        };
+        return TakenUp::Refused(refusals::RUNNING_TOTAL);
     }
     if !in_range(d, m) {
-        return TakenUp {
-            number: refusals::RUNNING_TOTAL,
-            divisor: d,
-        };
+        return TakenUp::Refused(refusals::RUNNING_TOTAL);
     }
     let x = scan_numbers::residues_of(d, m);
     if !c.contains(x) {
-        return TakenUp {
-            number: refusals::RUNNING_TOTAL,
-            divisor: d,
-        };
+        return TakenUp::Refused(refusals::RUNNING_TOTAL);
     }
     if refusals::MOST_COUNT < count {
-        return TakenUp {
-            number: refusals::RUNNING_TOTAL,
-            divisor: d,
-        };
+        return TakenUp::Refused(refusals::RUNNING_TOTAL);
     }
     if count == refusals::MOST_COUNT {
-        return TakenUp {
-            number: refusals::FULL,
-            divisor: d,
-        };
+        return TakenUp::Refused(refusals::FULL);
     }
-    TakenUp {
-        number: 0,
-        divisor: x,
-    }
+    TakenUp::Taken(x)
 }

@@ -5,22 +5,23 @@ use mathlib.Core.List.{List}
 use Rattle.rules.specs.Checks.{Checked}
 use Rattle.rules.specs.Records.{CurveRecord}
 use Rattle.rules.proofs.calls.Refusals.{check}
+use Rattle.curve.specs.declared.Curve.{Curve}
 use Rattle.curve.specs.Record.{recordOf}
-use Rattle.call_census.specs.declared.Training.{Training as Read}
+use Rattle.record_curve.specs.declared.CurveRead.the-variants.{Taken, Refused}
 use Rattle.call_census.specs.Training.{TrainingIs}
 use Rattle.text_lines.specs.Lines.{refused-line}
 use Rattle.text_rule.specs.Text.{lines-of, census-of}
 use Rattle.text_census.specs.declared.Opened.{Opened}
 use Rattle.text_census.specs.Opened.{OpenedIs}
 
-module _ (s : List ℕ) (t : Read) (h : TrainingIs s t) where
-  pub refuses : (t .number ≡ 0 → ⊥) → refused-line (t .number) 0 ≡ census-of s
+module _ (s : List ℕ) where
+  pub refuses : {n : ℕ} → TrainingIs s (Refused n) → refused-line n 0 ≡ census-of s
   unfolding census-of
-  refuses n = sym (ap (λ (x : Checked CurveRecord). check x refused-line lines-of) (h .refuses n))
+  refuses h = sym (ap (λ (x : Checked CurveRecord). check x refused-line lines-of) h)
 
-  pub takes : t .number ≡ 0 → census-of s ≡ lines-of (recordOf (t .curve))
+  pub takes : (c : Curve) → TrainingIs s (Taken c) → census-of s ≡ lines-of (recordOf c)
   unfolding census-of
-  takes z = ap (λ (x : Checked CurveRecord). check x refused-line lines-of) (h .takes z)
+  takes c h = ap (λ (x : Checked CurveRecord). check x refused-line lines-of) (h .1)
 
 -- another name of the same text
 pub opened-as : (x y out o : List ℕ) (r : Opened) → x ≡ y → OpenedIs x out o r → OpenedIs y out o r

@@ -3,6 +3,7 @@ ghost use Rattle.text_rule.specs.Text.{census-of, census-text};
 ghost use Rattle.text_tally.specs.Read.{fileOf};
 ghost use Rattle.text_census.specs.Opened.{OpenedIs};
 use curve::Curve;
+use record_curve::CurveRead;
 use text_tally::FileRead;
 
 pub enum Opened {
@@ -14,13 +15,10 @@ pub enum Opened {
 fn open_bytes(curve: &[u8], out: &mut [u8; 256]) -> Opened
     ensures { λ r. ⌜ OpenedIs (census-of (now (curve .entry))) (now (out .entry)) (now (out .exit)) r ⌝ }
 {
-    let t = call_census::read_training(curve);
-    let c = t.curve;
-    let number = t.number;
-    if number != 0 {
-        return Opened::Refused(text_lines::refusal(number, 0, out));
+    match call_census::read_training(curve) {
+        CurveRead::Taken(c) => Opened::Training(c),
+        CurveRead::Refused(n) => Opened::Refused(text_lines::refusal(n, 0, out)),
     }
-    Opened::Training(c)
 }
 
 // Of what was read of the file, whose bytes stand at the front of `curve`.

@@ -17,8 +17,9 @@ use Rattle.field.specs.declared.Modulus.{Modulus}
 use Rattle.divisor.specs.declared.Divisor.{Divisor}
 use Rattle.divisor.specs.Divisors.{pair}
 use Rattle.divisor.proofs.Laws.{weight-le}
+use Rattle.curve.specs.declared.Curve.{Curve}
 use Rattle.curve.specs.Curves.{Holds as OnCurve}
-use Rattle.record_curve.specs.declared.CurveRead.{CurveRead}
+use Rattle.record_curve.specs.declared.CurveRead.the-variants.{Taken as TakenCurve, Refused as RefusedCurve}
 use Rattle.curve.specs.Record.{recordOf}
 use Rattle.record_curve.specs.Read.{CurveIs}
 use Rattle.divisor.proofs.Laws.{weight-is, weight-is-v}
@@ -27,7 +28,8 @@ use Rattle.call_answer.specs.Answers.{Values, valuesOf}
 use Rattle.call_total.specs.declared.TotalRead.{TotalRead}
 use Rattle.call_total.specs.declared.TotalRead.the-variants.{Done, Refused}
 use Rattle.call_total.specs.Totals.{TotalIs}
-use Rattle.call_repeat.specs.Repeats.{RepeatIs}
+use Rattle.call_repeat.specs.Repeats.{repeat-on, RepeatIs}
+use Rattle.call_repeat.proofs.Calls.{on-curve as repeat-called}
 use Rattle.text_tally.specs.declared.FileRead.{FileRead}
 use Rattle.text_tally.specs.declared.FileRead.the-variants.{Holds, Unreadable}
 use Rattle.text_lines.specs.declared.Places.{Places}
@@ -73,32 +75,32 @@ module _ (n : ℕ) (q : Places) (m : Modulus) (d : Divisor) where
         three-printed l = printed three-room (put-then h (put-then k l))
 
 -- ---- of the bytes of a curve and of a batch
-module _ (s b : List ℕ) (r : CurveRead) (h : CurveIs s r) where
+module _ (s b : List ℕ) where
   abbrev after : (c : CurveRecord) → Checked (Batch (PairOf c)) → List ℕ
   after c x = check x refused-line (λ y. count-line (y .count) ++ (repeat-line (repeat-call s b .own) ++ total-line (c .p) (y .result)))
 
   abbrev next : CurveRecord → List ℕ
   next c = after c (batch c (sum (curve c)) b neutral)
 
-  pub no-curve : (r .number ≡ 0 → ⊥) → refused-line (r .number) 0 ≡ text-of s b
+  pub no-curve : {n : ℕ} → CurveIs s (RefusedCurve n) → refused-line n 0 ≡ text-of s b
   unfolding text-of
-  no-curve z = sym (ap (λ (x : Checked CurveRecord). check x refused-line next) (h .refuses z))
+  no-curve h = sym (ap (λ (x : Checked CurveRecord). check x refused-line next) h)
 
-  module _ (z : r .number ≡ 0) (t : TotalRead) (is : TotalIs (r .curve) b t) where
-    on-curve : text-of s b ≡ next (recordOf (r .curve))
+  module _ (c : Curve) (h : CurveIs s (TakenCurve c)) (t : TotalRead) (is : TotalIs c b t) where
+    on-curve : text-of s b ≡ next (recordOf c)
     unfolding text-of
-    on-curve = ap (λ (x : Checked CurveRecord). check x refused-line next) (h .takes z)
+    on-curve = ap (λ (x : Checked CurveRecord). check x refused-line next) (h .1)
 
     pub no-total : {n k : ℕ} → t ≡ Refused n k → refused-line n k ≡ text-of s b
-    no-total e = sym (on-curve ∙ ap (after (recordOf (r .curve))) (subst (TotalIs (r .curve) b) e is))
+    no-total e = sym (on-curve ∙ ap (after (recordOf c)) (subst (TotalIs c b) e is))
 
     module _ {d : Divisor} {n : ℕ} (e : t ≡ Done d n) where
-      pub total-holds : OnCurve (r .curve) d
-      total-holds = subst (TotalIs (r .curve) b) e is .0
+      pub total-holds : OnCurve c d
+      total-holds = subst (TotalIs c b) e is .0
 
-      pub three-lines : (a : Answer) (q : Places) → RepeatIs a (repeat-call s b) → (q .first, q .second) ≡ valuesOf a .1 → three n q (r .curve .m) d ≡ text-of s b
-      three-lines a q f g = sym (on-curve ∙ ap (after (recordOf (r .curve))) (subst (TotalIs (r .curve) b) e is .1)
-          ∙ ap (λ (x : ℕ × ℕ). count-line n ++ (repeat-line (record { first = x .0; second = x .1 }) ++ total-line (r .curve .m .p) (pair (r .curve .m) d))) (sym (g ∙ ap (λ (v : Values). v .1) (f .values))))
+      pub three-lines : (a : Answer) (q : Places) → RepeatIs a (repeat-on c b) → (q .first, q .second) ≡ valuesOf a .1 → three n q (c .m) d ≡ text-of s b
+      three-lines a q f g = sym (on-curve ∙ ap (after (recordOf c)) (subst (TotalIs c b) e is .1)
+          ∙ ap (λ (x : ℕ × ℕ). count-line n ++ (repeat-line (record { first = x .0; second = x .1 }) ++ total-line (c .m .p) (pair (c .m) d))) (sym (g ∙ ap (λ (v : Values). v .1) (repeat-called s b c h f .values))))
 
 -- ---- of a file, and what goes on from its bytes
 module _ (f : FileRead) (s : List ℕ) (go : List ℕ → List ℕ) where

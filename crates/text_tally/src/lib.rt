@@ -8,6 +8,7 @@ ghost use Rattle.text_rule.specs.Text.{text, with-file, text-of};
 ghost use Rattle.text_tally.specs.Read.{fileOf};
 use call_answer::Answer;
 use call_total::TotalRead;
+use record_curve::CurveRead;
 use text_lines::Places;
 
 // What was read of a file: how many bytes, or that it can't be opened or read.
@@ -46,20 +47,17 @@ pub fn front(s: &[u8], n: usize) -> &[u8]
 pub fn tally(curve: &[u8], batch: &[u8], out: &mut [u8; 256]) -> usize
     ensures { λ r. ⌜ Printed (now (out .entry)) (text-of (now (curve .entry)) (now (batch .entry))) (now (out .exit)) r ⌝ }
 {
-    let read = record_curve::read_curve(curve);
-    let c = read.curve;
-    let number = read.number;
-    if number != 0 {
-        return text_lines::refusal(number, 0, out);
-    }
-    match call_total::total_of(c, batch) {
-        TotalRead::Done(t, n) => {
-            let r = places_of(call_repeat::first_repeat(curve, batch));
-            let a = text_lines::put_count(out, 0, n);
-            let b = text_lines::put_repeat(out, a, r);
-            text_lines::put_total(out, b, t, c.m)
-        }
-        TotalRead::Refused(n, k) => text_lines::refusal(n, k, out),
+    match record_curve::read_curve(curve) {
+        CurveRead::Taken(c) => match call_total::total_on(c, batch) {
+            TotalRead::Done(t, n) => {
+                let r = places_of(call_repeat::repeat_on(c, batch));
+                let a = text_lines::put_count(out, 0, n);
+                let b = text_lines::put_repeat(out, a, r);
+                text_lines::put_total(out, b, t, c.m)
+            }
+            TotalRead::Refused(n, k) => text_lines::refusal(n, k, out),
+        },
+        CurveRead::Refused(n) => text_lines::refusal(n, 0, out),
     }
 }
 

@@ -1,3 +1,5 @@
+use mathlib.Core.Path.{subst}
+use Rattle.record_curve.specs.Read.{CurveIs}
 use Rattle.call_batch.proofs.Counts.{no-curve, on-curve}
 use borrow.Author.Needs.{needs}
 use Rattle.call_batch.proofs.check_batch.Statement.{statement}
@@ -6,14 +8,28 @@ use Rattle.call_batch.proofs.check_batch.Tie as tie
 read-curve-requires : tie.Need-read-curve-requires
 read-curve-requires c κs = search needs
 
-returns : tie.Need-returns
-returns c = let s = c .before .before .before .before .before .args in no-curve (s .curve .now) (s .batch .now) _ (c .before .before .read-curve .ensures) (c .if1 .taken)
+enum-known-c : tie.Need-enum-known-c
+enum-known-c c = search needs
 
 count-on-requires : tie.Need-count-on-requires
-count-on-requires c κs = c .before .before .read-curve .ensures .sound (c .if1 .left)
+count-on-requires c κs = let s = c .before .before .before .before .before .before .args in subst (CurveIs (s .curve .now)) (c .before .c .given .1) (c .before .before .before .read-curve .ensures) .0
+
+enum-known-n : tie.Need-enum-known-n
+enum-known-n c = search needs
+
+returns : tie.Need-returns
+returns c = let s = c .before .before .before .before .before .before .before .args in on-curve (s .curve .now) (s .batch .now) _ (subst (CurveIs (s .curve .now)) (c .before .before .c .given .1) (c .before .before .before .before .read-curve .ensures)) (c .count-on .result) (c .count-on .ensures)
 
 returns-2 : tie.Need-returns-2
-returns-2 c = let s = c .before .before .before .before .before .before .args in on-curve (s .curve .now) (s .batch .now) _ (c .before .before .before .read-curve .ensures) (c .before .if1 .left) (c .count-on .result) (c .count-on .ensures)
+returns-2 c = let s = c .before .before .before .before .before .before .args in no-curve (s .curve .now) (s .batch .now) (subst (CurveIs (s .curve .now)) (c .before .n .given .1) (c .before .before .before .read-curve .ensures))
 
 pub check-batch-spec : {M : Type 1} → statement M
-check-batch-spec = tie.close (tie.spec read-curve-requires returns count-on-requires returns-2)
+check-batch-spec =
+    tie.close
+    (tie.spec
+    read-curve-requires
+    enum-known-c
+    count-on-requires
+    enum-known-n
+    returns
+    returns-2)

@@ -1,33 +1,22 @@
-use Rattle.call_factors.proofs.Multiples.{multiply-refused, multiply-done}
+use mathlib.Core.Path.{refl}
+use Rattle.rules.specs.Calls.{multiply-call}
+use Rattle.call_answer.proofs.Written.{delivered}
 use borrow.Author.Needs.{needs}
 use Rattle.call_multiply.proofs.multiply.Statement.{statement}
 use Rattle.call_multiply.proofs.multiply.Tie as tie
 
-read-factors-requires : tie.Need-read-factors-requires
-read-factors-requires c κs = search needs
+multiplied-requires : tie.Need-multiplied-requires
+multiplied-requires c κs = search needs
 
-returns : tie.Need-returns
-returns c = let s = c .before .before .before .before .before .before .before in multiply-refused (s .args .curve .now) (s .args .a .now) (s .args .scalar .now) (c .before .before .read-factors .result) (c .before .before .read-factors .ensures) (s .args .out .now) (c .if1 .taken)
-
-quicker-requires : tie.Need-quicker-requires
-quicker-requires c κs = c .before .before .before .read-factors .ensures .ready (c .before .if1 .left)
-
-write-multiple-requires : tie.Need-write-multiple-requires
-write-multiple-requires c κs = search needs
+deliver-requires : tie.Need-deliver-requires
+deliver-requires c κs = search needs
 
 same-length : tie.Need-same-length
 same-length c = search needs
 
-returns-2 : tie.Need-returns-2
-returns-2 c = let w = c .before .before .write-multiple in let s = c .before .before .before .before .before .before .before .before .before .before .before .before .before in multiply-done (s .args .curve .now) (s .args .a .now) (s .args .scalar .now) (c .before .before .before .before .before .before .before .before .read-factors .result) (c .before .before .before .before .before .before .before .before .read-factors .ensures) (s .args .out .now) (c .before .before .before .before .before .before .if1 .left) (c .before .before .before .before .quicker .result) (c .before .before .before .before .quicker .ensures) (w .result) (w .last .1 .1 .0) (w .ensures)
+returns : tie.Need-returns
+unfolding multiply-call
+returns c = delivered (λ x. x) (0, 0) refl (c .before .before .before .before .before .before .before .before .before .args .out .now) (c .before .before .before .before .multiplied .result) (c .before .before .before .before .multiplied .ensures) (c .before .before .deliver .ensures)
 
 pub multiply-spec : {M : Type 1} → statement M
-multiply-spec =
-    tie.close
-    (tie.spec
-    read-factors-requires
-    returns
-    quicker-requires
-    write-multiple-requires
-    same-length
-    returns-2)
+multiply-spec = tie.close (tie.spec multiplied-requires deliver-requires same-length returns)

@@ -1,37 +1,22 @@
+use mathlib.Core.Path.{refl}
 use Rattle.rules.specs.Calls.{opposite-call}
-use Rattle.call_answer.proofs.Calls.{one-refused, one-done}
-use Rattle.rules.specs.Pair.{opposite}
+use Rattle.call_answer.proofs.Written.{delivered}
 use borrow.Author.Needs.{needs}
 use Rattle.call_sum.proofs.opposite.Statement.{statement}
 use Rattle.call_sum.proofs.opposite.Tie as tie
 
-read-curve-and-divisor-requires : tie.Need-read-curve-and-divisor-requires
-read-curve-and-divisor-requires c κs = search needs
+opposed-requires : tie.Need-opposed-requires
+opposed-requires c κs = search needs
 
-returns : tie.Need-returns
-unfolding opposite-call
-returns c = let s = c .before .before .before .before .before .before in one-refused (s .args .curve .now) (s .args .a .now) (s .args .out .now) (c .before .before .read-curve-and-divisor .result) (c .before .before .read-curve-and-divisor .ensures) (λ d x. opposite x) (c .if1 .taken)
-
-opposite-requires : tie.Need-opposite-requires
-opposite-requires c κs = let r = c .before .before .before .read-curve-and-divisor in (r .ensures .sound (c .before .if1 .left), r .ensures .holds (c .before .if1 .left))
-
-write-answer-requires : tie.Need-write-answer-requires
-write-answer-requires c κs = search needs
+deliver-requires : tie.Need-deliver-requires
+deliver-requires c κs = search needs
 
 same-length : tie.Need-same-length
 same-length c = search needs
 
-returns-2 : tie.Need-returns-2
+returns : tie.Need-returns
 unfolding opposite-call
-returns-2 c = let s = c .before .before .before .before .before .before .before .before .before .before .before .before in let r = c .before .before .before .before .before .before .before .before .read-curve-and-divisor in one-done (s .args .curve .now) (s .args .a .now) (s .args .out .now) (r .result) (r .ensures) (λ d x. opposite x) (c .before .before .before .before .opposite .result) (c .before .before .before .before .before .before .if1 .left) (c .before .before .before .before .opposite .ensures .is) (c .before .before .write-answer .ensures)
+returns c = delivered (λ x. (0, 0)) tt refl (c .before .before .before .before .before .before .before .before .args .out .now) (c .before .before .before .before .opposed .result) (c .before .before .before .before .opposed .ensures) (c .before .before .deliver .ensures)
 
 pub opposite-spec : {M : Type 1} → statement M
-opposite-spec =
-    tie.close
-    (tie.spec
-    read-curve-and-divisor-requires
-    returns
-    opposite-requires
-    write-answer-requires
-    same-length
-    returns-2)
+opposite-spec = tie.close (tie.spec opposed-requires deliver-requires same-length returns)

@@ -71,11 +71,11 @@ returns-2 c = let s = c .before .before .before .before .before .before .before 
 
 -- src/lib.rt:16:1
 returns-3 : tie.Need-returns-3
-returns-3 c = let s = c .before .before .before .before .before .before .before .before .before .before .before .before .before .before in high-large (s .args .s .now) (s .args .g) (s .args .m) (s .pre) (c .before .before .before .before .before .before .before .before .before .before .before .before .residues-at .result) (c .before .before .before .before .before .before .before .before .before .before .before .residues-at2 .result) (c .before .before .before .before .before .before .before .before .before .before .before .before .residues-at .ensures) (c .before .before .before .before .before .before .before .before .before .before .before .residues-at2 .ensures) (c .before .if1 .taken) (c .if2 .left) _
+returns-3 c = let s = c .before .before .before .before .before .before .before .before .before .before .before .before .before .before in high-large (s .args .s .now) (s .args .g) (s .args .m) (s .pre) (c .before .before .before .before .before .before .before .before .before .before .before .before .residues-at .result) (c .before .before .before .before .before .before .before .before .before .before .before .residues-at2 .result) (c .before .before .before .before .before .before .before .before .before .before .before .before .residues-at .ensures) (c .before .before .before .before .before .before .before .before .before .before .before .residues-at2 .ensures) (c .before .if1 .taken) (c .if2 .left)
 
 -- src/lib.rt:16:1
 returns-4 : tie.Need-returns-4
-returns-4 c = let s = c .before .before .before .before .before .before .before .before .before .before .before .before .before in low-large (s .args .s .now) (s .args .g) (s .args .m) (s .pre) (c .before .before .before .before .before .before .before .before .before .before .before .residues-at .result) (c .before .before .before .before .before .before .before .before .before .before .residues-at2 .result) (c .before .before .before .before .before .before .before .before .before .before .before .residues-at .ensures) (c .before .before .before .before .before .before .before .before .before .before .residues-at2 .ensures) (c .if1 .left) _
+returns-4 c = let s = c .before .before .before .before .before .before .before .before .before .before .before .before .before in low-large (s .args .s .now) (s .args .g) (s .args .m) (s .pre) (c .before .before .before .before .before .before .before .before .before .before .before .residues-at .result) (c .before .before .before .before .before .before .before .before .before .before .residues-at2 .result) (c .before .before .before .before .before .before .before .before .before .before .before .residues-at .ensures) (c .before .before .before .before .before .before .before .before .before .before .residues-at2 .ensures) (c .if1 .left)
 
 pub read-coefficients-spec : {M : Type 1} → statement M
 read-coefficients-spec =

@@ -1,14 +1,13 @@
 use mathlib.Core.Path.{subst}
 use native.Mathlib.Omega.{arith}
 use Rattle.record_curve_prime.specs.Primes.{PrimeIs}
-use Rattle.record_curve.proofs.Whole.{head-refused, prime-refused, to-read, prime-taken}
+use Rattle.record_curve.proofs.Whole.{head-refused, to-read, prime-taken}
 use borrow.Author.Needs.{needs}
 use Rattle.record_curve.proofs.read_curve.Statement.{statement}
 use Rattle.record_curve.proofs.read_curve.Tie as tie
 use Rattle.record_curve.proofs.read_curve.Reads as reads
 use Rattle.record_curve.proofs.read_curve.Lts as lts
 use Rattle.record_bytes.proofs.wide.Reads as wide-reads
-use Rattle.record_curve.proofs.no_curve.Reads as no-curve-reads
 use Rattle.record_curve.proofs.read_coefficients.Reads as read-coefficients-reads
 use Rattle.record_curve_head.proofs.head_number.Reads as head-number-reads
 use Rattle.record_curve_prime.proofs.read_prime.Reads as read-prime-reads
@@ -18,12 +17,8 @@ head-number-requires : tie.Need-head-number-requires
 head-number-requires c κs = search needs
 
 -- src/lib.rt:82:9
-no-curve-requires : tie.Need-no-curve-requires
-no-curve-requires c κs = search needs
-
--- src/lib.rt:82:9
 returns : tie.Need-returns
-returns c = head-refused _ _ (c .before .before .head-number .ensures) _ (c .before .if1 .taken) (c .no-curve .ensures)
+returns c = head-refused _ _ (c .before .head-number .ensures) (c .if1 .taken)
 
 -- src/lib.rt:84:11
 read-prime-requires : tie.Need-read-prime-requires
@@ -49,24 +44,19 @@ read-coefficients-requires c κs = let s = c .before .before .before .before .be
 enum-known-n : tie.Need-enum-known-n
 enum-known-n c = search needs
 
--- src/lib.rt:86:34
-no-curve-requires-2 : tie.Need-no-curve-requires-2
-no-curve-requires-2 c κs = search needs
-
 -- src/lib.rt:77:1
 returns-2 : tie.Need-returns-2
-returns-2 c = let s = c .before .before .before .before .before .before .before .before .before .before in prime-taken (s .args .s .now) _ (subst (PrimeIs (s .args .s .now)) (c .before .before .before .before .m .given .1) (c .before .before .before .before .before .before .read-prime .ensures)) _ (c .before .wide .ensures .0) _ (c .read-coefficients .ensures)
+returns-2 c = let s = c .before .before .before .before .before .before .before .before .before .before in prime-taken (s .args .s .now) _ (subst (PrimeIs (s .args .s .now)) (c .before .before .before .before .m .given .1) (c .before .before .before .before .before .before .read-prime .ensures)) _ (c .before .wide .ensures .0) (c .read-coefficients .result) (c .read-coefficients .ensures)
 
 -- src/lib.rt:77:1
 returns-3 : tie.Need-returns-3
-returns-3 c = let s = c .before .before .before .before .before .before .before .before in prime-refused (s .args .s .now) _ (subst (PrimeIs (s .args .s .now)) (c .before .before .n .given .1) (c .before .before .before .before .read-prime .ensures)) _ (c .no-curve2 .ensures)
+returns-3 c = let s = c .before .before .before .before .before .before .before in subst (PrimeIs (s .args .s .now)) (c .before .n .given .1) (c .before .before .before .read-prime .ensures) .is
 
 pub read-curve-spec : {M : Type 1} → statement M
 read-curve-spec =
     tie.close
     (tie.spec
     head-number-requires
-    no-curve-requires
     returns
     read-prime-requires
     enum-known-m
@@ -74,6 +64,5 @@ read-curve-spec =
     wide-requires
     read-coefficients-requires
     enum-known-n
-    no-curve-requires-2
     returns-2
     returns-3)

@@ -1,4 +1,6 @@
+use mathlib.Core.Path.{subst}
 use native.Mathlib.Omega.{arith}
+use Rattle.scan_resume.specs.Resumes.{ResumeIs}
 use Rattle.scan_record.proofs.Scanned.{not-resumed, no-pole, other-pole, not-read, to-take, scanned}
 use borrow.Author.Needs.{needs}
 use Rattle.scan_record.proofs.scan_on.Statement.{statement}
@@ -7,11 +9,11 @@ use Rattle.scan_record.proofs.scan_on.Tie as tie
 take-up-requires : tie.Need-take-up-requires
 take-up-requires c κs = search needs
 
-returns : tie.Need-returns
-returns c = let s = c .before .before .before .args in not-resumed (s .c) (s .t) (s .«record» .now) _ (c .before .take-up .ensures) (c .if1 .taken)
+enum-known-total : tie.Need-enum-known-total
+enum-known-total c = search needs
 
-returns-2 : tie.Need-returns-2
-returns-2 c = let s = c .before .before .before .before .args in no-pole (s .c) (s .t) (s .«record» .now) _ (c .before .before .take-up .ensures) (c .before .if1 .left) (omega arith)
+returns : tie.Need-returns
+returns c = let s = c .before .before .before .before .before .before .args in no-pole (s .c) (s .t) (s .«record» .now) _ (subst (ResumeIs (s .c) (s .t .divisor) (s .t .count)) (c .before .before .total .given .1) (c .before .before .before .before .take-up .ensures)) (omega arith)
 
 cast-pole : tie.Need-cast-pole
 cast-pole c = search needs
@@ -19,8 +21,8 @@ cast-pole c = search needs
 read32-requires : tie.Need-read32-requires
 read32-requires c κs = search needs
 
-returns-3 : tie.Need-returns-3
-returns-3 c = let s = c .before .before .before .before .before .before .before .args in other-pole (s .c) (s .t) (s .«record» .now) _ (c .before .before .before .before .before .take-up .ensures) (c .before .before .before .before .if1 .left) (c .before .before .before .if2 .left) (c .before .read32 .ensures .1) (c .if3 .taken)
+returns-2 : tie.Need-returns-2
+returns-2 c = let s = c .before .before .before .before .before .before .before .before .before .args in other-pole (s .c) (s .t) (s .«record» .now) _ (subst (ResumeIs (s .c) (s .t .divisor) (s .t .count)) (c .before .before .before .before .before .total .given .1) (c .before .before .before .before .before .before .before .take-up .ensures)) (c .before .before .before .if1 .left) (c .before .read32 .ensures .1) (c .if2 .taken)
 
 sub-divisor-at : tie.Need-sub-divisor-at
 sub-divisor-at c = search needs
@@ -38,27 +40,33 @@ enum-known-d : tie.Need-enum-known-d
 enum-known-d c = search needs
 
 take-requires : tie.Need-take-requires
-take-requires c κs = let s = c .before .before .before .before .before .before .before .before .before .before .before .before in to-take (s .args .c) (s .args .t) (s .args .«record» .now) _ (c .before .before .before .before .before .before .before .before .before .before .take-up .ensures) (c .before .before .before .before .before .before .before .before .before .if1 .left) (c .before .before .before .before .before .before .before .before .if2 .left) (c .before .before .before .before .before .before .read32 .ensures .1) (c .before .before .before .before .before .if3 .left) _ (c .before .before .before .divisor-at .ensures) _ (c .before .d .given .1) (s .pre)
+take-requires c κs = let s = c .before .before .before .before .before .before .before .before .before .before .before .before .before .before .args in to-take (s .c) (s .t) (s .«record» .now) _ (subst (ResumeIs (s .c) (s .t .divisor) (s .t .count)) (c .before .before .before .before .before .before .before .before .before .before .total .given .1) (c .before .before .before .before .before .before .before .before .before .before .before .before .take-up .ensures)) (c .before .before .before .before .before .before .before .before .if1 .left) (c .before .before .before .before .before .before .read32 .ensures .1) (c .before .before .before .before .before .if2 .left) _ (c .before .before .before .divisor-at .ensures) _ (c .before .d .given .1) (c .before .before .before .before .before .before .before .before .before .before .before .before .before .before .pre)
 
 enum-known-n : tie.Need-enum-known-n
 enum-known-n c = search needs
 
+enum-known-n-2 : tie.Need-enum-known-n-2
+enum-known-n-2 c = search needs
+
+returns-3 : tie.Need-returns-3
+returns-3 c = let s = c .before .before .before .before .before .before .before .before .before .before .before .before .before .before .before .args in scanned (s .c) (s .t) (s .«record» .now) _ (subst (ResumeIs (s .c) (s .t .divisor) (s .t .count)) (c .before .before .before .before .before .before .before .before .before .before .before .total .given .1) (c .before .before .before .before .before .before .before .before .before .before .before .before .before .take-up .ensures)) (c .before .before .before .before .before .before .before .before .before .if1 .left) (c .before .before .before .before .before .before .before .read32 .ensures .1) (c .before .before .before .before .before .before .if2 .left) _ (c .before .before .before .before .divisor-at .ensures) _ (c .before .before .d .given .1) (c .take .result) (c .take .ensures)
+
 returns-4 : tie.Need-returns-4
-returns-4 c = let s = c .before .before .before .before .before .before .before .before .before .before .before .before .before .args in scanned (s .c) (s .t) (s .«record» .now) _ (c .before .before .before .before .before .before .before .before .before .before .before .take-up .ensures) (c .before .before .before .before .before .before .before .before .before .before .if1 .left) (c .before .before .before .before .before .before .before .before .before .if2 .left) (c .before .before .before .before .before .before .before .read32 .ensures .1) (c .before .before .before .before .before .before .if3 .left) _ (c .before .before .before .before .divisor-at .ensures) _ (c .before .before .d .given .1) (c .take .result) (c .take .ensures)
+returns-4 c = let s = c .before .before .before .before .before .before .before .before .before .before .before .before .before .before .args in not-read (s .c) (s .t) (s .«record» .now) _ (subst (ResumeIs (s .c) (s .t .divisor) (s .t .count)) (c .before .before .before .before .before .before .before .before .before .before .total .given .1) (c .before .before .before .before .before .before .before .before .before .before .before .before .take-up .ensures)) (c .before .before .before .before .before .before .before .before .if1 .left) (c .before .before .before .before .before .before .read32 .ensures .1) (c .before .before .before .before .before .if2 .left) _ (c .before .before .before .divisor-at .ensures) _ (c .before .n .given .1)
 
 returns-5 : tie.Need-returns-5
-returns-5 c = let s = c .before .before .before .before .before .before .before .before .before .before .before .before .args in not-read (s .c) (s .t) (s .«record» .now) _ (c .before .before .before .before .before .before .before .before .before .before .take-up .ensures) (c .before .before .before .before .before .before .before .before .before .if1 .left) (c .before .before .before .before .before .before .before .before .if2 .left) (c .before .before .before .before .before .before .read32 .ensures .1) (c .before .before .before .before .before .if3 .left) _ (c .before .before .before .divisor-at .ensures) _ (c .before .n .given .1)
+returns-5 c = let s = c .before .before .before .before .before .args in not-resumed (s .c) (s .t) (s .«record» .now) (subst (ResumeIs (s .c) (s .t .divisor) (s .t .count)) (c .before .n2 .given .1) (c .before .before .before .take-up .ensures))
 
 pub scan-on-spec : {M : Type 1} → statement M
 scan-on-spec =
     tie.close
     (tie.spec
     take-up-requires
+    enum-known-total
     returns
-    returns-2
     cast-pole
     read32-requires
-    returns-3
+    returns-2
     sub-divisor-at
     part-divisor-at-start
     part-divisor-at-end
@@ -66,5 +74,7 @@ scan-on-spec =
     enum-known-d
     take-requires
     enum-known-n
+    enum-known-n-2
+    returns-3
     returns-4
     returns-5)

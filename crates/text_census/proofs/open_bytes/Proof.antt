@@ -1,28 +1,36 @@
+use mathlib.Core.Path.{subst}
+use Rattle.call_census.specs.Training.{TrainingIs}
 use Rattle.text_lines.proofs.Printing.{printed-as}
 use Rattle.text_census.proofs.Opening.{refuses, takes}
 use borrow.Author.Needs.{needs}
 use Rattle.text_census.proofs.open_bytes.Statement.{statement}
 use Rattle.text_census.proofs.open_bytes.Tie as tie
-use Rattle.text_census.proofs.open_bytes.Reads as reads
-use Rattle.text_census.proofs.open_bytes.Lts as lts
-use Rattle.call_census.proofs.read_training.Reads as read-training-reads
-use Rattle.text_lines.proofs.refusal.Reads as refusal-reads
 
--- src/lib.rt:17:9
 read-training-requires : tie.Need-read-training-requires
 read-training-requires c κs = search needs
 
--- src/lib.rt:21:32
+enum-known-c : tie.Need-enum-known-c
+enum-known-c c = search needs
+
+enum-known-n : tie.Need-enum-known-n
+enum-known-n c = search needs
+
 refusal-requires : tie.Need-refusal-requires
 refusal-requires c κs = search needs
 
--- src/lib.rt:21:9
 returns : tie.Need-returns
-returns c = printed-as (refuses (c .before .before .before .before .before .before .args .curve .now) (c .before .before .before .before .read-training .result) (c .before .before .before .before .read-training .ensures) (c .before .before .if1 .taken)) (c .refusal .ensures)
+returns c = let s = c .before .before .before .before .before .args in let h = subst (TrainingIs (s .curve .now)) (c .before .c .given .1) (c .before .before .before .read-training .ensures) in (h .0, takes (s .curve .now) _ h)
 
--- src/lib.rt:14:1
 returns-2 : tie.Need-returns-2
-returns-2 c = (c .before .before .read-training .ensures .sound (c .if1 .left), takes (c .before .before .before .before .args .curve .now) (c .before .before .read-training .result) (c .before .before .read-training .ensures) (c .if1 .left))
+returns-2 c = let s = c .before .before .before .before .before .before .before .args in printed-as (refuses (s .curve .now) (subst (TrainingIs (s .curve .now)) (c .before .before .before .n .given .1) (c .before .before .before .before .before .read-training .ensures))) (c .refusal .ensures)
 
 pub open-bytes-spec : {M : Type 1} → statement M
-open-bytes-spec = tie.close (tie.spec read-training-requires refusal-requires returns returns-2)
+open-bytes-spec =
+    tie.close
+    (tie.spec
+    read-training-requires
+    enum-known-c
+    enum-known-n
+    refusal-requires
+    returns
+    returns-2)

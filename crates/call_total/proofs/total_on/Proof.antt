@@ -5,10 +5,10 @@ use lib.ListN.{length}
 use Rattle.call_answer.proofs.Turns.{read-taken}
 use Rattle.sum_lanes.proofs.Rows.{row-waiting}
 use Rattle.call_total.proofs.Totals.{Filling, Shutting, total-begin, total-full, total-refuses, total-ends, turned-unit, total-turn, shut-begin, waits, lane-holds, before-kept, undoes, shut-turn, shut-ends}
-use Rattle.call_total.proofs.total_of.Statement.{statement}
-use Rattle.call_total.proofs.total_of.Tie as tie
-use Rattle.call_total.proofs.total_of.Reads as reads
-use Rattle.call_total.proofs.total_of.Lts as lts
+use Rattle.call_total.proofs.total_on.Statement.{statement}
+use Rattle.call_total.proofs.total_on.Tie as tie
+use Rattle.call_total.proofs.total_on.Reads as reads
+use Rattle.call_total.proofs.total_on.Lts as lts
 use Rattle.record_bytes.proofs.wide.Reads as wide-reads
 use Rattle.divisor.proofs.Divisor.neutral.Reads as neutral-reads
 use Rattle.field.proofs.Residue.inverse.Reads as inverse-reads
@@ -231,8 +231,8 @@ sum-requires c κs = (c .before .before .before .before .before .before .before 
 returns-3 : tie.Need-returns-3 Inv-loop2 μ-loop2 Inv-loop μ-loop
 returns-3 c = let i = c .before .before .before .before .loop in total-ends _ _ (c .before .before .before .before .before .before .before .before .before .before .pre) _ _ _ _ _ (i .inv .total) (omega arith) _ _ _ (c .before .before .waiting-total .ensures) (c .before .lane-total .ensures) (c .sum .ensures)
 
-pub total-of-spec : {M : Type 1} → statement M
-total-of-spec =
+pub total-on-spec : {M : Type 1} → statement M
+total-on-spec =
     tie.close
     (tie.spec
     Inv-loop2

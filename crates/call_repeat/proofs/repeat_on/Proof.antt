@@ -4,8 +4,8 @@ use mathlib.Core.Path.{refl}
 use Prim.Native.Nat.{_-_}
 use lib.ListN.{length}
 use Rattle.call_repeat.proofs.Listed.{Listing, found-at, list-begin, list-full, list-refuses, list-turn, list-pair, list-nothing}
-use Rattle.call_repeat.proofs.repeat_of.Statement.{statement}
-use Rattle.call_repeat.proofs.repeat_of.Tie as tie
+use Rattle.call_repeat.proofs.repeat_on.Statement.{statement}
+use Rattle.call_repeat.proofs.repeat_on.Tie as tie
 
 abbrev Inv-loop : tie.InvT-loop
 Inv-loop c s places₀ n₀ a₀ places n a = Listing c s places n a
@@ -88,8 +88,8 @@ returns-3 c = let i = c .before .before .before .before .before .before .loop in
 returns-4 : tie.Need-returns-4 Inv-loop μ-loop
 returns-4 c = let i = c .before .before .before .before .before .loop in list-nothing _ _ _ _ _ (i .inv) (omega arith) (c .before .before .search .result) (c .before .before .search .ensures) (c .enum-told .given .1)
 
-pub repeat-of-spec : {M : Type 1} → statement M
-repeat-of-spec =
+pub repeat-on-spec : {M : Type 1} → statement M
+repeat-on-spec =
     tie.close
     (tie.spec
     Inv-loop
