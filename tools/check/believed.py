@@ -33,7 +33,7 @@ import made
 from sources import wrapped
 
 ROOT = os.path.join(made.ROOT, "crates")
-CALLS = [("tablet", 'extern "C" fn'), ("scan_lent", "pub fn scan("), ("text_tally", "pub fn tally"), ("text_lines", "pub fn refusal")]
+CALLS = [("tablet", 'extern "C" fn'), ("scan_*", "pub fn scan(total: &mut"), ("text_tally", "pub fn tally"), ("text_lines", "pub fn refusal")]
 THEOREM = ("rules/proofs/Demand3", ["Demand3", "demand3"])
 ORDER = [
     "rules/specs", "signed", "tablet_answers", "scan_flat", "scan_lent", "scan_record", "divisor", "field", "digits", "text_lines", "text_tally",

@@ -4,6 +4,7 @@
     python3 tools/make/contracts.py             writes it
     python3 tools/make/contracts.py --check     writes nothing: it must be what it would write
 """
+import itertools
 import sys
 
 import made
@@ -35,9 +36,12 @@ def section(crate, functions):
     yield crate.sentence
     yield ""
     yield "```"
-    for k, function in enumerate(functions):
-        yield from [""] * bool(k)
-        yield from block(function)
+    lines = []
+    for file, those in itertools.groupby(functions, key=lambda function: function.file):
+        lines += [] if file in ("src/lib.rt", "src/main.rt") else ["// ---- " + file, ""]
+        for function in those:
+            lines += [*block(function), ""]
+    yield from lines[:-1]
     yield "```"
 
 

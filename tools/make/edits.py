@@ -42,6 +42,8 @@ def read_edit(crate, path):
         elif key == "old":
             old = rest
         elif line.startswith("new:"):
+            if texts[file].count(old) != 1:
+                raise SystemExit("%s: %s has its `old:` %d times, and it must once: %s" % (path, file, texts[file].count(old), old))
             at = texts[file].index(old)
             changed.append((file, texts[file].count("\n", 0, at) + 1))
             texts[file] = texts[file].replace(old, line[4:].removeprefix(" "), 1)
