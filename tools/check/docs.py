@@ -61,7 +61,8 @@ def flowing(page):
 
 def compared():
     """What the gate's programs run and compare: frames, corners, cases, rows and pairs."""
-    return len(counts.vectors()) + counts.corners() + counts.scenarios() + counts.censuses()[0] + sum(counts.field_rows()) + counts.pairs_of_polynomials()
+    programs = counts.scenarios() + counts.censuses()[0]
+    return len(counts.vectors()) + counts.corners() + programs + sum(counts.field_rows()) + counts.pairs_of_polynomials() + counts.rows_of_tuples()[0]
 
 
 STATED = [
@@ -377,8 +378,10 @@ def check_form():
 
 
 def check_decisions():
-    """A decision is cited with its title: docs/DECISIONS.md, NUMBER, "TITLE"; so one that moved is seen. Of every note."""
-    titles = {int(n): title.rstrip(".") for n, title in re.findall(r"^(\d+)\. \*\*(.*?)\*\*", text("docs/DECISIONS.md"), re.M)}
+    """Decisions are numbered from 1 on. One is cited with its title: docs/DECISIONS.md, NUMBER, "TITLE"; so one that moved is seen. Of every note."""
+    stated = re.findall(r"^(\d+)\. \*\*(.*?)\*\*", text("docs/DECISIONS.md"), re.M)
+    titles = {int(n): title.rstrip(".") for n, title in stated}
+    wrong.extend("DECISIONS.md has the number %s where %d is due" % (n, k) for k, (n, _) in enumerate(stated, 1) if int(n) != k)
     for page in EVERY:
         for number, title in re.findall(r'DECISIONS\.md, (\d+)(?:, "(.*?)")?', flowing(page)):
             if titles.get(int(number)) != title:
