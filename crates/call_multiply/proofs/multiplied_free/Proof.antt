@@ -15,7 +15,7 @@ of-requires : tie.Need-of-requires
 of-requires c κs = let s = c .before .before .before .before .before .before .before .args in subst (FactorsIs (s .curve .now) (s .a .now) (s .scalar .now)) (c .before .c .given .1) (c .before .before .before .read-factors .ensures) .ready
 
 key-of-requires : tie.Need-key-of-requires
-key-of-requires c κs = c .of .ensures .gives .holds .held
+key-of-requires c κs = c .by-tuples .ensures .gives .holds .held
 
 enum-known-n : tie.Need-enum-known-n
 enum-known-n c = search needs
@@ -32,7 +32,7 @@ multiplied-free-spec =
     (tie.spec
     read-factors-requires
     enum-known-c
-    of-requires
+    by-tuples-requires
     key-of-requires
     enum-known-n
     returns
