@@ -12,10 +12,10 @@ pub fn step(c: Curve, a: Divisor, b: Divisor, r: Divisor, digit: u8) -> Divisor
     ensures { λ t. ⌜ Stepped c a r digit t ⌝ }
 {
     let t = jacobian::double(c, r);
-    if digit == 0 {
+    if digit == scalar::MINUS {
         return jacobian::sum(c, t, b);
     }
-    if digit == 1 {
+    if digit == scalar::NULL {
         return t;
     }
     jacobian::sum(c, t, a)

@@ -32,10 +32,10 @@ pub fn climb(
     if z.is_zero(m) {
         return d; // special, as its Z says
     }
-    if digit == 0 {
+    if digit == scalar::MINUS {
         return multiple_tuple::mixed(d, p, f4, m);
     }
-    if digit == 1 {
+    if digit == scalar::NULL {
         return d;
     }
     multiple_tuple::mixed(d, q, f4, m)

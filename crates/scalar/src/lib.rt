@@ -6,6 +6,11 @@ ghost use Rattle.rules.specs.Bytes.{number};
 ghost use Rattle.rules.proofs.calls.Bytes.{AreBytes};
 ghost use Rattle.scalar.specs.Recoded.{Risen, Counted, Recoded};
 
+// The digits -1 and 0 as they are kept, one above; 1 is the other one.
+pub const MINUS: u8 = 0;
+
+pub const NULL: u8 = 1;
+
 // The signed digits of a scalar of up to 32 bytes, the lowest first, each kept as the number one above it; how many there are, and how many of them are nonzero.
 pub struct Digits {
     pub at: [u8; 257],
@@ -73,7 +78,7 @@ impl Digits {
         ensures { λ r. ⌜ Recoded (number (now (s .entry))) r ⌝ }
     {
         let counts = Counts::from_bytes(s);
-        let mut at: [u8; 257] = [1; 257];
+        let mut at: [u8; 257] = [NULL; 257];
         let end = 8 * s.len() + 1;
         let mut next = bit(s, 0);
         let mut carry: u8 = 0;
