@@ -50,7 +50,7 @@ impl Modulus {
         requires { ⌜ Odd p ⌝ }
         ensures { λ r. ⌜ OfNumber p r ⌝ }
     {
-        let q = field_words::turn(p);
+        let q = field_words::word_inverse(p);
         let one = field_montgomery::word(p);
         let x = field_montgomery::squared(one, p, q);
         let square = field_montgomery::lower(x, p);

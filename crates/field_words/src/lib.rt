@@ -9,7 +9,7 @@ const HALF: u64 = 4294967296;
 
 // The high and the low word of a product, by halves. The middle columns are added one after the other: both at once would pass a word.
 // The compiler makes one multiplication of each: leave the form as it is.
-pub fn high(a: u64, b: u64) -> u64
+fn high(a: u64, b: u64) -> u64
     ensures { λ r. ⌜ r ≡ a * b / word ⌝ }
 {
     let a0 = a % HALF;
@@ -22,7 +22,7 @@ pub fn high(a: u64, b: u64) -> u64
     a1 * b1 + t / HALF + t2 / HALF
 }
 
-pub fn low(a: u64, b: u64) -> u64
+fn low(a: u64, b: u64) -> u64
     ensures { λ r. ⌜ r ≡ a * b % word ⌝ }
 {
     let a0 = a % HALF;
@@ -81,7 +81,7 @@ fn closer(p: u64, x: u64) -> u64
 }
 
 // 1/p modulo 2^64 of an odd p. p itself is right in three bits, since p * p is 1 modulo 8, and each step doubles them: 6, 12, 24, 48, 96.
-pub fn turn(p: u64) -> u64
+pub fn word_inverse(p: u64) -> u64
     requires { ⌜ p % 2 ≡ 1 ⌝ }
     ensures { λ r. ⌜ p * r % word ≡ 1 ⌝ }
 {

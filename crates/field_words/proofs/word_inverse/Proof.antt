@@ -1,7 +1,7 @@
 use Rattle.field_words.proofs.Newton.{turn-is}
 use borrow.Author.Needs.{needs}
-use Rattle.field_words.proofs.turn.Statement.{statement}
-use Rattle.field_words.proofs.turn.Tie as tie
+use Rattle.field_words.proofs.word_inverse.Statement.{statement}
+use Rattle.field_words.proofs.word_inverse.Tie as tie
 
 closer-requires : tie.Need-closer-requires
 closer-requires c κs = search needs
@@ -21,8 +21,8 @@ closer-requires-5 c κs = search needs
 returns : tie.Need-returns
 returns c = turn-is _ _ _ _ _ _ (c .before .before .before .before .before .pre) (c .before .before .before .before .closer .ensures) (c .before .before .before .closer2 .ensures) (c .before .before .closer3 .ensures) (c .before .closer4 .ensures) (c .closer5 .ensures)
 
-pub turn-spec : {M : Type 1} → statement M
-turn-spec =
+pub word-inverse-spec : {M : Type 1} → statement M
+word-inverse-spec =
     tie.close
     (tie.spec
     closer-requires
