@@ -22,7 +22,7 @@ pub enum Roots {
 }
 
 // Whether a, other than 0, is a square.
-pub fn is_square(a: Residue, m: Modulus) -> bool
+fn is_square(a: Residue, m: Modulus) -> bool
     requires { ⌜ HasInverse m a ⌝ }
     ensures { λ r. ⌜ Decides r (Square (m .p) (el m a)) ⌝ }
 {
@@ -31,7 +31,7 @@ pub fn is_square(a: Residue, m: Modulus) -> bool
 }
 
 // The least of 2, 3, 4, .. that isn't a square.
-pub fn least_nonsquare(m: Modulus) -> Residue
+fn least_nonsquare(m: Modulus) -> Residue
     requires { ⌜ Good m ⌝ }
     ensures { λ r. ⌜ LeastNonsquare m r ⌝ }
 {
@@ -75,7 +75,7 @@ fn root_of_square(a: Residue, m: Modulus) -> Residue
     x
 }
 
-pub fn square_root(a: Residue, m: Modulus) -> Rooted
+fn square_root(a: Residue, m: Modulus) -> Rooted
     requires { ⌜ Good m × Kept m a ⌝ }
     ensures { λ r. ⌜ RootIs m a r ⌝ }
 {

@@ -36,7 +36,7 @@ fn without(n: u64, q: u64) -> u64
 }
 
 // Whether n is made up of powers of just the first k listed, primes below 2^31 that rise, each of them dividing it.
-pub fn is_made_of(n: u64, q: [u64; MOST_WITNESS], k: usize) -> bool
+fn is_made_of(n: u64, q: [u64; MOST_WITNESS], k: usize) -> bool
     requires { ⌜ (0 < n) × (k ≤ 15) ⌝ }
     ensures { λ r. ⌜ Decides r (MadeOf n (take k q)) ⌝ }
 {

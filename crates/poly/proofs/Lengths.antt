@@ -1,5 +1,5 @@
 -- The length of a Poly and the degree of what it stands for. Gives: the scan for the length; that lengths are exact (`length-le`,
--- `none-is`, `is-none`, `degree-is`); `recast`, the same value under another name and with a wider bound.
+-- `none-is`, `is-none`, `degree-of`); `recast`, the same value under another name and with a wider bound.
 use Prim.Native.Nat.{ℕ, _+_, _-_, _<_, _≤_}
 use mathlib.Core.Path.{_≡_, sym, ap, _∙_}
 use native.Mathlib.Omega.{arith}
@@ -14,7 +14,6 @@ use Rattle.field.specs.Residues.{Good}
 use Rattle.field.proofs.Laws.{residue-field}
 use Rattle.poly.specs.declared.Poly.{Poly}
 use Rattle.poly.specs.Polys.{K, P, pol, Ok, Is}
-use Rattle.poly.specs.Contracts.{IsDegree}
 
 -- the arithmetic of counts, apart from the records of a proof, where `omega` has less to read
 pub one-back : {k : ℕ} → 0 < k → k - 1 + 1 ≡ k
@@ -76,6 +75,3 @@ module _ (m : Modulus) where
 
   pub degree-of : (g : Good m) (r : Poly) → Ok m r → 0 < r .n → Degree (residue-field m g) (r .n - 1) (pol m r)
   degree-of g r h l = record { below = λ k i. h .size .end k (omega arith); top = h .size .top l }
-
-pub degree-is : (r : Poly) → 0 < r .n → IsDegree r (r .n - 1)
-degree-is r l = λ m h. degree-of m (h .fill .good) r h l

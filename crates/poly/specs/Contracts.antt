@@ -6,11 +6,9 @@ use Rattle.algebra.proofs.ring.Divides.{Divides}
 use Rattle.algebra.proofs.poly.Bound.{Below}
 use Rattle.algebra.proofs.poly.Poly.{coef}
 use Rattle.algebra.proofs.poly.Term.{C}
-use Rattle.algebra.proofs.poly.Degree.{Degree}
 use Rattle.field.specs.declared.Residue.{Residue}
 use Rattle.field.specs.declared.Modulus.{Modulus}
 use Rattle.field.specs.Residues.{Kept, Stands}
-use Rattle.field.proofs.Laws.{residue-field}
 use Rattle.poly.specs.declared.Poly.{Poly}
 use Rattle.poly.specs.Polys.{room, K, P, polL, pol, Filled, Sized, Ok}
 
@@ -43,9 +41,6 @@ pub record Product (m : Modulus) (a b : Poly) : Type 0 where
 pub record Led (m : Modulus) (a : Poly) : Type 0 where
   pub ok : Ok m a
   pub some : 0 < a .n
-
-abbrev pub IsDegree : Poly → ℕ → Type 0
-IsDegree a n = (m : Modulus) (h : Ok m a) → Degree (residue-field m (h .fill .good)) n (pol m a)
 
 -- u has leading coefficient 1
 pub record IsMonic (m : Modulus) (u : Poly) : Type 0 where

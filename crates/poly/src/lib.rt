@@ -2,13 +2,13 @@
 // methods of `field` alone. One contract serves nearly every operation: `Is m r v n`, that r is in good order, stands for v and has at
 // most n coefficients. Loops index the array themselves: `get` tests its index, which loops needn't.
 ghost use mathlib.Core.Path.{_≡_};
-ghost use Prim.Native.Nat.{_+_, _-_, _<_, max};
+ghost use Prim.Native.Nat.{_+_, _-_, max};
 ghost use Rattle.algebra.proofs.poly.Poly.{coef};
 ghost use Rattle.algebra.proofs.poly.Term.{term, C};
 ghost use Rattle.algebra.proofs.poly.Derivative.{derP};
 ghost use Rattle.field.specs.Residues.{el, Good, Kept, Stands};
 ghost use Rattle.poly.specs.Polys.{K, P, pol, Ok, Is};
-ghost use Rattle.poly.specs.Contracts.{Gets, FilledTo, Size, Put, Product, Led, IsDegree, ToDivide, Divided, ToQuotient, Quotient, MadeMonic};
+ghost use Rattle.poly.specs.Contracts.{Gets, FilledTo, Size, Put, Product, Led, ToDivide, Divided, ToQuotient, Quotient, MadeMonic};
 use field::Modulus;
 use field::Residue;
 
@@ -28,7 +28,7 @@ pub struct DivRem {
     pub remainder: Poly,
 }
 
-pub fn larger(a: usize, b: usize) -> usize
+fn larger(a: usize, b: usize) -> usize
     ensures { λ r. ⌜ r ≡ max a b ⌝ }
 {
     if a < b {
@@ -239,15 +239,7 @@ impl Poly {
         q
     }
 
-    // Of a polynomial other than zero.
-    pub fn degree(self) -> usize
-        requires { ⌜ 0 < self .n ⌝ }
-        ensures { λ r. ⌜ IsDegree self r ⌝ }
-    {
-        self.n - 1
-    }
-
-    pub fn lead(self, m: Modulus) -> Residue
+    fn lead(self, m: Modulus) -> Residue
         requires { ⌜ Led m self ⌝ }
         ensures { λ r. ⌜ Stands m r (coef (K m) (pol m self) (self .n - 1)) ⌝ }
     {

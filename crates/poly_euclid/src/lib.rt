@@ -25,7 +25,7 @@ pub struct RightLine {
 }
 
 // Quotient and remainder by any u but zero: by u made monic, and only the quotient is scaled back.
-pub fn divide(a: Poly, u: Poly, m: Modulus) -> DivRem
+fn divide(a: Poly, u: Poly, m: Modulus) -> DivRem
     requires { ⌜ ToDivideBy m a u ⌝ }
     ensures { λ d. ⌜ Divided m a u (d .quotient) (d .remainder) ⌝ }
 {

@@ -26,7 +26,7 @@ pub fn read64(s: &[u8], a: usize) -> u64
     read32(s, a) * 4294967296 + read32(s, a + 4)
 }
 
-pub fn write64(out: &mut [u8], a: usize, x: u64)
+fn write64(out: &mut [u8], a: usize, x: u64)
     requires { ⌜ a + 8 ≤ length (now out) ⌝ }
     ensures { λ _. ⌜ now (out .exit) ≡ sets (now (out .entry)) a (bytes64 x) ⌝ }
 {
