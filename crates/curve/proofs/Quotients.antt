@@ -13,8 +13,8 @@ use Rattle.divisor.specs.declared.Divisor.the-variants.{Two, Three}
 use Rattle.divisor.specs.declared.Quadratic.{Quadratic}
 use Rattle.divisor.specs.declared.Cubic.{Cubic}
 use Rattle.divisor.specs.Divisors.{elements, pair}
-use Rattle.rests.specs.declared.Duo.{Duo}
-use Rattle.rests.specs.declared.Trio.{Trio}
+use Rattle.divisor.specs.declared.Duo.{Duo}
+use Rattle.divisor.specs.declared.Trio.{Trio}
 use Rattle.rests.specs.Turns.{K, AllKept, two, three}
 use Rattle.curve.specs.declared.Curve.{Curve}
 use Rattle.curve.specs.Curves.{above, Sound}

@@ -10,12 +10,12 @@ ghost use Rattle.rests.specs.Turns.{two, three};
 ghost use Rattle.curve.specs.Rests.{TopOne, TopTwo, Rests};
 use divisor::Cubic;
 use divisor::Divisor;
+use divisor::Duo;
 use divisor::Linear;
 use divisor::Quadratic;
+use divisor::Trio;
 use field::Modulus;
 use field::Residue;
-use rests::Duo;
-use rests::Trio;
 
 // f without its leading 1. In genus 2 there is no f5 and no f6: they are zero, and not looked at.
 pub struct Curve {

@@ -31,6 +31,18 @@ pub struct Cubic {
     pub v2: Residue,
 }
 
+// What sums and divisions by u make on the way: c0 + c1 x, and c0 + c1 x + c2 x².
+pub struct Duo {
+    pub c0: Residue,
+    pub c1: Residue,
+}
+
+pub struct Trio {
+    pub c0: Residue,
+    pub c1: Residue,
+    pub c2: Residue,
+}
+
 pub enum Divisor {
     Neutral,
     One(Linear),

@@ -23,7 +23,7 @@ use Rattle.multiple_tuple.specs.declared.Tuple.{Tuple}
 use Rattle.multiple_tuple.specs.declared.Gap.{Gap}
 use Rattle.multiple_tuple.specs.declared.Line.{Line}
 use Rattle.multiple_tuple.specs.declared.RightSide.{RightSide}
-use Rattle.multiple_tuple.specs.declared.Duo.{Duo}
+use Rattle.divisor.specs.declared.Duo.{Duo}
 use Rattle.multiple_tuple.specs.declared.Powers.{Powers}
 use Rattle.multiple_tuple.specs.Tuples.{K, Over, Quotients, Tabled, last, curve2, Added, Mixed, Doubled}
 use Rattle.multiple_tuple.specs.Steps.{Widened, WidenedPlain, Differ, Scaled, Chorded, Righted, Touched, Prepared, Quotes, TimesS3, MakesU, MakesUTwice, MakesV, Through}

@@ -12,7 +12,7 @@ use Rattle.multiple_tuple.specs.declared.Tuple.{Tuple}
 use Rattle.multiple_tuple.specs.declared.Gap.{Gap}
 use Rattle.multiple_tuple.specs.declared.Line.{Line}
 use Rattle.multiple_tuple.specs.declared.RightSide.{RightSide}
-use Rattle.multiple_tuple.specs.declared.Duo.{Duo}
+use Rattle.divisor.specs.declared.Duo.{Duo}
 use Rattle.multiple_tuple.specs.declared.Powers.{Powers}
 use Rattle.multiple_tuple.specs.Tuples.{K, KeptTuple, Over, Tabled, last}
 

@@ -10,6 +10,7 @@ ghost use Rattle.divisor.specs.Divisors.{Held};
 ghost use Rattle.multiple_tuple.specs.Tuples.{KeptTuple, Added, Mixed, Doubled, Lifted, Divided};
 ghost use Rattle.multiple_tuple.specs.Steps.{KeptGap, KeptDuo, KeptRight, KeptLine, KeptPowers, Widened, WidenedPlain, Differ, Chorded, Righted, Touched, Prepared, MakesU, MakesUTwice, MakesV, Through};
 use divisor::Divisor;
+use divisor::Duo;
 use divisor::Quadratic;
 use field::Modulus;
 use field::Residue;
@@ -28,12 +29,6 @@ pub struct Gap {
     pub z1: Residue,
     pub z2: Residue,
     pub both: Residue,
-}
-
-// c0 + c1 x.
-pub struct Duo {
-    pub c0: Residue,
-    pub c1: Residue,
 }
 
 // A doubling's k, and 2 u1 - f4.

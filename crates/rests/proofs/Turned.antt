@@ -14,7 +14,7 @@ use Rattle.divisor.specs.declared.Linear.{Linear}
 use Rattle.divisor.specs.declared.Quadratic.{Quadratic}
 use Rattle.divisor.specs.Divisors.{us, elements}
 use Rattle.divisor.proofs.Laws.{length-elements}
-use Rattle.rests.specs.declared.Duo.{Duo}
+use Rattle.divisor.specs.declared.Duo.{Duo}
 use Rattle.rests.specs.Turns.{K, two, AllKept, Leaves, Turned}
 
 module _ (m : Modulus) where

@@ -9,8 +9,8 @@ use Rattle.field.specs.declared.Residue.{Residue}
 use Rattle.field.specs.Residues.{el, Kept}
 use Rattle.divisor.specs.declared.Divisor.{Divisor}
 use Rattle.divisor.specs.Divisors.{us, elements}
-use Rattle.rests.specs.declared.Duo.{Duo}
-use Rattle.rests.specs.declared.Trio.{Trio}
+use Rattle.divisor.specs.declared.Duo.{Duo}
+use Rattle.divisor.specs.declared.Trio.{Trio}
 
 abbrev pub two : Duo → List Residue
 two a = a .c0 ∷ a .c1 ∷ []

@@ -7,22 +7,12 @@ ghost use Rattle.field.specs.Residues.{el, Kept, Stands};
 ghost use Rattle.divisor.specs.Divisors.{Held};
 ghost use Rattle.rests.specs.Turns.{two, three, AllKept, AllZero, Turned};
 use divisor::Divisor;
+use divisor::Duo;
 use divisor::Linear;
 use divisor::Quadratic;
+use divisor::Trio;
 use field::Modulus;
 use field::Residue;
-
-// What a division leaves: c0 + c1 x, and c0 + c1 x + c2 x².
-pub struct Duo {
-    pub c0: Residue,
-    pub c1: Residue,
-}
-
-pub struct Trio {
-    pub c0: Residue,
-    pub c1: Residue,
-    pub c2: Residue,
-}
 
 // c - t * u.
 pub fn less(c: Residue, t: Residue, u: Residue, m: Modulus) -> Residue

@@ -31,7 +31,7 @@ use Rattle.divisor.specs.declared.Linear.{Linear}
 use Rattle.divisor.specs.declared.Divisor.{Divisor}
 use Rattle.divisor.specs.declared.Divisor.the-variants.{One, Two}
 use Rattle.divisor.specs.Divisors.{pair}
-use Rattle.sum_genus2_steps.specs.declared.Duo.{Duo}
+use Rattle.divisor.specs.declared.Duo.{Duo}
 use Rattle.sum_genus2_steps.specs.declared.Bezout.{Bezout}
 use Rattle.sum_genus2.specs.declared.Opened.{Opened}
 use Rattle.sum_genus2_steps.specs.declared.Slope.{Slope}

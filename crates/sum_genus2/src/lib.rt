@@ -6,13 +6,13 @@ ghost use Rattle.divisor.specs.Divisors.{Held};
 ghost use Rattle.sum_genus2_steps.specs.Steps.{Apart, Undoes};
 ghost use Rattle.sum_genus2.specs.Sums.{Ready, Flat, Opens, OpensTwice, Closes, Sum2, Double2};
 use divisor::Divisor;
+use divisor::Duo;
 use divisor::Linear;
 use divisor::Quadratic;
 use field::Modulus;
 use field::Residue;
 use sum_formulas::Condition;
 use sum_formulas::Sought;
-use sum_genus2_steps::Duo;
 
 // What stands before the division: the slope is s / r. i is handed on because the new u needs it again.
 pub struct Opened {

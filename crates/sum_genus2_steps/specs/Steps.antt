@@ -15,7 +15,7 @@ use Rattle.divisor.specs.declared.Quadratic.{Quadratic}
 use Rattle.divisor.specs.declared.Linear.{Linear}
 use Rattle.divisor.specs.declared.Divisor.the-variants.{One, Two}
 use Rattle.divisor.specs.Divisors.{Held}
-use Rattle.sum_genus2_steps.specs.declared.Duo.{Duo}
+use Rattle.divisor.specs.declared.Duo.{Duo}
 use Rattle.sum_genus2_steps.specs.declared.Bezout.{Bezout}
 use Rattle.sum_genus2_steps.specs.declared.Slope.{Slope}
 

@@ -4,16 +4,11 @@ ghost use Rattle.field.specs.Residues.{Kept};
 ghost use Rattle.divisor.specs.Divisors.{Held};
 ghost use Rattle.sum_genus2_steps.specs.Steps.{KeptDuo, KeptSlope, ux, twice, Eased, Inverted, Apart, Gap, Square, Right, Times, Undoes, Slopes, Quotient, Rest, Line};
 use divisor::Divisor;
+use divisor::Duo;
 use divisor::Linear;
 use divisor::Quadratic;
 use field::Modulus;
 use field::Residue;
-
-// c0 + c1 x.
-pub struct Duo {
-    pub c0: Residue,
-    pub c1: Residue,
-}
 
 // i · h is r modulo u; e is i0 - u1 · i1.
 pub struct Bezout {

@@ -19,7 +19,7 @@ use Rattle.field.specs.Residues.{el, Kept, Settled}
 use Rattle.divisor.specs.declared.Cubic.{Cubic}
 use Rattle.divisor.specs.declared.Divisor.the-variants.{Three}
 use Rattle.divisor.specs.Divisors.{pair}
-use Rattle.sum_genus3_open.specs.declared.Tri.{Tri}
+use Rattle.divisor.specs.declared.Trio.{Trio}
 use Rattle.sum_genus3_open.specs.declared.Bezout.{Bezout}
 use Rattle.sum_genus3_open.specs.declared.Opened.{Opened}
 
@@ -38,7 +38,7 @@ module _ (m : Modulus) where
   abbrev _⊖_ : P → P → P
   a ⊖ b = a ⊕ negP b
 
-  abbrev pub triOf : Tri → P
+  abbrev pub triOf : Trio → P
   triOf d = pol K (el m (d .c0) ∷ el m (d .c1) ∷ el m (d .c2) ∷ [])
 
   abbrev pub uOf : Cubic → P
@@ -59,7 +59,7 @@ module _ (m : Modulus) where
   abbrev pub fWith : A → A → A → A → Residue → Residue → Residue → P
   fWith g0 g1 g2 g3 f4 f5 f6 = mon K (g0 ∷ g1 ∷ g2 ∷ g3 ∷ el m f4 ∷ el m f5 ∷ el m f6 ∷ [])
 
-  pub record KeptTri (d : Tri) : Type 0 where
+  pub record KeptTrio (d : Trio) : Type 0 where
     pub c0 : Kept m (d .c0)
     pub c1 : Kept m (d .c1)
     pub c2 : Kept m (d .c2)
@@ -83,24 +83,24 @@ module _ (m : Modulus) where
     pub is : inner b x ⊗ h ⊕ j ⊗ uOf b ≡ C K (el m (x .r))
     pub none : el m (x .r) ≡ 𝟘 → Coprime K h (uOf b) → ⊥
 
-  pub record Gap (a b : Cubic) (c : Tri) : Type 0 where
-    pub kept : KeptTri c
+  pub record Gap (a b : Cubic) (c : Trio) : Type 0 where
+    pub kept : KeptTrio c
     pub is : triOf c ≡ vOf b ⊖ vOf a
 
   -- (f - v²)/u modulo u
-  pub record Right (a : Cubic) (f3 f4 f5 f6 : Residue) (c : Tri) : Type 0 where
-    pub kept : KeptTri c
+  pub record Right (a : Cubic) (f3 f4 f5 f6 : Residue) (c : Trio) : Type 0 where
+    pub kept : KeptTrio c
     pub q : P
     pub tops : (g0 g1 g2 : A) → Below K 3 (coef K (fWith g0 g1 g2 (el m f3) f4 f5 f6 ⊖ vOf a ⊗ vOf a ⊖ uOf a ⊗ (q ⊗ uOf a ⊕ triOf c)))
 
   -- only the top is tested for 0
-  pub record TopSettled (d : Tri) : Type 0 where
+  pub record TopSettled (d : Trio) : Type 0 where
     pub c0 : Kept m (d .c0)
     pub c1 : Kept m (d .c1)
     pub c2 : Settled m (d .c2)
 
   -- c·i modulo u
-  pub record Times (c : Tri) (x : Bezout) (b : Cubic) (s : Tri) : Type 0 where
+  pub record Times (c : Trio) (x : Bezout) (b : Cubic) (s : Trio) : Type 0 where
     pub settled : TopSettled s
     pub q : P
     pub is : triOf c ⊗ inner b x ≡ q ⊗ uOf b ⊕ triOf s

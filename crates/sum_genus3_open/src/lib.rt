@@ -6,18 +6,12 @@
 // The tables have f_6 = 0; here it is any. Only a double looks at it before the division, where (f - v²) / u is (x + f_6 - 2 u2) · u and a rest.
 ghost use Rattle.field.specs.Residues.{Kept};
 ghost use Rattle.divisor.specs.Divisors.{Held};
-ghost use Rattle.sum_genus3_open.specs.Opens.{KeptTri, Inner, uOf, twice, Inverts, Gap, Right, Times, Opens, OpensTwice};
+ghost use Rattle.sum_genus3_open.specs.Opens.{KeptTrio, Inner, uOf, twice, Inverts, Gap, Right, Times, Opens, OpensTwice};
 use divisor::Cubic;
 use divisor::Divisor;
+use divisor::Trio;
 use field::Modulus;
 use field::Residue;
-
-// c0 + c1 x + c2 x².
-pub struct Tri {
-    pub c0: Residue,
-    pub c1: Residue,
-    pub c2: Residue,
-}
 
 // i and r; i0 is i at 0.
 pub struct Bezout {
@@ -31,7 +25,7 @@ pub struct Bezout {
 // r and s'.
 pub struct Opened {
     pub r: Residue,
-    pub s: Tri,
+    pub s: Trio,
 }
 
 // i · u is r modulo the other u.
@@ -60,14 +54,14 @@ fn invert_u(a: Cubic, b: Cubic, m: Modulus) -> Bezout
 }
 
 // The other v, less v.
-fn v_gap(a: Cubic, b: Cubic, m: Modulus) -> Tri
+fn v_gap(a: Cubic, b: Cubic, m: Modulus) -> Trio
     requires { ⌜ Held m (Divisor.Three a) × Held m (Divisor.Three b) ⌝ }
     ensures { λ c. ⌜ Gap m a b c ⌝ }
 {
     let c0 = b.v0.sub(a.v0, m);
     let c1 = b.v1.sub(a.v1, m);
     let c2 = b.v2.sub(a.v2, m);
-    Tri {
+    Trio {
         c0: c0,
         c1: c1,
         c2: c2,
@@ -75,8 +69,8 @@ fn v_gap(a: Cubic, b: Cubic, m: Modulus) -> Tri
 }
 
 // c · i modulo the other u. Only its top is brought below p: that alone is tested for 0.
-fn times(c: Tri, x: Bezout, b: Cubic, m: Modulus) -> Tri
-    requires { ⌜ KeptTri m c × (Inner m b x × Held m (Divisor.Three b)) ⌝ }
+fn times(c: Trio, x: Bezout, b: Cubic, m: Modulus) -> Trio
+    requires { ⌜ KeptTrio m c × (Inner m b x × Held m (Divisor.Three b)) ⌝ }
     ensures { λ s. ⌜ Times m c x b s ⌝ }
 {
     let p = x.e2.dot(c.c0, x.e1, c.c1, m);
@@ -87,7 +81,7 @@ fn times(c: Tri, x: Bezout, b: Cubic, m: Modulus) -> Tri
         .dot(p, x.e1, c.c0, m)
         .add(x.e0.cross(c.c1, c.c2, d, m), m);
     let s0 = c.c0.cross(x.i0, b.u0, q, m);
-    Tri {
+    Trio {
         c0: s0,
         c1: s1,
         c2: s2,
@@ -118,7 +112,7 @@ fn invert_twice_v(a: Cubic, m: Modulus) -> Bezout
 }
 
 // (f - v²) / u modulo u: f0, f1, f2 do not enter.
-fn cofactor_mod_u(a: Cubic, f3: Residue, f4: Residue, f5: Residue, f6: Residue, m: Modulus) -> Tri
+fn cofactor_mod_u(a: Cubic, f3: Residue, f4: Residue, f5: Residue, f6: Residue, m: Modulus) -> Trio
     requires { ⌜ Held m (Divisor.Three a) × (Kept m f3 × (Kept m f4 × (Kept m f5 × Kept m f6))) ⌝ }
     ensures { λ c. ⌜ Right m a f3 f4 f5 f6 c ⌝ }
 {
@@ -134,7 +128,7 @@ fn cofactor_mod_u(a: Cubic, f3: Residue, f4: Residue, f5: Residue, f6: Residue, 
         .dot(t1.sub(k1, m), a.u1, t3.add(a.u1, m).sub(f5, m), m)
         .add(f3, m)
         .sub(a.v2.dbl(m).dot(a.v1, t1, f6, m), m);
-    Tri {
+    Trio {
         c0: k0,
         c1: k1,
         c2: k2,
