@@ -2,18 +2,12 @@
 -- equations of composition (`Composed`, with whatever d, s1, s2, s3 it found), then any number of reduction steps (`Reached`), and its last
 -- pair is valid, that pair is the sum. The rule's own Euclid, its order of steps and its lists need not be followed. A unit c is
 -- given with its inverse, c·c' = 1; of a constant that isn't zero that is algebra's `C-inv` (list.Euclid). For formulae in closed form
--- there is `is-sum-of`: of polynomials u and v that are short enough, validity comes with the chain, and algebra's ideal.Composed has
--- `composed-coprime` and `composed-tangent` to begin it. (That d·I(U, V) is the product of the ideals is cantor.Sum's `product-in`, `product-out`.)
-use Prim.Native.Nat.{ℕ, _≤_}
-use mathlib.Core.Path.{_≡_, refl, sym, ap₂, _∙_, subst}
+-- algebra's ideal.Composed has `composed-coprime` and `composed-tangent` to begin the chain. (That d·I(U, V) is the product of the ideals is cantor.Sum's `product-in`, `product-out`.)
+use mathlib.Core.Path.{_≡_, refl}
 use mathlib.Core.List.{[], _∷_}
-use native.Mathlib.Omega.{arith}
 use Rattle.algebra.proofs.ring.CRing.{CRing}
 use Rattle.algebra.proofs.ring.Quote.{ring, quote, by}
 use Rattle.algebra.proofs.ring.Divides.{Divides}
-use Rattle.algebra.proofs.poly.Bound.{Below, Monic}
-use Rattle.algebra.proofs.poly.Poly.{coef}
-use Rattle.algebra.proofs.list.Coefs.{coefs, length-coefs, pol-coefs, mon-coefs}
 use Rattle.algebra.proofs.ideal.Member.{Mumford}
 use Rattle.algebra.proofs.ideal.Joined.{OnCurve}
 use Rattle.algebra.proofs.ideal.Composed.{Composed}
@@ -24,8 +18,7 @@ use Rattle.rules.specs.Curve.{Curve, Kx, f}
 use Rattle.rules.specs.Pair.{Pair, u-of, v-of, Valid}
 use Rattle.rules.specs.Sum.{sum, double}
 use Rattle.rules.proofs.cantor.Accepted.{Accepted, field-of, f-degree}
-use Rattle.rules.proofs.cantor.Pairs.{valid-on, on-valid}
-use Rattle.rules.proofs.cantor.Composition.{composed-on}
+use Rattle.rules.proofs.cantor.Pairs.{valid-on}
 use Rattle.rules.proofs.cantor.Step.{Kxy}
 use Rattle.rules.proofs.cantor.Sum.{composed-class}
 use Rattle.rules.proofs.cantor.Unique.{sum-is}
@@ -85,36 +78,3 @@ module _ (E : Curve) (h : Accepted E) where
 pub double-is : (E : Curve) (a : Pair (E .K)) → double E a ≡ sum E a a
 unfolding double
 double-is E a = refl
-
--- ---- the last pair by polynomials
--- (u, v) as lists of n coefficients
-abbrev pub listed : (E : Curve) → ℕ → Kx E .El → Kx E .El → Pair (E .K)
-listed E n u v = record { u = coefs (E .K .base) n (coef (E .K .base) u); v = coefs (E .K .base) n (coef (E .K .base) v) }
-
-module _ (E : Curve) (n : ℕ) (u v : Kx E .El) (m : Monic (E .K .base) n (coef (E .K .base) u)) (b : Below (E .K .base) n (coef (E .K .base) v)) where
-  open CRing (Kx E) using (add as _+_, mul as _*_)
-
-  infixl 65 _+_
-  infixl 70 _*_
-  pub listed-u : u-of E (listed E n u v) ≡ u
-  listed-u = mon-coefs (E .K .base) n u m
-
-  pub listed-v : v-of E (listed E n u v) ≡ v
-  listed-v = pol-coefs (E .K .base) n v b
-
-  pub listed-valid : n ≤ E .g → OnCurve (Kx E) (f E) u v → Valid E (listed E n u v)
-  listed-valid l on = on-valid E (record {
-    fits = length-coefs (E .K .base) n (coef (E .K .base) v) ∙ sym (length-coefs (E .K .base) n (coef (E .K .base) u));
-    on = (on .0, on .1 ∙ sym (ap₂ (λ s t. t * t + s * on .0) listed-u listed-v));
-  }) (omega (arith, length-coefs (E .K .base) n (coef (E .K .base) u)))
-
-module _ (E : Curve) (h : Accepted E) where
-  open CRing (Kx E) using (El as P)
-
-  -- u monic of degree n ≤ g and deg v < n: that (u, v) lies on the curve comes with the chain
-  pub is-sum-of : (a b : Pair (E .K)) → Valid E a → Valid E b → (n : ℕ) (u v : P)
-      → Monic (E .K .base) n (coef (E .K .base) u) → Below (E .K .base) n (coef (E .K .base) v) → n ≤ E .g → {U V' : P}
-      → Composed (Kx E) (f E) (u-of E a) (v-of E a) (u-of E b) (v-of E b) U V' → Reached E U V' u v → sum E a b ≡ listed E n u v
-  is-sum-of a b va vb n u v m l le {U} {V'} j r = is-sum E h a b (listed E n u v) va vb
-      (listed-valid E n u v m l le (reached-on E (composed-on E (h .over) a b (valid-on E va) (valid-on E vb) U V' j) r)) j
-      (subst (λ (t : P). Reached E U V' t (v-of E (listed E n u v))) (sym (listed-u E n u v m l)) (subst (λ (t : P). Reached E U V' u t) (sym (listed-v E n u v m l)) r))

@@ -1,6 +1,6 @@
 -- Common factors of polynomials. Gives: `SharesNoFactor a b`, that whatever divides both is a constant (document 01's "share a factor of
--- degree 1 or more", denied); over a field, that it holds where a nonzero constant is a combination of a and b, and that a common
--- divisor of degree 1 or more refutes it.
+-- degree 1 or more", denied); over a field, that what divides a nonzero constant is one (`constant-factor`), and that a common divisor of
+-- degree 1 or more refutes it.
 -- Open: `SharesNoFactor`.
 use Prim.Native.Nat.{ℕ, suc, _+_}
 use mathlib.Core.Path.{_≡_, sym, ap, _∙_}
@@ -8,7 +8,7 @@ use mathlib.Core.Logic.{_≢_}
 use native.Mathlib.Omega.{arith}
 use native.Mathlib.Decide.{ℕ-discrete}
 use Rattle.algebra.proofs.ring.CRing.{CRing, mul-zer, zer-mul}
-use Rattle.algebra.proofs.ring.Divides.{Divides, divides-add, divides-mul, divides-eq}
+use Rattle.algebra.proofs.ring.Divides.{Divides}
 use Rattle.algebra.proofs.ring.Field.{Arith, Field}
 use Rattle.algebra.proofs.poly.Series.{con}
 use Rattle.algebra.proofs.poly.Bound.{Below, below-con}
@@ -42,9 +42,6 @@ module _ (K : Field) where
           low : Dec (j + i ≡ 0) → j + i ≡ 0
           low (yes e) = e
           low (no g) = absurd (dm .top (ap (λ v. coef F v (j + i)) (sym (d .is)) ∙ at F (coef-C F c) (j + i) ∙ below-con F c (j + i) (omega arith)))
-
-  pub shares-none : (a b s t : P) (c : F .El) → c ≢ F .zer → s * a ⊕ t * b ≡ C F c → SharesNoFactor F a b
-  shares-none a b s t c ne e h da db = constant-factor c h ne (divides-eq (poly F) e (divides-add (poly F) (divides-mul (poly F) s da) (divides-mul (poly F) t db)))
 
   pub shares-some : {n : ℕ} (a b h : P) → Divides (poly F) h a → Divides (poly F) h b → Degree K (suc n) h → SharesNoFactor F a b → ⊥
   shares-some {n} a b h da db dh none = dh .top (none h da db (suc n) (omega arith))
