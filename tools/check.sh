@@ -37,7 +37,8 @@ check 'docs/proofs/CONTRACTS.md' python3 tools/make/contracts.py --check
 check 'docs/proofs/EDITS.md' python3 tools/make/edits.py --check
 check 'docs/proofs/TIMES.md' python3 tools/make/times.py --check
 check 'data of test_tables' python3 tools/make/field_vectors.py --check
-check 'data of poly_table' python3 tools/make/poly_vectors.py --check
+check 'data of test_polynomials' python3 tools/make/poly_vectors.py --check
+check 'data of test_tuples' python3 tools/make/tuple_vectors.py --check
 check 'data of test_tally, census and test_census' python3 tools/make/scenarios.py --check
 check 'demo/' python3 tools/make/demo.py --check
 check 'street corners of test_vectors' python3 tools/make/corners.py --check

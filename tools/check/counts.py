@@ -128,7 +128,7 @@ def field_rows():
 
 
 def pairs_of_polynomials():
-    return sum(1 for line in lines("crates", "poly_table", "stdout") if line.startswith("p "))
+    return sum(1 for line in lines("crates", "test_polynomials", "stdout") if line.startswith("p "))
 
 
 def rows_of_tuples():

@@ -1,7 +1,7 @@
 #!/usr/bin/env python3
-"""poly_vectors.py: pairs of polynomials for crates/poly_table, and what it must print of them.
+"""poly_vectors.py: pairs of polynomials for crates/test_polynomials, and what it must print of them.
 
-    python3 tools/make/poly_vectors.py             writes crates/poly_table/stdin and stdout
+    python3 tools/make/poly_vectors.py             writes crates/test_polynomials/stdin and stdout
     python3 tools/make/poly_vectors.py --check     writes nothing: both must be what it would write
 
 Polynomials are Python lists, constant first, and every algorithm is the textbook one over Python's whole numbers.
@@ -128,7 +128,7 @@ def main():
         a, b = trim(a), trim(b)
         data += b"".join(n.to_bytes(4, "big") for n in [p, len(a)] + a + [len(b)] + b)
         text += "".join(line + "\n" for line in answers(p, a, b))
-    return made.settle({"crates/poly_table/stdin": data, "crates/poly_table/stdout": text.encode("ascii")}, sys.argv[1:])
+    return made.settle({"crates/test_polynomials/stdin": data, "crates/test_polynomials/stdout": text.encode("ascii")}, sys.argv[1:])
 
 
 if __name__ == "__main__":

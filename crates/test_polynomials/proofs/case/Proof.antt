@@ -3,8 +3,8 @@ use mathlib.Core.Path.{subst}
 use Rattle.field.specs.declared.ModulusRead.{ModulusRead}
 use Rattle.field.specs.Read.{ModulusIs}
 use borrow.Author.Needs.{needs}
-use Rattle.poly_table.proofs.case.Statement.{statement}
-use Rattle.poly_table.proofs.case.Tie as tie
+use Rattle.test_polynomials.proofs.case.Statement.{statement}
+use Rattle.test_polynomials.proofs.case.Tie as tie
 
 add-first : tie.Need-add-first
 add-first c = search needs

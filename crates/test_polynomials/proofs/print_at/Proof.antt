@@ -1,6 +1,6 @@
 use borrow.Author.Needs.{needs}
-use Rattle.poly_table.proofs.print_at.Statement.{statement}
-use Rattle.poly_table.proofs.print_at.Tie as tie
+use Rattle.test_polynomials.proofs.print_at.Statement.{statement}
+use Rattle.test_polynomials.proofs.print_at.Tie as tie
 
 get-requires : tie.Need-get-requires
 get-requires c κs = search needs

@@ -1,7 +1,7 @@
 use borrow.Author.Needs.{needs}
 use Prim.Native.Nat.{_≤_, _-_}
-use Rattle.poly_table.proofs.show.Statement.{statement}
-use Rattle.poly_table.proofs.show.Tie as tie
+use Rattle.test_polynomials.proofs.show.Statement.{statement}
+use Rattle.test_polynomials.proofs.show.Tie as tie
 
 abbrev Inv-loop : tie.InvT-loop
 Inv-loop name x m n k₀ t6 k = k ≤ n

@@ -3,8 +3,8 @@ use Rattle.field.specs.declared.ResidueRead.{ResidueRead}
 use Rattle.field.specs.Read.{ResidueIs}
 use Rattle.field.proofs.Laws.{settled-kept}
 use borrow.Author.Needs.{needs}
-use Rattle.poly_table.proofs.residue.Statement.{statement}
-use Rattle.poly_table.proofs.residue.Tie as tie
+use Rattle.test_polynomials.proofs.residue.Statement.{statement}
+use Rattle.test_polynomials.proofs.residue.Tie as tie
 
 read-requires : tie.Need-read-requires
 read-requires c κs = search needs

@@ -1,7 +1,7 @@
 use borrow.Author.Needs.{needs}
 use Prim.Native.Nat.{_≤_, _-_}
-use Rattle.poly_table.proofs.run.Statement.{statement}
-use Rattle.poly_table.proofs.run.Tie as tie
+use Rattle.test_polynomials.proofs.run.Statement.{statement}
+use Rattle.test_polynomials.proofs.run.Tie as tie
 
 abbrev Inv-loop : tie.InvT-loop
 Inv-loop s end at₀ at = end ≤ 65536

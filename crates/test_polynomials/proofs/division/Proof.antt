@@ -1,7 +1,7 @@
 use native.Mathlib.Omega.{arith}
 use borrow.Author.Needs.{needs}
-use Rattle.poly_table.proofs.division.Statement.{statement}
-use Rattle.poly_table.proofs.division.Tie as tie
+use Rattle.test_polynomials.proofs.division.Statement.{statement}
+use Rattle.test_polynomials.proofs.division.Tie as tie
 
 slice-aggregate-write-all : tie.Need-slice-aggregate-write-all
 slice-aggregate-write-all c = search needs

@@ -2,8 +2,8 @@ use native.Mathlib.Omega.{arith}
 use borrow.Author.Needs.{needs}
 use Prim.Native.Nat.{_≤_, _-_}
 use Rattle.poly.specs.Polys.{Ok}
-use Rattle.poly_table.proofs.read_poly.Statement.{statement}
-use Rattle.poly_table.proofs.read_poly.Tie as tie
+use Rattle.test_polynomials.proofs.read_poly.Statement.{statement}
+use Rattle.test_polynomials.proofs.read_poly.Tie as tie
 
 abbrev Inv-loop : tie.InvT-loop
 Inv-loop s at m n r₀ k₀ r k = Ok m r × (k ≤ n)
