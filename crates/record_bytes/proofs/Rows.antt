@@ -8,7 +8,6 @@ use native.Mathlib.Omega.{arith}
 use borrow.Author.Tests.{lt-ltb, le-ltb}
 use lib.Dec.{ltb}
 use lib.ListN.{length}
-use Rattle.algebra.proofs.zmod.Zmod.{emb}
 use Rattle.rules.specs.Bytes.{word64, words}
 use Rattle.rules.specs.Records.{both, below?, elements}
 use Rattle.rules.proofs.calls.Bytes.{length-words}
@@ -26,11 +25,6 @@ pub below-append : (p : ℕ) (l m : List ℕ) → below? p (l ++ m) ≡ both (be
 unfolding below?
 below-append p [] m = refl
 below-append p (x ∷ l) m = ap (both (ltb x p)) (below-append p l m) ∙ sym (both-assoc (ltb x p) (below? p l) (below? p m))
-
-elements-append : (p : ℕ) (l m : List ℕ) → elements p (l ++ m) ≡ elements p l ++ elements p m
-unfolding elements
-elements-append p [] m = refl
-elements-append p (x ∷ l) m = ap (λ t. emb p x ∷ t) (elements-append p l m)
 
 module _ (s : List ℕ) where
   first : (a : ℕ) → word64 s (a + 8 * 0) ≡ word64 s a
@@ -64,9 +58,5 @@ module _ (s : List ℕ) where
     one-above a (suc n) (suc k) l h = ap (both (ltb (word64 s a) p)) (one-above (a + 8) n k (omega arith) (omega (arith, next a k))) ∙ both-false (ltb (word64 s a) p)
 
     -- their elements
-    pub elements-snoc : (a k : ℕ) → elements p (words s a (suc k)) ≡ elements p (words s a k) ++ (emb p (word64 s (a + 8 * k)) ∷ [])
-    unfolding elements
-    elements-snoc a k = ap (elements p) (words-snoc a k) ∙ elements-append p (words s a k) (word64 s (a + 8 * k) ∷ [])
-
     pub length-row : (a n : ℕ) → length (elements p (words s a n)) ≡ n
     length-row a n = length-elements p (words s a n) ∙ length-words s n a
