@@ -3,7 +3,8 @@
 #
 #     bash tools/arm.sh
 #
-# writes target/arm/libtablet.a, for aarch64-linux-gnu, and puts all vectors, hostile bytes and case P to it under Debian's qemu-aarch64.
+# writes target/arm/libtablet.a, for aarch64-linux-gnu, puts all vectors, hostile bytes and case P to it under Debian's qemu-aarch64, and runs each call on
+# the smallest stack that the header promises.
 #
 # The toolchain's own target is x86-64. It lowers the proved code to one module of LLVM and has its clang compile that. Here the module is caught on its
 # way there, the lines that say x86-64 or x86-64's way to hand over a struct are changed (tools/arm.awk says which, and why), and the same clang compiles
@@ -79,10 +80,11 @@ options x86_64-unknown-linux-gnu "$room/x86.ll"
 (cd "$room" && "$kit/$own/toolchain/bin/llvm-ar" p before.a) | cmp - "$room/x86.o" || fail "the module caught isn't the one in the x86-64 library"
 
 # How C hands over what the header declares, by the same clang, on both machines.
-calls=$(grep -o '\byubi_[a-z_]*(' include/yubisorade.h | tr -d '(' | sort -u)
-structs=$(sed -n 's/^} \(Yubi[A-Za-z]*\);$/\1/p' include/yubisorade.h)
+aarch64-linux-gnu-gcc -E -P -x c include/yubisorade.h >"$room/header"
+calls=$(grep -o '\byubi_[a-z_]*(' "$room/header" | tr -d '(' | sort -u)
+structs=$(sed -n 's/^} \(Yubi[A-Za-z]*\);$/\1/p' "$room/header")
 {
-    aarch64-linux-gnu-gcc -E -P -x c include/yubisorade.h
+    cat "$room/header"
     for f in $structs; do echo "const unsigned long size_of_$f = sizeof($f);"; done
     echo "void *calls[] = {"
     for f in $calls; do echo "(void *)$f,"; done
@@ -133,7 +135,7 @@ wanted=$("${emulator[@]}" target/foreign/hostile) || fail "hostile calls failed 
 YUBI_LIB_DIR=$PWD/$arm
 cc=(aarch64-linux-gnu-gcc -static) emulator=(qemu-aarch64)
 [ "$(uname -m)" != aarch64 ] || emulator=()
-for name in vectors hostile example; do c_program $name "$arm"; done
+for name in vectors hostile example stack; do c_program $name "$arm"; done
 vectors_hold "${emulator[@]}" "$arm/vectors"
 
 printed=$("${emulator[@]}" "$arm/hostile") || fail "hostile calls failed on Arm: $printed"
@@ -145,9 +147,11 @@ printed=$("${emulator[@]}" "$arm/example") || fail "case P was refused"
 [ "$printed" = "$(cat crates/tally/stdout)" ] || fail "that isn't case P: $printed"
 say "case P"
 
+"${emulator[@]}" "$arm/stack" || fail "a call doesn't keep to the stack that the header promises"
+
 needed=$(needs aarch64-linux-gnu-nm "$arm/libtablet.a")
 [ "$needed" = "memcpy memset" ] || fail "the library needs $needed"
 aarch64-linux-gnu-gcc -shared -nostdlib -Wl,-z,text -Wl,--whole-archive "$arm/libtablet.a" -Wl,--no-whole-archive -o "$room/libtablet.so" ||
     fail "it doesn't make a shared object without relocations in its code"
 
-say "Arm: $changed of $lines lines changed, $held lines of vectors as expected, $(tail -n 1 <<<"$wanted") on both machines, case P: all passed"
+say "Arm: $changed of $lines lines changed, $held lines of vectors as expected, $(tail -n 1 <<<"$wanted") on both machines, case P, stack: all passed"

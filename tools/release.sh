@@ -49,7 +49,7 @@ filled() {
 laid() {
     local to=$dist/yubisorade-$version-$triple
     mkdir -p "$to/include" "$to/lib/pkgconfig" "$to/lib/cmake/yubisorade" "$to/example/case-p"
-    cp include/yubisorade.h "$to/include/"
+    cp include/*.h "$to/include/"
     cp "$1" "$to/lib/libtablet.a"
     filled yubisorade.pc.in >"$to/lib/pkgconfig/yubisorade.pc"
     cp $templates/yubisorade-config.cmake "$to/lib/cmake/yubisorade/"
