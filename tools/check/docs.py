@@ -378,10 +378,12 @@ def check_form():
 
 
 def check_decisions():
-    """Decisions are numbered from 1 on. One is cited with its title: docs/DECISIONS.md, NUMBER, "TITLE"; so one that moved is seen. Of every note."""
-    stated = re.findall(r"^(\d+)\. \*\*(.*?)\*\*", text("docs/DECISIONS.md"), re.M)
-    titles = {int(n): title.rstrip(".") for n, title in stated}
-    wrong.extend("DECISIONS.md has the number %s where %d is due" % (n, k) for k, (n, _) in enumerate(stated, 1) if int(n) != k)
+    """Decisions are numbered as they stand. One is cited with its title: docs/DECISIONS.md, NUMBER, "TITLE"; so one that moved is seen. Of every note."""
+    found = [(int(n), title.rstrip(".")) for n, title in re.findall(r"^(\d+)\. \*\*(.*?)\*\*", text("docs/DECISIONS.md"), re.M)]
+    for place, (number, title) in enumerate(found, 1):
+        if number != place:
+            wrong.append('DECISIONS.md has "%s" as %d, and it is the decision %d of the page' % (title, number, place))
+    titles = dict(found)
     for page in EVERY:
         for number, title in re.findall(r'DECISIONS\.md, (\d+)(?:, "(.*?)")?', flowing(page)):
             if titles.get(int(number)) != title:
