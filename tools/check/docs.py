@@ -318,7 +318,7 @@ def check_functions():
     """`CRATE::NAME`, or `CRATE`: `NAME`, `NAME` at the head of a list's item: CRATE's code has them."""
     for page in PAGES:
         said = [(crate, "`%s`" % name) for crate, name in re.findall(r"`(%s)::([\w:]+)`" % "|".join(CRATES), text(page))]
-        said += re.findall(r"`(%s)`: %s" % ("|".join(CRATES), NAMED), "\n".join(re.findall(r"^(?:- |\| )(`\w+`: .*)", text(page), re.M)))
+        said += re.findall(r"`(%s)`: %s" % ("|".join(CRATES), NAMED), "\n".join(re.findall(r"^(?:- |\| )(`[\w:]+`.*)", text(page), re.M)))
         for crate, names in said:
             for name, parts in names_in(names):
                 if parts[-1] not in code_of(crate):
