@@ -65,13 +65,6 @@ impl Modulus {
         }
     }
 
-    // The least one: what stands where a struct needs a modulus and none was read.
-    pub fn least() -> Modulus
-        ensures { λ r. ⌜ Good r ⌝ }
-    {
-        Modulus::of(3)
-    }
-
     pub fn number(self) -> u64
         ensures { λ r. ⌜ r ≡ self .p ⌝ }
     {
