@@ -28,9 +28,9 @@ held() {
     count=$((count + 1))
     if ! "$@"; then
         wrong=$((wrong + 1))
-        echo "WRONG: $what: status $status" >&2
-        sed 's/^/  out: /' "$room/out" >&2
-        sed 's/^/  err: /' "$room/err" >&2
+        echo "WRONG: $what: status $status"
+        sed 's/^/  out: /' "$room/out"
+        sed 's/^/  err: /' "$room/err"
     fi
 }
 
@@ -342,20 +342,22 @@ soon() {
 gone() { ! kill -0 "$1" 2>/dev/null; }
 
 # ended SIGNAL FILE..: starts tally, waits until each file holds a number, sends the signal, and holds tally's end and that of each of these processes.
+# (bash says on standard error what it ended.)
 ended() {
     local signal=$1 tally each
     shift
     rm -f "$@"
-    set -m # so that INT isn't ignored
-    PATH="$room/path:$PATH" "$sham" "$room/folder" >"$room/out" 2>"$room/err" </dev/null &
+    set -m # what runs behind isn't to ignore INT, nor what was ignored above
+    PATH="$room/path:$PATH" env --default-signal=HUP,INT,TERM "$sham" "$room/folder" >"$room/out" 2>"$room/err" </dev/null &
     tally=$!
     set +m
     for each in "$@"; do
         held "${each##*/} was started" soon test -s "$each"
     done
     kill -s "$signal" "$tally"
+    soon gone "$tally" || kill -KILL "$tally"
     status=0
-    wait "$tally" 2>/dev/null || status=$?
+    wait "$tally" || status=$?
     held "tally ended by $signal" [ "$status" = $((128 + $(kill -l "$signal"))) ]
     for each in "$@"; do
         held "$signal ended ${each##*/} too" soon gone "$(cat "$each")"
@@ -365,7 +367,7 @@ ended() {
 export PROVER='sleep 1000 & echo $! >$ROOM/pids.worker; echo $$ >$ROOM/pids.prover; wait'
 for each in TERM INT HUP; do
     rm -f "$room/sham/target/bin/tally"
-    ended "$each" "$room/pids.worker" "$room/pids.prover"
+    ended "$each" "$room/pids.worker" "$room/pids.prover" 2>/dev/null
 done
 unset PROVER
 sham_program
@@ -373,7 +375,7 @@ touch "$room/sham/target/stamp/tally"
 # shellcheck disable=SC2016
 echo 'echo $$ >"$ROOM/pids.program"; exec sleep 1000' >"$room/folder/does"
 for each in TERM INT HUP; do
-    ended "$each" "$room/pids.program"
+    ended "$each" "$room/pids.program" 2>/dev/null
 done
 rm "$room/folder/does"
 
@@ -407,7 +409,7 @@ while IFS= read -r each; do
     : >"$room/out"
     sed -n '/unset CDPATH/q; /^[^#]*\<cd /p' "$each" >"$room/err"
     held "$each unsets CDPATH before it changes folders" [ ! -s "$room/err" ]
-    grep -nE '^[^#]*(^|[[:space:](])cd [^-]' "$each" >"$room/err" || true
+    grep -nE '^[^#]*(^|[[:space:](])cd ["$]' "$each" >"$room/err" || true
     held "$each says cd --" [ ! -s "$room/err" ]
 done < <(git ls-files --cached --others --exclude-standard '*.sh' bin .ci/run)
 
