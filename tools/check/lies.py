@@ -91,6 +91,7 @@ def names():
     everywhere(docs.check_contracts, "    ensures { λ r. ⌜ r ≡ nothing ⌝ }", "nothing")
     everywhere(docs.check_form, "word " * 40, "characters")
     everywhere(docs.check_form, "This is one sentence. That is another.", "two sentences")
+    lie(docs.check_decisions, "docs/DECISIONS.md", lambda p: p.replace("\n3. **", "\n2. **"), "as 2,")
     lie(docs.check_names, "docs/PROVED.md", lambda p: p + "\n`rust_program`\n", "rust_program")  # a name of tools/ on a page of proofs
 
 

@@ -13,7 +13,7 @@ import sys
 import made
 
 RECORD = "docs/proofs/first-errors.txt"
-LONGEST = 120
+LONGEST, LONGEST_TERM = 120, 40
 
 
 def read_first_errors():
@@ -24,9 +24,15 @@ def read_first_errors():
 
 
 def short(words):
-    """Up to where a term of the proof begins that is too long to be read, and no more than a line."""
-    words = re.sub(r"\s+", " ", re.sub(r"`[^`]{40,}`?.*", "..", words)).strip().rstrip(":")
-    return words if len(words) <= LONGEST else words[:LONGEST].rsplit(" ", 1)[0] + " .."
+    """The first sentence, up to where a term of the proof begins that is too long to be read, and no more than a line."""
+    plain = ""
+    for k, part in enumerate(re.split("`", words)):
+        if k % 2 and len(part) > LONGEST_TERM:
+            plain += "…"
+            break
+        plain += "`%s`" % part if k % 2 else part
+    plain = re.split(r"(?<=\w)\. (?=[A-Z])", re.sub(r"\s+", " ", plain))[0].strip(" .:")
+    return plain if len(plain) <= LONGEST else plain[:LONGEST].rsplit(" ", 1)[0] + " .."
 
 
 def first_error(log, home):
