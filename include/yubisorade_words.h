@@ -1,6 +1,6 @@
 /*
  * yubisorade_words.h: the numbers of yubisorade.h in words, for a screen or a log. Needs nothing of the library.
- * Made from numbers.txt by tools/numbers.py.
+ * Made from numbers.txt by tools/make/number_table.py.
  */
 #ifndef YUBISORADE_WORDS_H
 #define YUBISORADE_WORDS_H

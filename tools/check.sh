@@ -36,6 +36,7 @@ check 'docs/bench.svg' python3 tools/make/plot.py --check
 check 'docs/proofs/CONTRACTS.md' python3 tools/make/contracts.py --check
 check 'docs/proofs/EDITS.md' python3 tools/make/edits.py --check
 check 'docs/proofs/TIMES.md' python3 tools/make/times.py --check
+check 'the numbers in include/, crates/ and bindings/' python3 tools/make/number_table.py --check
 check 'data of test_tables' python3 tools/make/field_vectors.py --check
 check 'data of test_polynomials' python3 tools/make/poly_vectors.py --check
 check 'data of test_tuples' python3 tools/make/tuple_vectors.py --check

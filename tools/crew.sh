@@ -399,7 +399,7 @@ held "and the program's line follows" grep -q '^made' "$room/out"
 
 # ---- the one table of numbers, and the header made from it
 
-run python3 tools/numbers.py --check
+run python3 tools/make/number_table.py --check
 held "the header, the words and the crates have the table's numbers" [ "$status" = 0 ]
 
 # ---- every script: CDPATH can't lead it elsewhere

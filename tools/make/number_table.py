@@ -1,16 +1,16 @@
 #!/usr/bin/env python3
-"""numbers.py: include/numbers.txt, the one table of the numbers, in the files that have it too, and the version of the file VERSION in the header.
+"""number_table.py: include/numbers.txt, the one table of the numbers, in the files that have it too, and the version of the file VERSION in the header.
 
-    python3 tools/numbers.py             writes the table and the enum of include/yubisorade.h, its version, and include/yubisorade_words.h
-    python3 tools/numbers.py --check     writes nothing: they must be what it would write, and crates/refusals and bindings/rust must have these numbers
-                                         and this advice
+    python3 tools/make/number_table.py             writes the table and the enum of include/yubisorade.h, its version, and include/yubisorade_words.h
+    python3 tools/make/number_table.py --check     writes nothing: they must be what it would write, and crates/refusals and bindings/rust must have these
+                                                   numbers and this advice
 """
 import os
 import re
 import sys
 import textwrap
 
-ROOT = os.path.normpath(os.path.join(os.path.dirname(os.path.abspath(__file__)), ".."))
+ROOT = os.path.normpath(os.path.join(os.path.dirname(os.path.abspath(__file__)), "..", ".."))
 HEADER = "include/yubisorade.h"
 WORDS = "include/yubisorade_words.h"
 PROGRAMS = {1, 2, 3, 4, 5, 6, 7, 8, 9, 10, 11, 14, 16, 17, 18, 25}  # documents 01 and 02: what the two programs give
@@ -69,7 +69,7 @@ def function(name, comment, words, otherwise):
 def words_header():
     return (
         "/*\n * yubisorade_words.h: the numbers of yubisorade.h in words, for a screen or a log. Needs nothing of the library.\n"
-        " * Made from numbers.txt by tools/numbers.py.\n */\n"
+        " * Made from numbers.txt by tools/make/number_table.py.\n */\n"
         '#ifndef YUBISORADE_WORDS_H\n#define YUBISORADE_WORDS_H\n\n#include "yubisorade.h"\n\n'
         + function("yubi_cause", "When a number is given.", lambda row: row[2], "no number of this table")
         + "\n"
