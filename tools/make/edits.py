@@ -85,7 +85,9 @@ def item(edit, errors):
     yield from wrapped(edit.turns.rstrip(".") + ".", "  ", "  ")
     for line in changes(edit):
         yield from wrapped(line, "  ", "  ")
-    place, words = errors.get(name, (None, None))
+    place, words, functions = errors.get(name, (None, None, ""))
+    if functions:
+        yield from wrapped("Not proved with it: %s." % ", ".join("`%s`" % each for each in functions.split()), "  ", "  ")
     yield from wrapped("First error: %s, %s" % (place, words) if place else "First error: not recorded.", "  ", "  ")
 
 

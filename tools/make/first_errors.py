@@ -3,7 +3,8 @@
 
     python3 tools/make/first_errors.py     after `rt ci`, or `rt must-fail CRATE ..`, whose logs stand in target/must-fail
 
-An edit that has no log there keeps its line; one that is gone loses it. A line is CRATE/NAME, a tab, FILE:LINE:COLUMN, a tab, the words.
+An edit that has no log there keeps its line; one that is gone loses it. A line is CRATE/NAME, FILE:LINE:COLUMN, the words, and the functions that aren't
+proved with the edit, but for those that only call one of them; a tab stands between.
 """
 import glob
 import os
@@ -17,10 +18,10 @@ LONGEST, LONGEST_TERM = 120, 40
 
 
 def read_first_errors():
-    """Place and words by the edit's name."""
+    """Place, words and functions by the edit's name."""
     path = os.path.join(made.ROOT, RECORD)
     rows = [line.split("\t") for line in made.text(RECORD).splitlines()] if os.path.exists(path) else []
-    return {edit: (place, words) for edit, place, words in rows}
+    return {edit: (place, words, functions) for edit, place, words, functions in rows}
 
 
 def short(words):
@@ -32,16 +33,17 @@ def short(words):
             break
         plain += "`%s`" % part if k % 2 else part
     plain = re.split(r"(?<=\w)\. (?=[A-Z])", re.sub(r"\s+", " ", plain))[0].strip(" .:")
-    return plain if len(plain) <= LONGEST else plain[:LONGEST].rsplit(" ", 1)[0] + " .."
+    return plain if len(plain) <= LONGEST else plain[:LONGEST].rsplit(" ", 1)[0] + " …"
 
 
 def first_error(log, home):
-    """The first error of a log, or the first note with a place: the file below the edit's folder with line and column, and the words."""
+    """Of a log the first error, or the first note with a place: the file below the edit's folder with line and column; its words; the functions."""
+    functions = re.findall(r"^fn \w+::([\w:]+): (?:not proved$|no proof)", log, re.M)
     for kind in (r"^(\S+?):(\d+):(\d+): error: (.*)$", r"^note: (\S+?):(\d+):(\d+): (.*)$"):
         found = re.search(kind, log, re.M)
         if found:
             path, line, column, words = found.groups()
-            return "%s:%s:%s" % (path.removeprefix(home + "/"), line, column), short(words)
+            return "%s:%s:%s" % (path.removeprefix(home + "/"), line, column), short(words), " ".join(functions)
     return None
 
 
