@@ -1554,7 +1554,7 @@ class Census:
             faults = witnesses.faults_of(p, r.number_at(curve, end), primes)
             self.witnessed.update(faults)
             self.witnessed.update(fault + ", alone" for fault in faults if len(faults) == 1)
-            if primes == witnesses.primes_of(p - 1) if p < 3000 else False:
+            if p < 3000 and witnesses.is_composite(p) and primes == witnesses.primes_of(p - 1):
                 self.composites.add(p)
 
     def take_order(self, frame, number):
