@@ -339,7 +339,8 @@ soon() {
         sleep 0.05
     done
 }
-gone() { ! kill -0 "$1" 2>/dev/null; }
+# Whether a process ended, also where nobody has asked for its status yet.
+gone() { [[ $(ps -o stat= -p "$1") =~ ^(Z.*)?$ ]]; }
 
 # ended SIGNAL FILE..: starts tally, waits until each file holds a number, sends the signal, and holds tally's end and that of each of these processes.
 # (bash says on standard error what it ended.)
