@@ -28,6 +28,7 @@ kit=${RATTLE_HOME:-$(cd -- "$(dirname -- "$(readlink -f -- "$rt")")/.." && pwd -
 own=on/$(uname -m)
 clang=$kit/$own/toolchain/bin/clang
 mkdir -p "$arm"
+rm -f "$arm/libtablet.a"
 room=$(mktemp -d)
 trap 'rm -rf "$room"' EXIT
 
@@ -105,13 +106,14 @@ printf '%s\n' "layout 1" "triple 1" "cpu $cpus" "result $exports" "copy $copies"
 if grep -nE 'x86|byval|ret ptr| asm |"target-' "$room/arm.ll"; then fail "something of x86-64 is left"; fi
 say "$changed of $lines lines changed: $(sed 's/\(.*\) \(.*\)/\2 \1/' "$room/counts" | paste -sd, | sed 's/,/, /g') (a copy's is a result's too)"
 
+# Made beside, and put in its place once all tests have passed.
 options $triple "$room/arm.ll"
 "$clang" "${words[@]}"
-rm -f "$arm/libtablet.a"
-mv "$room/arm.o" "$room/$("$kit/$own/toolchain/bin/llvm-ar" t "$room/before.a")"
-(cd "$room" && "$kit/$own/toolchain/bin/llvm-ar" rcs arm.a "$("$kit/$own/toolchain/bin/llvm-ar" t before.a)")
-mv "$room/arm.a" "$arm/libtablet.a"
-say "$arm/libtablet.a, by $("$clang" --version | head -n 1) for $triple"
+object=$("$kit/$own/toolchain/bin/llvm-ar" t "$room/before.a")
+mkdir "$room/arm"
+mv "$room/arm.o" "$room/arm/$object"
+(cd "$room/arm" && "$kit/$own/toolchain/bin/llvm-ar" rcs libtablet.a "$object")
+say "compiled by $("$clang" --version | head -n 1) for $triple"
 
 # A frame of a page or more is touched page by page before anything else: behind a branch the registers of that loop could be in use (docs/DECISIONS.md, 46).
 probes() {
@@ -126,13 +128,13 @@ probes() {
 if printf '0000 <early>:\n   0:\tcbz\tx0, 40 <early+0x40>\n   4:\tsub\tsp, sp, #0x1, lsl #12\n' | probes >/dev/null; then
     fail "the check of the stack sees no fault where there is one"
 fi
-aarch64-linux-gnu-objdump -d --no-show-raw-insn "$arm/libtablet.a" >"$room/listing"
+aarch64-linux-gnu-objdump -d --no-show-raw-insn "$room/arm/libtablet.a" >"$room/listing"
 probes <"$room/listing" || fail "a function touches its stack behind a branch"
 
 # The tests: on this machine's own processor where that is an Arm, otherwise emulated.
 c_program hostile
 wanted=$("${emulator[@]}" target/foreign/hostile) || fail "hostile calls failed on x86-64: $wanted"
-YUBI_LIB_DIR=$PWD/$arm
+YUBI_LIB_DIR=$room/arm
 cc=(aarch64-linux-gnu-gcc -static) emulator=(qemu-aarch64)
 [ "$(uname -m)" != aarch64 ] || emulator=()
 for name in vectors hostile example stack; do c_program $name "$arm"; done
@@ -149,9 +151,11 @@ say "case P"
 
 "${emulator[@]}" "$arm/stack" || fail "a call doesn't keep to the stack that the header promises"
 
-needed=$(needs aarch64-linux-gnu-nm "$arm/libtablet.a")
+needed=$(needs aarch64-linux-gnu-nm "$room/arm/libtablet.a")
 [ "$needed" = "memcpy memset" ] || fail "the library needs $needed"
-aarch64-linux-gnu-gcc -shared -nostdlib -Wl,-z,text -Wl,--whole-archive "$arm/libtablet.a" -Wl,--no-whole-archive -o "$room/libtablet.so" ||
+aarch64-linux-gnu-gcc -shared -nostdlib -Wl,-z,text -Wl,--whole-archive "$room/arm/libtablet.a" -Wl,--no-whole-archive -o "$room/libtablet.so" ||
     fail "it doesn't make a shared object without relocations in its code"
 
-say "Arm: $changed of $lines lines changed, $held lines of vectors as expected, $(tail -n 1 <<<"$wanted") on both machines, case P, stack: all passed"
+mv "$room/arm/libtablet.a" "$arm/libtablet.a"
+hostile=$(tail -n 1 <<<"$wanted")
+say "$arm/libtablet.a: $changed of $lines lines changed; $held lines of vectors, $hostile as on x86-64, case P, stack: all passed"

@@ -5,8 +5,9 @@
 #     bash tools/release.sh --arm     that, and for 64-bit Arm Linux the library and its header (tools/arm.sh)
 #
 # makes target/dist/yubisorade-VERSION-TRIPLE and a .tar.gz of it, with files for pkg-config and CMake, an example, checksums, the version and the
-# toolchain's own (`rt version`); target/dist/SHA256SUMS has the archives' own checksums. The same sources and toolchain make the same bytes. Then it unpacks each outside this checkout, with no rt on the PATH,
-# and builds the example by make, by CMake and by hand and runs the programs: exit 1 where one doesn't print what it must.
+# toolchain's own (`rt version`); target/dist/SHA256SUMS has the archives' checksums. The same sources and toolchain make the same bytes. Then it unpacks
+# each outside this checkout, with no rt on the PATH, and builds the example by make, by CMake and by hand and runs the programs: exit 1 where one doesn't
+# print what it must.
 set -eu
 unset CDPATH
 cd -- "$(dirname -- "$0")/.."
