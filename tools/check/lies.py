@@ -91,12 +91,11 @@ def names():
     everywhere(docs.check_contracts, "    ensures { λ r. ⌜ r ≡ nothing ⌝ }", "nothing")
     everywhere(docs.check_form, "word " * 40, "characters")
     everywhere(docs.check_form, "This is one sentence. That is another.", "two sentences")
-    lie(docs.check_decisions, "docs/DECISIONS.md", lambda p: p.replace("\n3. **", "\n2. **"), "as 2,")
     lie(docs.check_names, "docs/PROVED.md", lambda p: p + "\n`rust_program`\n", "rust_program")  # a name of tools/ on a page of proofs
 
 
 def forms():
-    lie(docs.check_decisions, "docs/DECISIONS.md", lambda p: p.replace("\n8. **", "\n9. **"), "where 8 is due")
+    lie(docs.check_decisions, "docs/DECISIONS.md", lambda p: p.replace("\n8. **", "\n9. **"), "it is the decision 8")
     lie(docs.check_form, "docs/PROVED.md", lambda p: p + "\n" * 151, "lines, and 150")
     lie(docs.check_tour, "docs/TOUR.md", lambda p: p + "\n1. tablet/src/lib.rt, `no_such_function`: a step.\n", "no_such_function")
     lie(docs.check_tour, "docs/TOUR.md", lambda p: p.replace("| `add-call` |", "| `no-call` |"), "no-call")
