@@ -33,7 +33,7 @@ def pages(*path):
 MADE = ["docs/CRATES.md"] + ["docs/proofs/%s.md" % page for page in ("EDITS", "CONTRACTS", "BELIEVED", "TIMES")]
 PROOFS = ["docs/PROVED.md"] + [page for page in pages("docs", "proofs", "*.md") if page not in MADE]
 PAGES = ["README.md"] + pages("tools", "README.md") + pages("bindings", "README.md") + [page for page in pages("docs", "*.md") if page not in MADE] + PROOFS[1:]
-EVERY = sorted(set(PAGES + pages("*.md") + pages("docs", "changes", "*.md")))
+EVERY = sorted(set(PAGES + pages("*.md") + pages("bindings", "*", "*.md") + pages("docs", "changes", "*.md")))
 wrong = []
 
 # ---- numbers in words
