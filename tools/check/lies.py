@@ -95,7 +95,7 @@ def names():
 
 
 def forms():
-    lie(docs.check_decisions, "docs/DECISIONS.md", lambda p: p.replace("\n8. **", "\n9. **"), "it is the decision 8")
+    lie(docs.check_decisions, "docs/DECISIONS.md", lambda p: p.replace("\n8. **", "\n9. **"), "the decision 8 of the page")
     lie(docs.check_form, "docs/PROVED.md", lambda p: p + "\n" * 151, "lines, and 150")
     lie(docs.check_tour, "docs/TOUR.md", lambda p: p + "\n1. tablet/src/lib.rt, `no_such_function`: a step.\n", "no_such_function")
     lie(docs.check_tour, "docs/TOUR.md", lambda p: p.replace("| `add-call` |", "| `no-call` |"), "no-call")
