@@ -32,7 +32,7 @@ want $objdump $binutils
 say "multiplications in the library's products"
 $objdump -d --no-show-raw-insn "$YUBI_LIB_DIR/libtablet.a" | awk '
     function known(name, products, sums) { source[name] = 3 * products + 4 * sums; most[name] = 4 * (products + sums) }
-    BEGIN { known("sum_genus2_steps::rest", 2, 2); known("sum_genus3_open::times", 1, 6); known("sum_genus3::rest", 1, 4); known("sum_genus3::second", 4, 3) }
+    BEGIN { known("sum_genus2_steps::new_v", 2, 2); known("sum_genus3_open::times", 1, 6); known("sum_genus3::new_v", 1, 4); known("sum_genus3::second", 4, 3) }
     /^[0-9a-f]+ <.*>:$/ {
         name = $2
         gsub(/^<|>:$/, "", name)
@@ -50,7 +50,7 @@ $objdump -d --no-show-raw-insn "$YUBI_LIB_DIR/libtablet.a" | awk '
         }
     }
     END {
-        split("sum_genus2_steps::rest sum_genus3_open::times sum_genus3::rest sum_genus3::second", order)
+        split("sum_genus2_steps::new_v sum_genus3_open::times sum_genus3::new_v sum_genus3::second", order)
         for (k = 1; k in order; k++) {
             name = order[k]
             if (!(name in seen)) { continue }
