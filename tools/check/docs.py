@@ -9,7 +9,8 @@ Names, on every page: an edit CRATE/NAME, a crate, a file, a street of demo/ is 
     backquotes is a name of the tree, on the pages of proofs one of crates/; where a page says the file or the crate that has it, it is there. A link leads
     to a file, and to a heading of it where it names one. Of every note too: a decision that is cited by its number has the title that is cited, and a
     contract's lines are the code's.
-Form: docs/PROVED.md has at most 150 lines, docs/TOUR.md's addition at most 18 rows and crates; a sentence a line, no line over 160 characters.
+Form: docs/PROVED.md has at most 150 lines, docs/TOUR.md's addition at most 18 rows and crates; a sentence a line, no line over 160 characters,
+    none twice in a row.
 
 Notes of docs/changes are history, and name what has gone since: but for that they aren't held. Pages that a script makes from the tree (MADE) are
 held by that script. Numbers of recorded runs (times, instructions, the judge's calls) say what was and aren't held, nor is any sentence between the names.
@@ -377,6 +378,15 @@ def check_form():
                 wrong.append("%s, line %d has two sentences, and a line each is wanted" % (page, number))
 
 
+def check_once():
+    """No long line stands again a few lines further on, as merging two branches leaves it."""
+    for page in EVERY:
+        lines = text(page).split("\n")
+        for number, line in enumerate(lines, 1):
+            if len(line) > 60 and line in lines[number : number + 12]:
+                wrong.append("%s, line %d stands again below: %s" % (page, number, line.strip()))
+
+
 def check_decisions():
     """Decisions are numbered as they stand. One is cited with its title: docs/DECISIONS.md, NUMBER, "TITLE"; so one that moved is seen. Of every note."""
     found = [(int(n), title.rstrip(".")) for n, title in re.findall(r"^(\d+)\. \*\*(.*?)\*\*", text("docs/DECISIONS.md"), re.M)]
@@ -401,7 +411,7 @@ def check_contracts():
 
 CHECKS = [
     check_counts, check_rule_edits, check_rule_files, check_believed, check_lists, check_all_edits_named, check_edits, check_crates, check_files,
-    check_sources, check_names, check_places, check_functions, check_tour, check_decisions, check_contracts, check_links, check_form,
+    check_sources, check_names, check_places, check_functions, check_tour, check_once, check_decisions, check_contracts, check_links, check_form,
 ]  # fmt: skip
 
 if __name__ == "__main__":

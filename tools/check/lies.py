@@ -97,6 +97,7 @@ def names():
 def forms():
     lie(docs.check_decisions, "docs/DECISIONS.md", lambda p: p.replace("\n8. **", "\n9. **"), "the decision 8 of the page")
     lie(docs.check_form, "docs/PROVED.md", lambda p: p + "\n" * 151, "lines, and 150")
+    lie(docs.check_once, "docs/TOUR.md", lambda p: p + "\n" + ("A sentence of more than sixty characters that a merge has left twice.\n" * 2), "stands again")
     lie(docs.check_tour, "docs/TOUR.md", lambda p: p + "\n1. tablet/src/lib.rt, `no_such_function`: a step.\n", "no_such_function")
     lie(docs.check_tour, "docs/TOUR.md", lambda p: p.replace("| `add-call` |", "| `no-call` |"), "no-call")
     row = "| 19 | `poly::add` | two Polys | Poly | the sum in K[x] (`Is`) |"
