@@ -1,6 +1,6 @@
 #!/usr/bin/env bash
 # bash tools/check.sh: what can be looked at without the prover. The pages hold what the tree has, every file that a script makes is what it would make
-# again, and the separate implementation holds to document 01. A line for each, exit 1 if any fails. It writes nothing, and takes some four minutes.
+# again, and the separate implementation holds to document 01. A line for each, exit 1 if any fails. It writes nothing, and takes some five minutes.
 set -u
 unset CDPATH
 cd -- "$(dirname -- "$0")/.." || exit 2
