@@ -78,7 +78,7 @@ options() {
 # The text is the whole module: compiled for x86-64 it makes the library's own object, byte for byte.
 options x86_64-unknown-linux-gnu "$room/x86.ll"
 "$clang" "${words[@]}"
-(cd "$room" && "$kit/$own/toolchain/bin/llvm-ar" p before.a) | cmp - "$room/x86.o" || fail "the module caught isn't the one in the x86-64 library"
+(cd -- "$room" && "$kit/$own/toolchain/bin/llvm-ar" p before.a) | cmp - "$room/x86.o" || fail "the module caught isn't the one in the x86-64 library"
 
 # How C hands over what the header declares, by the same clang, on both machines.
 aarch64-linux-gnu-gcc -E -P -x c include/yubisorade.h >"$room/header"
@@ -112,7 +112,7 @@ options $triple "$room/arm.ll"
 object=$("$kit/$own/toolchain/bin/llvm-ar" t "$room/before.a")
 mkdir "$room/arm"
 mv "$room/arm.o" "$room/arm/$object"
-(cd "$room/arm" && "$kit/$own/toolchain/bin/llvm-ar" rcs libtablet.a "$object")
+(cd -- "$room/arm" && "$kit/$own/toolchain/bin/llvm-ar" rcs libtablet.a "$object")
 say "compiled by $("$clang" --version | head -n 1) for $triple"
 
 # A frame of a page or more is touched page by page before anything else: behind a branch the registers of that loop could be in use (docs/DECISIONS.md, 46).

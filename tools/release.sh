@@ -64,7 +64,7 @@ laid() {
     filled README.in >"$to/README"
     cp VERSION "$to/"
     rt version >"$to/TOOLCHAIN"
-    (cd "$to" && find . -type f | sed 's,^\./,,' | LC_ALL=C sort | xargs sha256sum) >"$room/sums"
+    (cd -- "$to" && find . -type f | sed 's,^\./,,' | LC_ALL=C sort | xargs sha256sum) >"$room/sums"
     mv "$room/sums" "$to/SHA256SUMS"
     tar -C "$dist" --sort=name --mtime=@0 --owner=0 --group=0 --numeric-owner --mode=u+rwX,go+rX,go-w -cf - "${to##*/}" | gzip -9n >"$to.tar.gz"
     files=$((files + $(find "$to" -type f | wc -l)))
@@ -96,7 +96,7 @@ tried() {
     [ ${#cc[@]} = 1 ] || static=(-static)
     mkdir "$at"
     tar -C "$at" -xzf "$dist/yubisorade-$version-$triple.tar.gz"
-    (cd "$here" && sha256sum --quiet -c SHA256SUMS) || fail "$triple: a checksum is wrong"
+    (cd -- "$here" && sha256sum --quiet -c SHA256SUMS) || fail "$triple: a checksum is wrong"
     if outside sh -c 'command -v rt' >/dev/null; then fail "rt is on the PATH"; fi
 
     cp -r "$here/example" "$at/made"
@@ -152,6 +152,6 @@ x86-64 library, but for the lines that say how a struct is handed over on Arm; i
     laid target/arm/libtablet.a
     if [ "$(uname -m)" = aarch64 ]; then tried; else tried qemu-aarch64; fi
 fi
-(cd "$dist" && sha256sum ./*.tar.gz | sed 's, \./, ,') >"$room/sums"
+(cd -- "$dist" && sha256sum ./*.tar.gz | sed 's, \./, ,') >"$room/sums"
 mv "$room/sums" "$dist/SHA256SUMS"
 say "in target/dist: archives $(wc -l <"$dist/SHA256SUMS"), files $files, ways to use them $ways, all of which print what they must"

@@ -327,7 +327,7 @@ static void versions(uint8_t g)
     for (int work = CHECK; work <= SCAN; work++) {
         double ratio = least((Work)work, &one, &d) / least((Work)work, &two, &d);
         printf("genus %d, p = 2^31 - 1: a %s takes %.1f times as long with a record of version 1\n", g, names[work], ratio);
-        held(ratio > 5, "version 2 is some ten times quicker", 0, 0);
+        held(ratio > 5, "version 2 is over five times as quick", 0, 0);
     }
 }
 

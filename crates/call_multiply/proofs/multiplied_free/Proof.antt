@@ -11,8 +11,8 @@ read-factors-requires c κs = search needs
 enum-known-c : tie.Need-enum-known-c
 enum-known-c c = search needs
 
-of-requires : tie.Need-of-requires
-of-requires c κs = let s = c .before .before .before .before .before .before .before .args in subst (FactorsIs (s .curve .now) (s .a .now) (s .scalar .now)) (c .before .c .given .1) (c .before .before .before .read-factors .ensures) .ready
+by-tuples-requires : tie.Need-by-tuples-requires
+by-tuples-requires c κs = let s = c .before .before .before .before .before .before .before .args in subst (FactorsIs (s .curve .now) (s .a .now) (s .scalar .now)) (c .before .c .given .1) (c .before .before .before .read-factors .ensures) .ready
 
 key-of-requires : tie.Need-key-of-requires
 key-of-requires c κs = c .by-tuples .ensures .gives .holds .held
@@ -21,7 +21,7 @@ enum-known-n : tie.Need-enum-known-n
 enum-known-n c = search needs
 
 returns : tie.Need-returns
-returns c = let s = c .before .before .before .before .before .before .before .before .before .args in multiply-made (s .curve .now) (s .a .now) (s .scalar .now) _ _ (subst (FactorsIs (s .curve .now) (s .a .now) (s .scalar .now)) (c .before .before .before .c .given .1) (c .before .before .before .before .before .read-factors .ensures)) _ (c .before .of .ensures) (c .key-of .result) (c .key-of .ensures)
+returns c = let s = c .before .before .before .before .before .before .before .before .before .args in multiply-made (s .curve .now) (s .a .now) (s .scalar .now) _ _ (subst (FactorsIs (s .curve .now) (s .a .now) (s .scalar .now)) (c .before .before .before .c .given .1) (c .before .before .before .before .before .read-factors .ensures)) _ (c .before .by-tuples .ensures) (c .key-of .result) (c .key-of .ensures)
 
 returns-2 : tie.Need-returns-2
 returns-2 c = let s = c .before .before .before .before .before .before .before .args in multiply-refused (s .curve .now) (s .a .now) (s .scalar .now) (subst (FactorsIs (s .curve .now) (s .a .now) (s .scalar .now)) (c .before .n .given .1) (c .before .before .before .read-factors .ensures))

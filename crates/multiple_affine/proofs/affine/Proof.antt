@@ -41,11 +41,8 @@ loop-holds c = let s = c .before .before .before .before .before in let n = c .b
 sub-k-2 : tie.Need-sub-k-2 Inv-loop μ-loop
 sub-k-2 c = search needs
 
-slice-aggregate-digit-at : tie.Need-slice-aggregate-digit-at Inv-loop μ-loop
-slice-aggregate-digit-at c = search needs
-
-digit-at-requires : tie.Need-digit-at-requires Inv-loop μ-loop
-digit-at-requires c κs = let n = c .before .before .before .before .before .before .from-bytes in omega (arith, c .before .before .loop .inv .place, n .ensures .within, n .ensures .room)
+array-read-step : tie.Need-array-read-step Inv-loop μ-loop
+array-read-step c = search needs
 
 step-requires : tie.Need-step-requires Inv-loop μ-loop
 step-requires c κs = let s = c .before .before .before .before .before .before .before in record { sound = s .pre .sound; left = c .before .loop .inv .gives .holds; right = s .pre .holds; opposed = c .before .before .opposite .ensures }

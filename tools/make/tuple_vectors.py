@@ -1,17 +1,20 @@
 #!/usr/bin/env python3
-"""tuple_vectors.py in|out: pairs of tuples (W-206) for crates/test_tuples, and what it must print of them.
+"""tuple_vectors.py: pairs of tuples (W-206) for crates/test_tuples, and what it must print of them.
 
-    python3 tools/tuple_vectors.py in  > crates/test_tuples/stdin
-    python3 tools/tuple_vectors.py out > crates/test_tuples/stdout
+    python3 tools/make/tuple_vectors.py             writes crates/test_tuples/stdin and stdout
+    python3 tools/make/tuple_vectors.py --check     writes nothing: both must be what it would write
 
 A tuple is a divisor of weight 2 with its four numbers times Z, and Z. What is printed is found from the divisors alone, by document 01's sum
 (reference.py); a pair is special where the tables don't serve it: both u have a common factor (in a double, u and 2v), or the sum weighs less than 2.
 Each pair stands under several Z, so that equal quotients must print the same.
 """
 import itertools
+import os
 import random
 import sys
 
+sys.path.append(os.path.join(os.path.dirname(os.path.abspath(__file__)), "..", "reference"))
+import made
 import reference
 from reference import Curve, Divisor
 
@@ -97,20 +100,21 @@ def coprime(a, b, p):
 
 
 def line(name, total, free):
-    print(name, *(quotients(total) if free and reference.weight(total) == 2 else ["special"]))
+    return " ".join(map(str, [name] + (quotients(total) if free and reference.weight(total) == 2 else ["special"]))) + "\n"
 
 
 def main():
+    data, text = b"", ""
     for curve, a, z, b, w in rows():
         p = curve.p
-        if sys.argv[1] == "in":
-            numbers = [p, curve.f[2], curve.f[3], curve.f[4]] + tuple_of(a, z, p) + tuple_of(b, w, p)
-            sys.stdout.buffer.write(b"".join(n.to_bytes(4, "big") for n in numbers))
-        else:
-            apart = coprime(a.u, b.u, p)
-            line("sum", reference.sum_of(curve, a, b), apart)
-            line("mixed", reference.sum_of(curve, a, b), apart)
-            line("double", reference.double_of(curve, a), coprime(a.u, reference.plus(a.v, a.v, p), p))
+        numbers = [p, curve.f[2], curve.f[3], curve.f[4]] + tuple_of(a, z, p) + tuple_of(b, w, p)
+        data += b"".join(n.to_bytes(4, "big") for n in numbers)
+        apart = coprime(a.u, b.u, p)
+        text += line("sum", reference.sum_of(curve, a, b), apart)
+        text += line("mixed", reference.sum_of(curve, a, b), apart)
+        text += line("double", reference.double_of(curve, a), coprime(a.u, reference.plus(a.v, a.v, p), p))
+    return made.settle({"crates/test_tuples/stdin": data, "crates/test_tuples/stdout": text.encode("ascii")}, sys.argv[1:])
 
 
-main()
+if __name__ == "__main__":
+    sys.exit(main())
