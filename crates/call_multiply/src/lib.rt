@@ -42,7 +42,10 @@ fn multiplied_free(curve: &[u8], a: &[u8], scalar: &[u8]) -> Made
     ensures { λ r. ⌜ MultipleMade r (multiplying (now (curve .entry)) (now (a .entry)) (now (scalar .entry))) ⌝ }
 {
     match call_factors::read_factors(curve, a, scalar) {
-        CurveAndDivisor::Taken(c, d) => call_factors::key_of(multiple::by_tuples(c, d, scalar), c.m),
+        CurveAndDivisor::Taken(c, d) => call_factors::key_of(
+            multiple::by_tuples(c, d, scalar),
+            c.m,
+        ),
         CurveAndDivisor::Refused(n, k) => Made::Refused(n, k),
     }
 }

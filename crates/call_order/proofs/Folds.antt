@@ -9,7 +9,7 @@ use native.Mathlib.Omega.{arith}
 use lib.Dec.{eqb}
 use lib.ListN.{length}
 use borrow.Author.Tests.{eq-eqb, ne-eqb}
-use Rattle.orders.specs.Tests.{order?, none-below?}
+use Rattle.rules.specs.orders.Tests.{order?, none-below?}
 use Rattle.rules.specs.Bytes.{number, word32, words32}
 use Rattle.rules.specs.Tests.{weighs?}
 use Rattle.rules.specs.Calls.{listed}

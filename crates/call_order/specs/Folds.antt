@@ -3,7 +3,7 @@ use Prim.Native.Nat.{ℕ}
 use mathlib.Core.Path.{_≡_}
 use mathlib.Core.Bool.{Bool}
 use mathlib.Core.List.{List}
-use Rattle.orders.specs.Tests.{none-below?}
+use Rattle.rules.specs.orders.Tests.{none-below?}
 use Rattle.rules.specs.Calls.{neutral-fold?}
 use Rattle.divisor.specs.declared.Divisor.{Divisor}
 use Rattle.divisor.specs.Divisors.{pair}

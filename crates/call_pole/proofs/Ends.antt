@@ -9,8 +9,8 @@ use lib.ListN.{getD, length, take, drop, drop-of-length-le}
 use lib.Seq.{take-all, take-length, drop-length}
 use borrow.Author.Tests.{leb-true, leb-false}
 use Rattle.rules.specs.Records.{version-of}
-use Rattle.pole_rule.specs.PoleFile.{curve-length}
-use Rattle.pole_rule.proofs.CurveParts.{first-length, second-length, length-least}
+use Rattle.rules.specs.pole.PoleFile.{curve-length}
+use Rattle.rules.proofs.pole.CurveParts.{first-length, second-length, length-least}
 use Rattle.call_pole.specs.Files.{Least, Ends}
 
 module _ (s : List ℕ) where

@@ -26,8 +26,8 @@ use Rattle.call_answer.proofs.Written.{goes-on, stopped-as}
 use Rattle.call_batch.specs.declared.BatchRead.{BatchRead}
 use Rattle.call_batch.specs.declared.BatchRead.the-variants.{Taken as TakenBatch, Refused as RefusedBatch}
 use Rattle.call_batch.specs.Counts.{ReadAs, BatchIs}
-use Rattle.pole_rule.specs.PoleFile.{word16, read-parts, pole-marked?, head-checks, curve-part, behind-curve, both-parts, read-behind, read-file}
-use Rattle.pole_rule.proofs.Counted.{as-file, same-count, other-count, later, stays, cut-short, over-full, no-count, parts-are-batch, parts-taken}
+use Rattle.rules.specs.pole.PoleFile.{word16, read-parts, pole-marked?, head-checks, curve-part, behind-curve, both-parts, read-behind, read-file}
+use Rattle.rules.proofs.pole.Counted.{as-file, same-count, other-count, later, stays, cut-short, over-full, no-count, parts-are-batch, parts-taken}
 use Rattle.call_pole.specs.Files.{PoleIs, PartsAre, InFile, Ends}
 
 -- ---- a batch, in a file whose count is n

@@ -17,7 +17,7 @@ use Rattle.rules.specs.Checks.{taken}
 use Rattle.call_batch.specs.declared.BatchRead.{BatchRead}
 use Rattle.call_batch.specs.declared.BatchRead.the-variants.{Taken as TakenBatch, Refused as RefusedBatch}
 use Rattle.call_batch.specs.Counts.{BatchIs}
-use Rattle.pole_rule.specs.PoleFile.{bytes16, head-bytes, file-bytes, write-file}
+use Rattle.rules.specs.pole.PoleFile.{bytes16, head-bytes, file-bytes, write-file}
 
 module _ (pole : ℕ) (s : List ℕ) (count : ℕ) (b out : List ℕ) where
   abbrev bytes : List ℕ

@@ -11,8 +11,8 @@ use Rattle.call_answer.specs.Answers.{AnswerIs}
 use Rattle.call_batch.specs.declared.BatchRead.{BatchRead}
 use Rattle.call_batch.specs.declared.BatchRead.the-variants.{Taken, Refused}
 use Rattle.call_batch.specs.Counts.{ReadAs}
-use Rattle.pole_rule.specs.PoleFile.{curve-part, behind-curve}
-use Rattle.pole_rule.proofs.Counted.{as-file}
+use Rattle.rules.specs.pole.PoleFile.{curve-part, behind-curve}
+use Rattle.rules.proofs.pole.Counted.{as-file}
 
 abbrev pub PoleIs : Answer → List ℕ → Reply ℕ → Type 0
 PoleIs r out rule = AnswerIs (λ (pole : ℕ). (pole, 0)) r out rule

@@ -8,7 +8,7 @@ ghost use Rattle.rules.specs.Checks.{refused, go-on};
 ghost use Rattle.rules.specs.Records.{read-curve};
 ghost use Rattle.rules.specs.Calls.{put, write, deliver};
 ghost use Rattle.call_answer.specs.Answers.{Wrote};
-ghost use Rattle.pole_rule.specs.PoleFile.{word16, bytes16, pole-marked?, head-bytes, file-bytes, both-parts, read-parts, read-behind, read-file, write-file};
+ghost use Rattle.rules.specs.pole.PoleFile.{word16, bytes16, pole-marked?, head-bytes, file-bytes, both-parts, read-parts, read-behind, read-file, write-file};
 ghost use Rattle.call_pole.specs.Files.{Least, PoleIs, Ends, PartsAre, InFile};
 use call_answer::Answer;
 use call_batch::BatchRead;

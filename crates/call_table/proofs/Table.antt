@@ -38,9 +38,9 @@ use Rattle.rules.proofs.exactly.Scans.{scan-8, scan-20}
 use Rattle.text_lines.specs.Lines.{refused-line}
 use Rattle.text_rule.specs.Text.{File, text, census-text}
 use Rattle.text_rule.proofs.FileNumbers.{Readable, Short, text-16, text-17, census-16, census-17}
-use Rattle.pole_rule.specs.PoleFile.{word16, curve-part, read-file}
-use Rattle.pole_rule.proofs.Misfits.{CutShort}
-use Rattle.pole_rule.proofs.FileNumbers.{PoleMarked, Counted, tail-of, read-21, read-22, read-23}
+use Rattle.rules.specs.pole.PoleFile.{word16, curve-part, read-file}
+use Rattle.rules.proofs.pole.Misfits.{CutShort}
+use Rattle.rules.proofs.pole.FileNumbers.{PoleMarked, Counted, tail-of, read-21, read-22, read-23}
 
 pub record Table : Type 1 where
   -- ---- every call: what it reads first is refused with n, or it is taken and what follows answers n

@@ -27,8 +27,8 @@ use Rattle.poly.proofs.Lengths.{none-is}
 use Rattle.poly.proofs.Division.{monic-of}
 use Rattle.poly_euclid.specs.Euclid.{Gcd}
 use Rattle.few.proofs.Few.{next-term}
-use Rattle.roots_laws.proofs.Factor.{same-degree}
-use Rattle.roots_laws.proofs.Value.{ev, ev-hom, linear, root-iff, root-factor, root-rest}
+use Rattle.rules.proofs.roots.Factor.{same-degree}
+use Rattle.rules.proofs.roots.Value.{ev, ev-hom, linear, root-iff, root-factor, root-rest}
 use Rattle.cubic_rests.specs.declared.MonicCubic.{MonicCubic}
 use Rattle.cubic_rests.specs.declared.Rest.{Rest}
 use Rattle.cubic_rests.specs.Rests.{K, P, lows, cubic, rest, SettledCubic, KeptRest, Leaves}

@@ -11,7 +11,7 @@ use Rattle.field.specs.Residues.{el, Kept}
 use Rattle.poly.specs.declared.Poly.{Poly}
 use Rattle.poly.specs.Polys.{pol, Ok}
 use Rattle.poly.specs.Contracts.{IsMonic}
-use Rattle.roots_laws.proofs.Value.{ev}
+use Rattle.rules.proofs.roots.Value.{ev}
 use Rattle.cubic_rests.specs.declared.MonicCubic.{MonicCubic}
 use Rattle.cubic_rests.specs.declared.Rest.{Rest}
 use Rattle.cubic_rests.specs.Rests.{K, P, cubic, rest, SettledCubic, KeptRest}

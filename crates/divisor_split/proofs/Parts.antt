@@ -12,8 +12,8 @@ use Rattle.algebra.proofs.zmod.Zmod.{zmod, zmod-dec, emb, num}
 use Rattle.algebra.proofs.zmod.PrimeField.{modulo, mul-inv, one-ne-zero}
 use Rattle.algebra.proofs.list.Value.{mon}
 use Rattle.algebra.proofs.list.Ops.{remainder}
-use Rattle.roots_laws.specs.Roots.{value}
-use Rattle.roots_laws.proofs.Factor.{quadratic-less}
+use Rattle.rules.specs.roots.Roots.{value}
+use Rattle.rules.proofs.roots.Factor.{quadratic-less}
 use Rattle.rules.specs.Curve.{Curve, Kx}
 use Rattle.rules.specs.Pair.{Pair}
 use Rattle.rules.specs.Split.{part-at}

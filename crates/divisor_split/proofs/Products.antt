@@ -7,7 +7,7 @@ use Rattle.algebra.proofs.poly.Poly.{poly}
 use Rattle.algebra.proofs.poly.Term.{C, X, constants}
 use Rattle.algebra.proofs.list.Value.{mon}
 use Rattle.algebra.proofs.list.Short.{mon1, mon2, mon3}
-use Rattle.roots_laws.specs.Roots.{value}
+use Rattle.rules.specs.roots.Roots.{value}
 
 module _ (F : CRing) where
   open CRing F using (El as A, add as _⊕_, mul as _⊗_, neg as ng, zer as 𝟘, one as 𝟙)

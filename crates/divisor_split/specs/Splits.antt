@@ -2,7 +2,7 @@
 use mathlib.Core.Path.{_≡_}
 use Rattle.algebra.proofs.zmod.Zmod.{zmod}
 use Rattle.algebra.proofs.zmod.PrimeField.{modulo}
-use Rattle.roots_laws.specs.Roots.{value}
+use Rattle.rules.specs.roots.Roots.{value}
 use Rattle.rules.specs.Split.{part-at, rest-at}
 use Rattle.rules.proofs.calls.SplitRoots.{SplitAt, NoSplit}
 use Rattle.field.specs.declared.Modulus.{Modulus}

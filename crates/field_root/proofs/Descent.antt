@@ -12,8 +12,8 @@ use Rattle.field.specs.declared.Residue.{Residue}
 use Rattle.field.specs.Residues.{el, Good, Kept, Stands}
 use Rattle.field.proofs.Laws.{residue-field}
 use Rattle.field_words.specs.Newton.{Zeros}
-use Rattle.roots_laws.proofs.Tonelli.{Level, other-root, begin, keep, change, finish}
-use Rattle.roots_laws.proofs.Square.{square-iff, power-half}
+use Rattle.rules.proofs.roots.Tonelli.{Level, other-root, begin, keep, change, finish}
+use Rattle.rules.proofs.roots.Square.{square-iff, power-half}
 use Rattle.field_root.specs.Squares.{Square, LeastNonsquare, ToRoot, RootOf}
 
 -- from the start x₀, b₀, c₀ at level j: what holds of it for an element holds at i

@@ -9,8 +9,8 @@ use Rattle.field.specs.declared.Modulus.{Modulus}
 use Rattle.field.specs.declared.Residue.{Residue}
 use Rattle.field.specs.Residues.{el, Good, Stands, Halves}
 use Rattle.field.proofs.Laws.{residue-field, two-ne}
-use Rattle.roots_laws.specs.Roots.{value}
-use Rattle.roots_laws.proofs.Quadratic.{discriminant, quadratic-iff, halves-sum, halves-product}
+use Rattle.rules.specs.roots.Roots.{value}
+use Rattle.rules.proofs.roots.Quadratic.{discriminant, quadratic-iff, halves-sum, halves-product}
 use Rattle.field_root.specs.Squares.{Square, RootOf, Splits}
 
 module _ (m : Modulus) (good : Good m) (b c : Residue) where

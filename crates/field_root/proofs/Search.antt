@@ -12,8 +12,8 @@ use Rattle.field.specs.declared.Residue.{Residue}
 use Rattle.field.specs.Primes.{Decides}
 use Rattle.field.specs.Residues.{el, Good, Kept, Settles, Stands, HasInverse}
 use Rattle.field.proofs.Laws.{settled-kept}
-use Rattle.roots_laws.proofs.Count.{nonresidue}
-use Rattle.roots_laws.proofs.Square.{square-iff}
+use Rattle.rules.proofs.roots.Count.{nonresidue}
+use Rattle.rules.proofs.roots.Square.{square-iff}
 use Rattle.field_root.specs.Squares.{Square, LeastNonsquare}
 
 pub record Trying (m : Modulus) (z : Residue) (n : ℕ) : Type 0 where

@@ -7,7 +7,7 @@ use Rattle.algebra.proofs.zmod.Zmod.{zmod, emb}
 use Rattle.field.specs.declared.Modulus.{Modulus}
 use Rattle.field.specs.declared.Residue.{Residue}
 use Rattle.field.specs.Residues.{el, Good, Kept, HasInverse}
-use Rattle.roots_laws.specs.Roots.{value}
+use Rattle.rules.specs.roots.Roots.{value}
 use Rattle.field_root.specs.declared.Rooted.{Rooted}
 use Rattle.field_root.specs.declared.Rooted.the-variants.{By, NoSquare}
 use Rattle.field_root.specs.declared.Roots.{Roots}

@@ -17,8 +17,8 @@ use Rattle.field.specs.Residues.{el, Stands}
 use Rattle.field.proofs.Decide.{otherwise}
 use Rattle.field.specs.Constants.{Odd}
 use Rattle.field.specs.Primes.{Decides}
-use Rattle.orders.specs.Tests.{factors?, none-below?, order?, lucas?}
-use Rattle.orders.proofs.Lucas.{lucas-by-test}
+use Rattle.rules.specs.orders.Tests.{factors?, none-below?, order?, lucas?}
+use Rattle.rules.proofs.orders.Lucas.{lucas-by-test}
 use Rattle.field_witness.specs.Witness.{AllSome, MadeOf, Witnessed}
 
 pub witnessed-prime : (p a : ℕ) (l : List ℕ) → Odd p → Witnessed p a l → Prime p

@@ -12,8 +12,8 @@ use lib.Seq.{drop-cons, drop-length, getD-take, length-take-le}
 use borrow.Author.Tests.{lt-ltb, le-ltb, ltb-true, eqb-true, eq-eqb, ne-eqb}
 use Rattle.algebra.proofs.zmod.Prime.{Prime, is-prime, prime-by-test, test-by-prime}
 use Rattle.field.specs.Primes.{Decides, OddPrime}
-use Rattle.orders.specs.Tests.{strip, factors?, none-below?}
-use Rattle.orders.proofs.Factors.{strip-exact}
+use Rattle.rules.specs.orders.Tests.{strip, factors?, none-below?}
+use Rattle.rules.proofs.orders.Factors.{strip-exact}
 use Rattle.field_witness.specs.Witness.{SmallPrime, Stripped, AllSmall, AllSome, MadeOf}
 
 -- ---- a prime below 2^31

@@ -9,7 +9,7 @@ use Rattle.algebra.proofs.zmod.PrimeField.{modulo}
 use Rattle.field.specs.declared.Modulus.{Modulus}
 use Rattle.field.specs.declared.Residue.{Residue}
 use Rattle.field.specs.Residues.{el}
-use Rattle.orders.specs.Tests.{strip, factors?, none-below?, lucas?}
+use Rattle.rules.specs.orders.Tests.{strip, factors?, none-below?, lucas?}
 
 pub record SmallPrime (q : ℕ) : Type 0 where
   pub is : Prime q

@@ -6,10 +6,10 @@ use mathlib.Core.List.{List, [], _∷_}
 use native.Mathlib.Omega.{arith}
 use native.Mathlib.Nat.{pow-suc}
 use lib.ListN.{length}
-use Rattle.signed.specs.Digits.{Digit, minus, null, plus, Topped, nonzeros, recode}
-use Rattle.signed.proofs.Recode.{recode-topped}
-use Rattle.signed.proofs.Unique.{recode-zero}
-use Rattle.signed.proofs.Length.{at-most}
+use Rattle.rules.specs.signed.Digits.{Digit, minus, null, plus, Topped, nonzeros, recode}
+use Rattle.rules.proofs.signed.Recode.{recode-topped}
+use Rattle.rules.proofs.signed.Unique.{recode-zero}
+use Rattle.rules.proofs.signed.Length.{at-most}
 use Rattle.rules.specs.Multiple.{doublings, additions}
 
 pub doublings-are : (n l : ℕ) → l ≡ length (recode n) → doublings n ≡ l - 1

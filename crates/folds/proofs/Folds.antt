@@ -5,8 +5,8 @@ use mathlib.Core.Path.{_≡_, refl, sym, ap, _∙_, subst}
 use lib.IntN.{ℤ, _+ℤ_}
 use Rattle.algebra.proofs.zmod.PrimeField.{modulo}
 use Rattle.rules.specs.Curve.{Curve as RuleCurve}
-use Rattle.signed.specs.Digits.{Digit, value}
-use Rattle.signed.proofs.Signed.{with-digit}
+use Rattle.rules.specs.signed.Digits.{Digit, value}
+use Rattle.rules.proofs.signed.Signed.{with-digit}
 use Rattle.rules.specs.Pair.{Pair, neutral, opposite}
 use Rattle.rules.specs.Sum.{sum, double}
 use Rattle.rules.specs.Multiple.{multiple}

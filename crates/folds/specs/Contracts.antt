@@ -4,7 +4,7 @@ use mathlib.Core.Path.{_≡_}
 use mathlib.Core.List.{List}
 use lib.ListN.{length}
 use lib.IntN.{ℤ, _+ℤ_}
-use Rattle.signed.specs.Digits.{value}
+use Rattle.rules.specs.signed.Digits.{value}
 use Rattle.rules.specs.Pair.{opposite}
 use Rattle.rules.specs.Multiple.{multiple, doublings, additions}
 use Rattle.rules.proofs.cantor.Signed.{wholes}

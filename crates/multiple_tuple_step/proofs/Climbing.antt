@@ -6,8 +6,8 @@ use mathlib.Core.Logic.{_≢_}
 use lib.IntN.{_+ℤ_}
 use Rattle.algebra.proofs.zmod.Zmod.{zmod}
 use Rattle.algebra.proofs.zmod.PrimeField.{modulo}
-use Rattle.signed.specs.Digits.{Digit, minus, null, plus, value}
-use Rattle.signed.proofs.Signed.{with-digit}
+use Rattle.rules.specs.signed.Digits.{Digit, minus, null, plus, value}
+use Rattle.rules.proofs.signed.Signed.{with-digit}
 use Rattle.rules.specs.Curve.{Curve as RuleCurve}
 use Rattle.rules.specs.Pair.{Pair, neutral, opposite}
 use Rattle.rules.specs.Sum.{sum, double}

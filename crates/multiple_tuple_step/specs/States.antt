@@ -3,7 +3,7 @@ use Prim.Native.Nat.{ℕ}
 use mathlib.Core.Path.{_≡_}
 use mathlib.Core.Logic.{_≢_}
 use lib.IntN.{ℤ, _+ℤ_}
-use Rattle.signed.specs.Digits.{value}
+use Rattle.rules.specs.signed.Digits.{value}
 use Rattle.algebra.proofs.zmod.Zmod.{zmod}
 use Rattle.algebra.proofs.zmod.PrimeField.{modulo}
 use Rattle.rules.specs.Pair.{Pair, Valid, opposite}

@@ -12,8 +12,8 @@ use Rattle.field.specs.declared.Modulus.{Modulus}
 use Rattle.field.specs.declared.Residue.{Residue}
 use Rattle.field.specs.Residues.{el, Good, Settles, Stands}
 use Rattle.field.proofs.Laws.{residue-field}
-use Rattle.roots_laws.specs.Roots.{value}
-use Rattle.roots_laws.proofs.Factor.{cubic-less, quadratic-less}
+use Rattle.rules.specs.roots.Roots.{value}
+use Rattle.rules.proofs.roots.Factor.{cubic-less, quadratic-less}
 use Rattle.field_root.specs.Squares.{Splits}
 use Rattle.cubic_rests.specs.declared.MonicCubic.{MonicCubic}
 use Rattle.cubic_rests.specs.Rests.{K, lows}

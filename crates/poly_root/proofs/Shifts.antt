@@ -30,12 +30,12 @@ use Rattle.poly.specs.declared.Poly.{Poly}
 use Rattle.poly.specs.Polys.{pol}
 use Rattle.poly.proofs.Division.{monic-of}
 use Rattle.poly.proofs.Monic.{monic-one}
-use Rattle.roots_laws.specs.Roots.{value}
-use Rattle.roots_laws.proofs.Value.{linear, ev, ev-hom, ev-C, ev-X, ev-less-one, ev-shift, root-iff, root-factor, value-is}
-use Rattle.roots_laws.proofs.Fermat.{every-root}
-use Rattle.roots_laws.proofs.Shift.{parted-by-power}
-use Rattle.roots_laws.proofs.Count.{two-roots}
-use Rattle.roots_laws.proofs.Factor.{linear-factor, quadratic-less}
+use Rattle.rules.specs.roots.Roots.{value}
+use Rattle.rules.proofs.roots.Value.{linear, ev, ev-hom, ev-C, ev-X, ev-less-one, ev-shift, root-iff, root-factor, value-is}
+use Rattle.rules.proofs.roots.Fermat.{every-root}
+use Rattle.rules.proofs.roots.Shift.{parted-by-power}
+use Rattle.rules.proofs.roots.Count.{two-roots}
+use Rattle.rules.proofs.roots.Factor.{linear-factor, quadratic-less}
 use Rattle.cubic_rests.specs.declared.MonicCubic.{MonicCubic}
 use Rattle.cubic_rests.specs.Rests.{K, P, lows, cubic, SettledCubic}
 use Rattle.field_root.specs.Squares.{Splits}

@@ -7,7 +7,7 @@ use Rattle.algebra.proofs.zmod.Zmod.{zmod, num}
 use Rattle.field.specs.declared.Modulus.{Modulus}
 use Rattle.field.specs.declared.Residue.{Residue}
 use Rattle.field.specs.Residues.{el, Kept, Settled}
-use Rattle.roots_laws.specs.Roots.{value}
+use Rattle.rules.specs.roots.Roots.{value}
 use Rattle.cubic_rests.specs.declared.MonicCubic.{MonicCubic}
 use Rattle.cubic_rests.specs.Rests.{K, P, lows, cubic, SettledCubic}
 use Rattle.cubic_parts.specs.Parts.{all-roots}

@@ -16,8 +16,8 @@ use Rattle.algebra.proofs.zmod.Zmod.{zmod, emb, zmod-dec}
 use Rattle.algebra.proofs.zmod.Prime.{Prime, is-prime, prime-by-test}
 use Rattle.algebra.proofs.zmod.PrimeField.{inv, prime-field}
 use Rattle.algebra.proofs.group.Group.{sum-zer}
-use Rattle.signed.specs.Digits.{recode}
-use Rattle.signed.proofs.Signed.{signed-run}
+use Rattle.rules.specs.signed.Digits.{recode}
+use Rattle.rules.proofs.signed.Signed.{signed-run}
 use Rattle.rules.specs.Curve.{Curve, Kx, SquareFree}
 use Rattle.rules.specs.Pair.{Pair, u-of, f-v², Valid, neutral, opposite}
 use Rattle.rules.specs.Sum.{composition, sum, double}

@@ -6,3 +6,7 @@ pub mod CallLaws
 pub mod exactly
 pub mod IsSum
 pub mod Corners
+pub mod signed
+pub mod orders
+pub mod roots
+pub mod pole

@@ -11,7 +11,7 @@ use lib.ListN.{length, drop}
 use lib.Seq.{sets}
 use Rattle.algebra.proofs.zmod.Zmod.{zmod}
 use Rattle.algebra.proofs.zmod.PrimeField.{modulo}
-use Rattle.orders.specs.Tests.{order?}
+use Rattle.rules.specs.orders.Tests.{order?}
 use Rattle.rules.specs.Bytes.{number, word32, words32}
 use Rattle.rules.specs.Pair.{neutral, opposite}
 use Rattle.rules.specs.Sum.{sum, double}

@@ -2,7 +2,7 @@
 use Prim.Native.Nat.{ℕ, zero, suc, _-_}
 use mathlib.Core.List.{List, foldl}
 use lib.ListN.{length}
-use Rattle.signed.specs.Digits.{recode, nonzeros}
+use Rattle.rules.specs.signed.Digits.{recode, nonzeros}
 use Rattle.rules.specs.Curve.{Curve}
 use Rattle.rules.specs.Pair.{Pair, neutral}
 use Rattle.rules.specs.Sum.{sum}

@@ -10,7 +10,7 @@ use lib.ListN.{getD, length}
 use Rattle.algebra.proofs.zmod.Zmod.{zmod, emb, num}
 use Rattle.algebra.proofs.zmod.Prime.{is-prime}
 use Rattle.algebra.proofs.zmod.PrimeField.{modulo}
-use Rattle.orders.specs.Tests.{lucas?}
+use Rattle.rules.specs.orders.Tests.{lucas?}
 use Rattle.rules.specs.Bytes.{word64, words, bytes64, all-bytes}
 pub use Rattle.rules.specs.Checks.{Checked, refused, taken, choose, Check, first-failed, go-on}
 use Rattle.rules.specs.Curve.{Curve}

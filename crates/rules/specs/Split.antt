@@ -9,7 +9,7 @@ use Rattle.algebra.proofs.ring.Field.{Arith}
 use Rattle.algebra.proofs.zmod.Zmod.{zmod, zmod-dec, emb}
 use Rattle.algebra.proofs.zmod.PrimeField.{modulo}
 use Rattle.algebra.proofs.list.Ops.{whole, quotient, remainder, monic}
-use Rattle.roots_laws.specs.Roots.{value}
+use Rattle.rules.specs.roots.Roots.{value}
 use Rattle.rules.specs.Pair.{Pair}
 use Rattle.rules.specs.Checks.{Checked, refused, taken, choose, go-on}
 

@@ -12,11 +12,11 @@ use lib.Bits.{bitXor, xor-block, xor-lt, xor-zero-r}
 use lib.Count.{ones, ones-cat, ones-le, leadingZeros, leading-top}
 use Rattle.rules.specs.Bytes.{number}
 use Rattle.rules.proofs.calls.Bytes.{AreBytes}
-use Rattle.signed.specs.Digits.{nonzeros, recode}
-use Rattle.signed.proofs.Unique.{recode-zero}
+use Rattle.rules.specs.signed.Digits.{nonzeros, recode}
+use Rattle.rules.proofs.signed.Unique.{recode-zero}
 use Rattle.scalar.specs.Recoded.{Risen}
 use Rattle.scalar.proofs.Bytes.{byte-is, below}
-use Rattle.signed.proofs.Ones.{recode-ones, recode-places}
+use Rattle.rules.proofs.signed.Ones.{recode-ones, recode-places}
 
 -- ---- the place of the highest one of x; 0 where x is 0
 pub record Top (x m : ℕ) : Type 0 where

@@ -6,9 +6,9 @@ use native.Mathlib.Decide.{decLt}
 use native.Mathlib.Omega.{arith}
 use lib.ListN.{length, getD, set, replicate, getD-replicate, length-set, List·getD-eq-default}
 use lib.Seq.{getD-set-same, getD-set-other}
-use Rattle.signed.specs.Digits.{null, of-four, recode}
-use Rattle.signed.proofs.Length.{at-most-one-more}
-use Rattle.signed.proofs.Walk.{Walked, begin as walk-begin, digit-at, next as walk-next}
+use Rattle.rules.specs.signed.Digits.{null, of-four, recode}
+use Rattle.rules.proofs.signed.Length.{at-most-one-more}
+use Rattle.rules.proofs.signed.Walk.{Walked, begin as walk-begin, digit-at, next as walk-next}
 use Rattle.rules.specs.Bytes.{number}
 use Rattle.rules.proofs.calls.Bytes.{AreBytes}
 use Rattle.scalar.specs.declared.Counts.{Counts}

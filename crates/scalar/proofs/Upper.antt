@@ -6,10 +6,10 @@ use mathlib.Core.List.{List, [], _∷_}
 use native.Mathlib.Omega.{arith}
 use lib.ListN.{length, getD, drop}
 use lib.IntN.{pos, _+ℤ_}
-use Rattle.signed.specs.Digits.{Digit, null, plus, value, weight, recode}
-use Rattle.signed.proofs.Recode.{recode-weight, recode-top}
-use Rattle.signed.proofs.Unique.{recode-zero}
-use Rattle.signed.proofs.Places.{weight-at, same-places, last-place}
+use Rattle.rules.specs.signed.Digits.{Digit, null, plus, value, weight, recode}
+use Rattle.rules.proofs.signed.Recode.{recode-weight, recode-top}
+use Rattle.rules.proofs.signed.Unique.{recode-zero}
+use Rattle.rules.proofs.signed.Places.{weight-at, same-places, last-place}
 use Rattle.scalar.specs.declared.Digits.{Digits}
 use Rattle.scalar.specs.Recoded.{digit, digits, upper, Recoded}
 

@@ -6,7 +6,7 @@ use mathlib.Core.List.{List, map}
 use lib.ListN.{length, getD, drop}
 use lib.IntN.{ℤ}
 use lib.Count.{leadingZeros}
-use Rattle.signed.specs.Digits.{Digit, minus, null, plus, weight, nonzeros, recode}
+use Rattle.rules.specs.signed.Digits.{Digit, minus, null, plus, weight, nonzeros, recode}
 use Rattle.scalar.specs.declared.Counts.{Counts}
 use Rattle.scalar.specs.declared.Digits.{Digits}
 

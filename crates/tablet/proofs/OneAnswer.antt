@@ -7,7 +7,7 @@ use mathlib.Core.List.{List}
 use Rattle.rules.specs.Calls.{check-curve, check-divisor, rewrite-curve, rewrite-divisor, add-call, double-call, opposite-call, multiply-call, total-call, repeat-call}
 use Rattle.rules.specs.Calls.{check-order, split-call, next-call, fresh}
 use Rattle.rules.proofs.CallLaws.{one-answer}
-use Rattle.pole_rule.specs.PoleFile.{read-file, write-file}
+use Rattle.rules.specs.pole.PoleFile.{read-file, write-file}
 use Rattle.tablet_answers.specs.declared.YubiAnswer.{YubiAnswer}
 use Rattle.tablet_answers.specs.declared.YubiMultiple.{YubiMultiple}
 use Rattle.tablet_answers.specs.declared.YubiTotal.{YubiTotal}

@@ -4,7 +4,7 @@ ghost use mathlib.Core.Path.{_≡_};
 ghost use Rattle.rules.specs.Calls.{check-curve, check-divisor, rewrite-curve, rewrite-divisor, add-call, double-call, opposite-call, multiply-call, total-call, repeat-call};
 ghost use Rattle.rules.specs.Calls.{check-order, split-call, next-call};
 ghost use Rattle.rules.specs.Calls.{fresh};
-ghost use Rattle.pole_rule.specs.PoleFile.{read-file, write-file};
+ghost use Rattle.rules.specs.pole.PoleFile.{read-file, write-file};
 ghost use Rattle.scan_flat.specs.Flats.{flat-running, scanned-as, FlatScanIs};
 ghost use Rattle.tablet_answers.specs.Flat.{flat, flat-multiple, flat-total, flat-repeat, flat-pole};
 use scan_flat::YubiRunning;

@@ -4,7 +4,7 @@ use mathlib.Core.Path.{_∙_, ap}
 use mathlib.Core.List.{List}
 use lib.ListN.{length}
 use lib.Seq.{sets}
-use Rattle.pole_rule.specs.PoleFile.{bytes16}
+use Rattle.rules.specs.pole.PoleFile.{bytes16}
 use Rattle.call_pole.proofs.Writes.{no-room, file-put}
 use borrow.Author.Needs.{needs}
 use Rattle.call_pole.proofs.write_file.Statement.{statement}

@@ -7,7 +7,7 @@ use Rattle.algebra.proofs.zmod.PrimeField.{modulo}
 use Rattle.field.specs.Residues.{el}
 use Rattle.field.proofs.Arrays.{length-of}
 use Rattle.field.proofs.Decide.{decided-yes, decided-no}
-use Rattle.orders.specs.Tests.{none-below?}
+use Rattle.rules.specs.orders.Tests.{none-below?}
 use Rattle.field_witness.proofs.Listed.{next, at-end, none-stop, none-turn, none-end}
 use Rattle.field_witness.proofs.Accepted.{one-yes, one-no, some-at}
 use borrow.Author.Needs.{needs}

@@ -1,5 +1,5 @@
 use mathlib.Core.Path.{ap}
-use Rattle.signed.specs.Digits.{minus, null, plus}
+use Rattle.rules.specs.signed.Digits.{minus, null, plus}
 use Rattle.folds.proofs.Folds.{with-one, taken, itself-given}
 use Rattle.scalar.proofs.Upper.{plus-else}
 use Rattle.scalar.specs.Recoded.{digit}

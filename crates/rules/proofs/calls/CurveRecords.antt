@@ -11,8 +11,8 @@ use lib.Dec.{eqb, leb, ltb}
 use lib.ListN.{getD, length}
 use borrow.Author.Tests.{leb-true, le-leb, ltb-true, eqb-true, eq-eqb, ne-eqb}
 use Rattle.algebra.proofs.zmod.Prime.{Prime, OddPrime, prime-by-test}
-use Rattle.orders.specs.Tests.{lucas?}
-use Rattle.orders.proofs.Lucas.{lucas-by-test}
+use Rattle.rules.specs.orders.Tests.{lucas?}
+use Rattle.rules.proofs.orders.Lucas.{lucas-by-test}
 use Rattle.rules.specs.Bytes.{word64, words}
 use Rattle.rules.specs.Checks.{Check, taken, choose}
 use Rattle.rules.specs.Tests.{square-free?}

@@ -13,9 +13,9 @@ use Rattle.algebra.proofs.ring.Power.{power, power-one?, power-one}
 use Rattle.algebra.proofs.zmod.Zmod.{zmod, emb}
 use Rattle.algebra.proofs.zmod.Prime.{Prime, OddPrime, test-by-prime}
 use Rattle.algebra.proofs.zmod.PrimeField.{modulo}
-use Rattle.orders.specs.Tests.{lucas?}
-use Rattle.orders.proofs.Listed.{Order, order-test}
-use Rattle.orders.proofs.Lucas.{powers-closed, lucas-by-test}
+use Rattle.rules.specs.orders.Tests.{lucas?}
+use Rattle.rules.proofs.orders.Listed.{Order, order-test}
+use Rattle.rules.proofs.orders.Lucas.{powers-closed, lucas-by-test}
 use Rattle.rules.specs.Pair.{Valid}
 use Rattle.rules.specs.Lists.{most-records}
 use Rattle.rules.specs.Tests.{on-curve?}

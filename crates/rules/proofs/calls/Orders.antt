@@ -11,9 +11,9 @@ use native.Mathlib.Omega.{arith}
 use lib.Dec.{leb, eqb}
 use lib.ListN.{length}
 use borrow.Author.Tests.{leb-true, le-leb, lt-leb, eqb-true, eq-eqb, not-true}
-use Rattle.orders.specs.Tests.{order?}
-use Rattle.orders.proofs.Order.{Closed}
-use Rattle.orders.proofs.Listed.{Order, order-test}
+use Rattle.rules.specs.orders.Tests.{order?}
+use Rattle.rules.proofs.orders.Order.{Closed}
+use Rattle.rules.proofs.orders.Listed.{Order, order-test}
 use Rattle.rules.specs.Bytes.{number}
 use Rattle.rules.specs.Pair.{Valid, neutral}
 use Rattle.rules.specs.Sum.{sum}

@@ -12,7 +12,7 @@ use borrow.Author.Tests.{lt-ltb, le-ltb, eq-eqb, ne-eqb}
 use Rattle.algebra.proofs.ring.CRing.{neg-neg}
 use Rattle.algebra.proofs.zmod.Zmod.{zmod, zmod-dec, emb, num, emb-num, num-of, num-lt, num-inj}
 use Rattle.algebra.proofs.zmod.PrimeField.{modulo}
-use Rattle.roots_laws.specs.Roots.{value}
+use Rattle.rules.specs.roots.Roots.{value}
 use Rattle.rules.specs.Pair.{Pair}
 use Rattle.rules.specs.Checks.{Checked, refused, taken, choose, go-on}
 use Rattle.rules.specs.Split.{root?, least, largest, split-root}

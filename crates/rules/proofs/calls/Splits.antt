@@ -12,8 +12,8 @@ use Rattle.algebra.proofs.ring.CRing.{CRing, neg-neg, add-neg, mul-one}
 use Rattle.algebra.proofs.zmod.Zmod.{zmod, num}
 use Rattle.algebra.proofs.zmod.PrimeField.{modulo}
 use Rattle.algebra.proofs.list.Value.{mon}
-use Rattle.roots_laws.specs.Roots.{value}
-use Rattle.roots_laws.proofs.Value.{ev, root-factor, value-is}
+use Rattle.rules.specs.roots.Roots.{value}
+use Rattle.rules.proofs.roots.Value.{ev, root-factor, value-is}
 use Rattle.rules.specs.Curve.{Kx}
 use Rattle.rules.specs.Pair.{Pair, Valid}
 use Rattle.rules.specs.Checks.{refused, taken, go-on}

@@ -6,9 +6,9 @@ use mathlib.Core.Path.{_≡_, refl, sym, ap, _∙_}
 use lib.IntN.{ℤ, pos, negsuc, _+ℤ_}
 use Rattle.algebra.proofs.group.Group.{AbGroup}
 use Rattle.algebra.proofs.group.Whole.{whole}
-use Rattle.signed.specs.Digits.{Digit, minus, null, plus, value, recode}
-use Rattle.signed.proofs.Recode.{recode-topped}
-use Rattle.signed.proofs.Signed.{with-digit, one-more, signed-run, signed-doublings, signed-additions, signed-run-map, signed-run-recode}
+use Rattle.rules.specs.signed.Digits.{Digit, minus, null, plus, value, recode}
+use Rattle.rules.proofs.signed.Recode.{recode-topped}
+use Rattle.rules.proofs.signed.Signed.{with-digit, one-more, signed-run, signed-doublings, signed-additions, signed-run-map, signed-run-recode}
 use Rattle.rules.specs.Curve.{Curve}
 use Rattle.rules.specs.Pair.{Pair, Valid, neutral, opposite}
 use Rattle.rules.specs.Sum.{sum, double}

@@ -17,9 +17,9 @@ use Rattle.algebra.proofs.list.Division.{length-remainder, divided, exact}
 use Rattle.algebra.proofs.list.Euclid.{mon-degree}
 use Rattle.algebra.proofs.ideal.Composed.{Composed}
 use Rattle.algebra.proofs.ideal.Smooth.{Smooth}
-use Rattle.roots_laws.specs.Roots.{value}
-use Rattle.roots_laws.proofs.Value.{ev, linear, root-iff, value-is}
-use Rattle.roots_laws.proofs.Count.{degree-same}
+use Rattle.rules.specs.roots.Roots.{value}
+use Rattle.rules.proofs.roots.Value.{ev, linear, root-iff, value-is}
+use Rattle.rules.proofs.roots.Count.{degree-same}
 use Rattle.rules.specs.Curve.{Curve, Kx, f}
 use Rattle.rules.specs.Pair.{Pair, Valid, u-of, v-of, f-v²}
 use Rattle.rules.specs.Sum.{sum}

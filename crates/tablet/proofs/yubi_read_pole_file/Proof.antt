@@ -1,7 +1,7 @@
 use native.Mathlib.Omega.{arith}
 use mathlib.Core.Path.{ap, sym, subst, _∙_}
 use Rattle.tablet_answers.specs.Flat.{as-pole}
-use Rattle.pole_rule.proofs.Small.{pole-small}
+use Rattle.rules.proofs.pole.Small.{pole-small}
 use borrow.Author.Needs.{needs}
 use Rattle.tablet.proofs.yubi_read_pole_file.Statement.{statement}
 use Rattle.tablet.proofs.yubi_read_pole_file.Tie as tie
