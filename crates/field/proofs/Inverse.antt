@@ -8,10 +8,10 @@ use Rattle.algebra.proofs.zmod.Zmod.{zmod, emb, emb-mul}
 use Rattle.field_words.specs.Words.{word}
 use Rattle.field.specs.declared.Modulus.{Modulus}
 use Rattle.field.specs.declared.Residue.{Residue}
-use Rattle.halving.specs.declared.Shifted.{Shifted}
+use Rattle.field_montgomery.specs.declared.halving.Shifted.{Shifted}
 use Rattle.field_montgomery.specs.Back.{back}
 use Rattle.field.specs.Residues.{el, HasInverse, Inverts}
-use Rattle.halving.specs.Almost.{Invertible, AlmostIs}
+use Rattle.field_montgomery.specs.halving.Almost.{Invertible, AlmostIs}
 use Rattle.field_montgomery.specs.Powers.{ToFinish, Finished}
 use Rattle.field_montgomery.proofs.Back.{back-word}
 

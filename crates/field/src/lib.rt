@@ -268,7 +268,7 @@ impl Residue {
         requires { ⌜ HasInverse m self ⌝ }
         ensures { λ r. ⌜ Inverts m self r ⌝ }
     {
-        let x = halving::almost(self.0, m.p);
+        let x = field_montgomery::halving::almost(self.0, m.p);
         Residue(field_montgomery::finish(x.s, x.k, m.p, m.turn, m.square, m.cube))
     }
 }

@@ -1,3 +1,4 @@
 pub mod Back
 pub mod Constants
 pub mod Powers
+pub mod halving

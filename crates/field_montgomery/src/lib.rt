@@ -3,6 +3,8 @@ ghost use Prim.Native.Nat.{_+_, _<_};
 ghost use Rattle.field_montgomery.specs.Constants.{Same, Words, ToSquare, Squared};
 ghost use Rattle.field_montgomery.specs.Powers.{ToPower, Powered, ToFinish, Finished};
 
+pub mod halving;
+
 // The same element, below p.
 pub fn lower(x: u64, p: u64) -> u64
     requires { ⌜ x < p + p ⌝ }

@@ -3,9 +3,9 @@ use borrow.Author.Needs.{needs}
 use Prim.Native.Nat.{_+_}
 use Rattle.algebra.proofs.zmod.Zmod.{zmod}
 use Rattle.field_words.proofs.Bounds.{room}
-use Rattle.halving.proofs.Halving.{Halving, begin, together, fewer, fewer-other, again, again-other, few-next, few-other, ended, nonzero}
-use Rattle.halving.proofs.almost.Statement.{statement}
-use Rattle.halving.proofs.almost.Tie as tie
+use Rattle.field_montgomery.proofs.halving.Halving.{Halving, begin, together, fewer, fewer-other, again, again-other, few-next, few-other, ended, nonzero}
+use Rattle.field_montgomery.proofs.halving.almost.Statement.{statement}
+use Rattle.field_montgomery.proofs.halving.almost.Tie as tie
 
 abbrev Inv-loop : tie.InvT-loop
 Inv-loop a p k₀ u₀ v₀ r₀ s₀ k u v r s = Halving p a (zmod p .one) u v r s k

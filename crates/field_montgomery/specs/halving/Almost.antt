@@ -5,7 +5,7 @@ use mathlib.Core.Logic.{_≢_}
 use Rattle.algebra.proofs.zmod.Prime.{Prime}
 use Rattle.algebra.proofs.zmod.Zmod.{zmod, emb}
 use Rattle.field_words.specs.Reduced.{top}
-use Rattle.halving.specs.declared.Shifted.{Shifted}
+use Rattle.field_montgomery.specs.declared.halving.Shifted.{Shifted}
 
 pub record Invertible (p a : ℕ) : Type 0 where
   pub prime : Prime p

@@ -14,7 +14,7 @@ use Rattle.algebra.proofs.zmod.Zmod.{zmod, emb, emb-add, emb-mul, emb-zero, emb
 use Rattle.field_words.specs.Words.{word}
 use Rattle.field_words.specs.Reduced.{top}
 use Rattle.field_words.specs.Newton.{Zeros}
-use Rattle.halving.specs.Almost.{Invertible, AlmostIs}
+use Rattle.field_montgomery.specs.halving.Almost.{Invertible, AlmostIs}
 use Rattle.field_words.proofs.Bounds.{eight}
 
 module _ (p a : ℕ) where

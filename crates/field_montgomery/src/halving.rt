@@ -1,6 +1,6 @@
 // The almost inverse of a number modulo p, on plain numbers, by the binary Euclid, with the twos counted and paid back at the end: no division, and no halving
 // modulo p.
-ghost use Rattle.halving.specs.Almost.{Invertible, AlmostIs};
+ghost use Rattle.field_montgomery.specs.halving.Almost.{Invertible, AlmostIs};
 
 // What is found of a: a * s is 2^k modulo p.
 pub struct Shifted {
