@@ -2,7 +2,6 @@
 ghost use Rattle.field.specs.Residues.{el};
 ghost use Rattle.divisor.specs.Divisors.{Held};
 ghost use Rattle.divisor_split.specs.Splits.{ToTake, PartAt, ToDivide, RestAt, SplitIs};
-use cubic_rests::MonicCubic;
 use divisor::Cubic;
 use divisor::Divisor;
 use divisor::Linear;
@@ -11,6 +10,7 @@ use field::Modulus;
 use field::Residue;
 use field_root::Roots;
 use poly_root::Found;
+use poly_root::rests::MonicCubic;
 
 // The two parts, or that there is no root to split at.
 pub enum Parted {

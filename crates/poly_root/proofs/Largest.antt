@@ -15,8 +15,8 @@ use Rattle.field.proofs.Laws.{residue-field}
 use Rattle.rules.specs.roots.Roots.{value}
 use Rattle.rules.proofs.roots.Factor.{cubic-less, quadratic-less}
 use Rattle.field_root.specs.Squares.{Splits}
-use Rattle.cubic_rests.specs.declared.MonicCubic.{MonicCubic}
-use Rattle.cubic_rests.specs.Rests.{K, lows}
+use Rattle.poly_root.specs.declared.rests.MonicCubic.{MonicCubic}
+use Rattle.poly_root.specs.rests.Rests.{K, lows}
 use Rattle.poly_root.specs.Roots.{Root, IsRoot, Larger, LargestRoot}
 
 module _ (m : Modulus) where

@@ -36,10 +36,10 @@ use Rattle.rules.proofs.roots.Fermat.{every-root}
 use Rattle.rules.proofs.roots.Shift.{parted-by-power}
 use Rattle.rules.proofs.roots.Count.{two-roots}
 use Rattle.rules.proofs.roots.Factor.{linear-factor, quadratic-less}
-use Rattle.cubic_rests.specs.declared.MonicCubic.{MonicCubic}
-use Rattle.cubic_rests.specs.Rests.{K, P, lows, cubic, SettledCubic}
+use Rattle.poly_root.specs.declared.rests.MonicCubic.{MonicCubic}
+use Rattle.poly_root.specs.rests.Rests.{K, P, lows, cubic, SettledCubic}
 use Rattle.field_root.specs.Squares.{Splits}
-use Rattle.cubic_parts.specs.Parts.{Part, all-roots, shifted}
+use Rattle.poly_root.specs.parts.Parts.{Part, all-roots, shifted}
 use Rattle.poly_root.specs.Roots.{Root, IsRoot, Whole}
 
 module _ (m : Modulus) where

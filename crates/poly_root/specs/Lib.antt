@@ -1,1 +1,3 @@
 pub mod Roots
+pub mod rests
+pub mod parts

@@ -8,9 +8,9 @@ use Rattle.field.specs.declared.Modulus.{Modulus}
 use Rattle.field.specs.declared.Residue.{Residue}
 use Rattle.field.specs.Residues.{el, Kept, Settled}
 use Rattle.rules.specs.roots.Roots.{value}
-use Rattle.cubic_rests.specs.declared.MonicCubic.{MonicCubic}
-use Rattle.cubic_rests.specs.Rests.{K, P, lows, cubic, SettledCubic}
-use Rattle.cubic_parts.specs.Parts.{all-roots}
+use Rattle.poly_root.specs.declared.rests.MonicCubic.{MonicCubic}
+use Rattle.poly_root.specs.rests.Rests.{K, P, lows, cubic, SettledCubic}
+use Rattle.poly_root.specs.parts.Parts.{all-roots}
 use Rattle.poly_root.specs.declared.Found.{Found}
 use Rattle.poly_root.specs.declared.Found.the-variants.{At, Nowhere}
 

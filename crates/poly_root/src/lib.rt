@@ -1,12 +1,15 @@
 // The largest root of a monic cubic as a number below p (W-213). Its roots are those of what it shares with x^p - x. Where it has three different ones they are parted by shifts 0, 1, 2, .. of x, and
 // some shift below p parts them (roots_laws, `parted-by-power`). From one root the others are those of a quadratic.
 ghost use Rattle.field.specs.Residues.{Kept};
-ghost use Rattle.cubic_rests.specs.Rests.{SettledCubic};
+ghost use Rattle.poly_root.specs.rests.Rests.{SettledCubic};
 ghost use Rattle.poly_root.specs.Roots.{IsRoot, RootIs, Whole, Larger, ToEnlarge, LargestRoot, LargestIs};
-use cubic_rests::MonicCubic;
+use crate::rests::MonicCubic;
 use field::Modulus;
 use field::Residue;
 use field_root::Roots;
+
+pub mod parts;
+pub mod rests;
 
 // A root, or that there is none.
 pub enum Found {
@@ -24,7 +27,7 @@ fn parted(u: MonicCubic, m: Modulus) -> Residue
     let mut a = Residue::zero();
     let mut k: u64 = 0;
     while k < p {
-        let g = cubic_parts::shift_part(u, a, m);
+        let g = parts::shift_part(u, a, m);
         let n = g.n;
         if n == 2 {
             return g.get(0).neg(m);
@@ -43,7 +46,7 @@ fn some_root(u: MonicCubic, m: Modulus) -> Found
     requires { ⌜ SettledCubic m u ⌝ }
     ensures { λ r. ⌜ RootIs m u r ⌝ }
 {
-    let g = cubic_parts::field_part(u, m);
+    let g = parts::field_part(u, m);
     let n = g.n;
     if n == 1 {
         return Found::Nowhere;

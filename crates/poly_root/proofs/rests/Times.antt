@@ -8,9 +8,9 @@ use Rattle.algebra.proofs.list.Short.{pol3, mon3}
 use Rattle.field.specs.declared.Modulus.{Modulus}
 use Rattle.field.specs.declared.Residue.{Residue}
 use Rattle.field.specs.Residues.{el, Kept, Stands}
-use Rattle.cubic_rests.specs.declared.MonicCubic.{MonicCubic}
-use Rattle.cubic_rests.specs.declared.Rest.{Rest}
-use Rattle.cubic_rests.specs.Rests.{K, P, cubic, rest, KeptRest, Leaves}
+use Rattle.poly_root.specs.declared.rests.MonicCubic.{MonicCubic}
+use Rattle.poly_root.specs.declared.rests.Rest.{Rest}
+use Rattle.poly_root.specs.rests.Rests.{K, P, cubic, rest, KeptRest, Leaves}
 
 -- ---- in any ring
 module _ (R : CRing) where

@@ -1,8 +1,8 @@
 use Rattle.field.proofs.Laws.{settled-kept}
-use Rattle.cubic_rests.proofs.Times.{times-is}
+use Rattle.poly_root.proofs.rests.Times.{times-is}
 use borrow.Author.Needs.{needs}
-use Rattle.cubic_rests.proofs.Rest.times.Statement.{statement}
-use Rattle.cubic_rests.proofs.Rest.times.Tie as tie
+use Rattle.poly_root.proofs.rests.Rest.times.Statement.{statement}
+use Rattle.poly_root.proofs.rests.Rest.times.Tie as tie
 
 mul-requires : tie.Need-mul-requires
 mul-requires c κs = search needs

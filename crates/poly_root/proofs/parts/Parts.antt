@@ -29,11 +29,11 @@ use Rattle.poly_euclid.specs.Euclid.{Gcd}
 use Rattle.few.proofs.Few.{next-term}
 use Rattle.rules.proofs.roots.Factor.{same-degree}
 use Rattle.rules.proofs.roots.Value.{ev, ev-hom, linear, root-iff, root-factor, root-rest}
-use Rattle.cubic_rests.specs.declared.MonicCubic.{MonicCubic}
-use Rattle.cubic_rests.specs.declared.Rest.{Rest}
-use Rattle.cubic_rests.specs.Rests.{K, P, lows, cubic, rest, SettledCubic, KeptRest, Leaves}
-use Rattle.cubic_rests.proofs.Times.{co, rest-is}
-use Rattle.cubic_parts.specs.Parts.{Shared, Part, all-roots, shifted}
+use Rattle.poly_root.specs.declared.rests.MonicCubic.{MonicCubic}
+use Rattle.poly_root.specs.declared.rests.Rest.{Rest}
+use Rattle.poly_root.specs.rests.Rests.{K, P, lows, cubic, rest, SettledCubic, KeptRest, Leaves}
+use Rattle.poly_root.proofs.rests.Times.{co, rest-is}
+use Rattle.poly_root.specs.parts.Parts.{Shared, Part, all-roots, shifted}
 
 module _ (m : Modulus) where
   open CRing (K m) using (El as A, add as _⊕_, neg as ng, zer as 𝟘, one as 𝟙)

@@ -2,9 +2,9 @@ use native.Mathlib.Omega.{arith}
 use borrow.Author.Needs.{needs}
 use Prim.Native.Nat.{_≤_}
 use Rattle.field.proofs.Laws.{settled-kept, zero-settles}
-use Rattle.cubic_rests.proofs.Raising.{Raising, raising-begin, raising-odd, raising-even, raised}
-use Rattle.cubic_rests.proofs.raise.Statement.{statement}
-use Rattle.cubic_rests.proofs.raise.Tie as tie
+use Rattle.poly_root.proofs.rests.Raising.{Raising, raising-begin, raising-odd, raising-even, raised}
+use Rattle.poly_root.proofs.rests.raise.Statement.{statement}
+use Rattle.poly_root.proofs.rests.raise.Tie as tie
 
 abbrev Inv-loop : tie.InvT-loop
 Inv-loop n u m x₀ y₀ k₀ x y k = Raising m u y₀ n x y k

@@ -11,10 +11,10 @@ use Rattle.field.specs.declared.Modulus.{Modulus}
 use Rattle.field.specs.declared.Residue.{Residue}
 use Rattle.field.specs.Residues.{el, Settles}
 use Rattle.field.proofs.Laws.{settled-kept}
-use Rattle.cubic_rests.specs.declared.MonicCubic.{MonicCubic}
-use Rattle.cubic_rests.specs.declared.Rest.{Rest}
-use Rattle.cubic_rests.specs.Rests.{K, P, cubic, rest, KeptRest, Leaves}
-use Rattle.cubic_rests.proofs.Times.{rest-is}
+use Rattle.poly_root.specs.declared.rests.MonicCubic.{MonicCubic}
+use Rattle.poly_root.specs.declared.rests.Rest.{Rest}
+use Rattle.poly_root.specs.rests.Rests.{K, P, cubic, rest, KeptRest, Leaves}
+use Rattle.poly_root.proofs.rests.Times.{rest-is}
 
 -- ---- in any ring: powers of what is alike modulo c are alike
 module _ (R : CRing) (c : R .El) where

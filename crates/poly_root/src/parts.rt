@@ -1,9 +1,9 @@
 // Parts of a cubic u (W-213): what it shares with x^p - x, whose roots are all of u's; and with (x + a)^((p-1)/2) - 1, which parts them by a shift.
 ghost use Rattle.field.specs.Residues.{el};
-ghost use Rattle.cubic_rests.specs.Rests.{SettledCubic};
-ghost use Rattle.cubic_parts.specs.Parts.{ToShare, Shared, Part, ToShift, all-roots, shifted};
-use cubic_rests::MonicCubic;
-use cubic_rests::Rest;
+ghost use Rattle.poly_root.specs.rests.Rests.{SettledCubic};
+ghost use Rattle.poly_root.specs.parts.Parts.{ToShare, Shared, Part, ToShift, all-roots, shifted};
+use crate::rests::MonicCubic;
+use crate::rests::Rest;
 use field::Modulus;
 use field::Residue;
 use poly::Poly;
@@ -30,7 +30,7 @@ pub fn field_part(u: MonicCubic, m: Modulus) -> Poly
         c1: one,
         c2: zero,
     };
-    let w = cubic_rests::raise(x, m.number(), u, m);
+    let w = crate::rests::raise(x, m.number(), u, m);
     let c0 = w.c0;
     let c1 = w.c1.sub(one, m);
     let c2 = w.c2;
@@ -54,7 +54,7 @@ pub fn shift_part(u: MonicCubic, a: Residue, m: Modulus) -> Poly
         c1: one,
         c2: zero,
     };
-    let w = cubic_rests::raise(x, (m.number() - 1) / 2, u, m);
+    let w = crate::rests::raise(x, (m.number() - 1) / 2, u, m);
     let c0 = w.c0.sub(one, m);
     let c1 = w.c1;
     let c2 = w.c2;

@@ -12,9 +12,9 @@ use Rattle.poly.specs.declared.Poly.{Poly}
 use Rattle.poly.specs.Polys.{pol, Ok}
 use Rattle.poly.specs.Contracts.{IsMonic}
 use Rattle.rules.proofs.roots.Value.{ev}
-use Rattle.cubic_rests.specs.declared.MonicCubic.{MonicCubic}
-use Rattle.cubic_rests.specs.declared.Rest.{Rest}
-use Rattle.cubic_rests.specs.Rests.{K, P, cubic, rest, SettledCubic, KeptRest}
+use Rattle.poly_root.specs.declared.rests.MonicCubic.{MonicCubic}
+use Rattle.poly_root.specs.declared.rests.Rest.{Rest}
+use Rattle.poly_root.specs.rests.Rests.{K, P, cubic, rest, SettledCubic, KeptRest}
 
 pub record ToShare (m : Modulus) (u : MonicCubic) (r : Rest) : Type 0 where
   pub by : SettledCubic m u

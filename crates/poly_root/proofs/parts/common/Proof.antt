@@ -1,7 +1,7 @@
-use Rattle.cubic_parts.proofs.Parts.{cubic-poly, rest-poly, shared}
+use Rattle.poly_root.proofs.parts.Parts.{cubic-poly, rest-poly, shared}
 use borrow.Author.Needs.{needs}
-use Rattle.cubic_parts.proofs.common.Statement.{statement}
-use Rattle.cubic_parts.proofs.common.Tie as tie
+use Rattle.poly_root.proofs.parts.common.Statement.{statement}
+use Rattle.poly_root.proofs.parts.common.Tie as tie
 
 parabola-requires : tie.Need-parabola-requires
 parabola-requires c κs = search needs

@@ -1,7 +1,7 @@
 // Powers modulo a monic cubic (W-213), on three coefficients: products and powers leave a rest, and the promise is an equation of K[x].
 ghost use Prim.Native.Nat.{_<_};
 ghost use Rattle.algebra.proofs.ring.Power.{power};
-ghost use Rattle.cubic_rests.specs.Rests.{P, rest, Leaves, ToMultiply, ToRaise};
+ghost use Rattle.poly_root.specs.rests.Rests.{P, rest, Leaves, ToMultiply, ToRaise};
 use field::Modulus;
 use field::Residue;
 

@@ -7,8 +7,8 @@ use Rattle.algebra.proofs.poly.Poly.{poly}
 use Rattle.algebra.proofs.list.Value.{pol, mon}
 use Rattle.field.specs.declared.Modulus.{Modulus}
 use Rattle.field.specs.Residues.{el, Good, Kept, Settled}
-use Rattle.cubic_rests.specs.declared.MonicCubic.{MonicCubic}
-use Rattle.cubic_rests.specs.declared.Rest.{Rest}
+use Rattle.poly_root.specs.declared.rests.MonicCubic.{MonicCubic}
+use Rattle.poly_root.specs.declared.rests.Rest.{Rest}
 
 abbrev pub K : Modulus → CRing
 K m = zmod (m .p)
