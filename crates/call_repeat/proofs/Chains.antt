@@ -30,7 +30,7 @@ use Rattle.curve.specs.Record.{recordOf}
 use Rattle.record_divisor.specs.declared.DivisorRead.{DivisorRead}
 use Rattle.record_divisor.specs.declared.DivisorRead.the-variants.{Taken, Refused}
 use Rattle.record_divisor.specs.Read.{DivisorIs}
-use Rattle.alike.proofs.Compared.{same-u}
+use Rattle.divisor_repeat.proofs.alike.Compared.{same-u}
 use Rattle.call_answer.proofs.Turns.{read-taken}
 use Rattle.call_repeat.specs.Chains.{chainOf, Whole, Excludes}
 use Rattle.call_repeat.specs.Rows.{taken-or, pairAt, SameAs, SameIn, Row, Rows}

@@ -25,7 +25,7 @@ use Rattle.divisor.specs.Divisors.{us, elements, pair}
 use Rattle.divisor.proofs.Laws.{neutral-held, neutral-is, length-elements}
 use Rattle.curve.specs.declared.Curve.{Curve}
 use Rattle.curve.specs.Curves.{above, lows, curveOf, Shaped, Sound, Holds, Divided}
-use Rattle.rests.specs.Turns.{K, AllZero, Leaves}
+use Rattle.curve.specs.division.Turns.{K, AllZero, Leaves}
 use Rattle.curve.specs.Rests.{Rests}
 
 pub neutral-holds : (c : Curve) → Good (c .m) → Holds c Neutral

@@ -15,7 +15,7 @@ use Rattle.divisor.specs.declared.Cubic.{Cubic}
 use Rattle.divisor.specs.Divisors.{elements, pair}
 use Rattle.divisor.specs.declared.Duo.{Duo}
 use Rattle.divisor.specs.declared.Trio.{Trio}
-use Rattle.rests.specs.Turns.{K, AllKept, two, three}
+use Rattle.curve.specs.division.Turns.{K, AllKept, two, three}
 use Rattle.curve.specs.declared.Curve.{Curve}
 use Rattle.curve.specs.Curves.{above, Sound}
 use Rattle.curve.specs.Rests.{Rests}

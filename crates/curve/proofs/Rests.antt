@@ -15,8 +15,8 @@ use Rattle.divisor.specs.declared.Linear.{Linear}
 use Rattle.divisor.specs.declared.Quadratic.{Quadratic}
 use Rattle.divisor.specs.Divisors.{elements, pair}
 use Rattle.divisor.specs.declared.Duo.{Duo}
-use Rattle.rests.specs.Turns.{K, two, Leaves, Turned}
-use Rattle.rests.proofs.Turned.{Less, Twice, begun, topped}
+use Rattle.curve.specs.division.Turns.{K, two, Leaves, Turned}
+use Rattle.curve.proofs.division.Turned.{Less, Twice, begun, topped}
 use Rattle.curve.specs.declared.Curve.{Curve}
 use Rattle.curve.specs.Curves.{above, curveOf, Sound}
 use Rattle.curve.specs.Rests.{TopOne, TopTwo, Rests}

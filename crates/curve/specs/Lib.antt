@@ -1,3 +1,5 @@
 pub mod Curves
 pub mod Record
 pub mod Rests
+pub mod division
+pub mod polynomials

@@ -11,7 +11,7 @@ use Rattle.divisor.specs.declared.Linear.{Linear}
 use Rattle.divisor.specs.declared.Quadratic.{Quadratic}
 use Rattle.divisor.specs.Divisors.{elements, pair}
 use Rattle.divisor.specs.declared.Duo.{Duo}
-use Rattle.rests.specs.Turns.{K, two, Leaves}
+use Rattle.curve.specs.division.Turns.{K, two, Leaves}
 use Rattle.curve.specs.declared.Curve.{Curve}
 use Rattle.curve.specs.Curves.{above, curveOf}
 

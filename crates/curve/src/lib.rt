@@ -6,7 +6,7 @@ ghost use Prim.Native.Nat.{_≤_};
 ghost use Rattle.field.specs.Primes.{Decides};
 ghost use Rattle.divisor.specs.Divisors.{Held, weightOf};
 ghost use Rattle.curve.specs.Curves.{Sound, Divided};
-ghost use Rattle.rests.specs.Turns.{two, three};
+ghost use Rattle.curve.specs.division.Turns.{two, three};
 ghost use Rattle.curve.specs.Rests.{TopOne, TopTwo, Rests};
 use divisor::Cubic;
 use divisor::Divisor;
@@ -16,6 +16,9 @@ use divisor::Quadratic;
 use divisor::Trio;
 use field::Modulus;
 use field::Residue;
+
+pub mod division;
+pub mod polynomials;
 
 // f without its leading 1. In genus 2 there is no f5 and no f6: they are zero, and not looked at.
 pub struct Curve {
@@ -41,8 +44,8 @@ fn top_one(c: Curve, d: Linear) -> Residue
     if g == 2 {
         return a;
     }
-    let b = rests::turn_one(a, c.f6, d, m);
-    rests::turn_one(b, c.f5, d, m)
+    let b = division::turn_one(a, c.f6, d, m);
+    division::turn_one(b, c.f5, d, m)
 }
 
 // The same from f4 on.
@@ -59,8 +62,8 @@ fn top_two(c: Curve, d: Quadratic) -> Duo
     }
     let f6 = c.f6;
     let a = Duo { c0: f6, c1: o };
-    let b = rests::turn_two(a, c.f5, d, m);
-    rests::turn_two(b, c.f4, d, m)
+    let b = division::turn_two(a, c.f5, d, m);
+    division::turn_two(b, c.f4, d, m)
 }
 
 // What f - v * v leaves when it is divided by u, for each weight.
@@ -71,12 +74,12 @@ fn rest_one(c: Curve, d: Linear) -> Residue
     let m = c.m;
     let v0 = d.v0;
     let a = top_one(c, d);
-    let a4 = rests::turn_one(a, c.f4, d, m);
-    let a3 = rests::turn_one(a4, c.f3, d, m);
-    let a2 = rests::turn_one(a3, c.f2, d, m);
-    let a1 = rests::turn_one(a2, c.f1, d, m);
-    let h0 = rests::less(c.f0, v0, v0, m);
-    rests::turn_one(a1, h0, d, m)
+    let a4 = division::turn_one(a, c.f4, d, m);
+    let a3 = division::turn_one(a4, c.f3, d, m);
+    let a2 = division::turn_one(a3, c.f2, d, m);
+    let a1 = division::turn_one(a2, c.f1, d, m);
+    let h0 = division::less(c.f0, v0, v0, m);
+    division::turn_one(a1, h0, d, m)
 }
 
 fn turns_two(c: Curve, d: Quadratic) -> Duo
@@ -87,13 +90,13 @@ fn turns_two(c: Curve, d: Quadratic) -> Duo
     let v0 = d.v0;
     let v1 = d.v1;
     let a = top_two(c, d);
-    let a3 = rests::turn_two(a, c.f3, d, m);
-    let h2 = rests::less(c.f2, v1, v1, m);
-    let a2 = rests::turn_two(a3, h2, d, m);
-    let h1 = rests::less(c.f1, v0.dbl(m), v1, m);
-    let a1 = rests::turn_two(a2, h1, d, m);
-    let h0 = rests::less(c.f0, v0, v0, m);
-    rests::turn_two(a1, h0, d, m)
+    let a3 = division::turn_two(a, c.f3, d, m);
+    let h2 = division::less(c.f2, v1, v1, m);
+    let a2 = division::turn_two(a3, h2, d, m);
+    let h1 = division::less(c.f1, v0.dbl(m), v1, m);
+    let a1 = division::turn_two(a2, h1, d, m);
+    let h0 = division::less(c.f0, v0, v0, m);
+    division::turn_two(a1, h0, d, m)
 }
 
 // In genus 2 by the quotient, whose coefficients are q2, q1 and q0 below its leading 1: two products stand under one reduction.
@@ -174,9 +177,9 @@ impl Curve {
         let m = self.m;
         match d {
             Divisor::Neutral => true,
-            Divisor::One(x) => rests::is_none(rest_one(self, x), m),
-            Divisor::Two(x) => rests::is_none_two(rest_two(self, x), m),
-            Divisor::Three(x) => rests::is_none_three(rest_three(self, x), m),
+            Divisor::One(x) => division::is_none(rest_one(self, x), m),
+            Divisor::Two(x) => division::is_none_two(rest_two(self, x), m),
+            Divisor::Three(x) => division::is_none_three(rest_three(self, x), m),
         }
     }
 }

@@ -26,7 +26,7 @@ use Rattle.divisor.specs.declared.Linear.{Linear}
 use Rattle.divisor.specs.declared.Quadratic.{Quadratic}
 use Rattle.divisor.specs.Divisors.{weightOf, pair, Held}
 use Rattle.divisor.proofs.Laws.{weight-is, weight-is-v}
-use Rattle.alike.proofs.Compared.{decides-as, same-u}
+use Rattle.divisor_repeat.proofs.alike.Compared.{decides-as, same-u}
 use Rattle.divisor_repeat.specs.Padded.{padded, Pads}
 
 -- ---- pairs with zeros behind

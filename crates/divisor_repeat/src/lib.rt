@@ -11,6 +11,8 @@ use divisor::Quadratic;
 use field::Modulus;
 use field::Residue;
 
+pub mod alike;
+
 // With zeros behind its coefficients, so that all weights are compared as one.
 fn pad_one(d: Linear) -> Cubic
     ensures { λ r. ⌜ Pads 2 (One d) (Three r) ⌝ }

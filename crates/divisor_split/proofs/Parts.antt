@@ -30,8 +30,8 @@ use Rattle.divisor.specs.declared.Linear.{Linear}
 use Rattle.divisor.specs.declared.Quadratic.{Quadratic}
 use Rattle.divisor.specs.declared.Cubic.{Cubic}
 use Rattle.divisor.specs.Divisors.{us, vs, elements, pair, Held}
-use Rattle.rests.specs.Turns.{Leaves}
-use Rattle.rests.proofs.Turned.{Less, turned-one, turned-two, begun}
+use Rattle.curve.specs.division.Turns.{Leaves}
+use Rattle.curve.proofs.division.Turned.{Less, turned-one, turned-two, begun}
 use Rattle.field_root.specs.Squares.{Splits}
 use Rattle.poly_root.specs.Roots.{LargestRoot}
 use Rattle.divisor_split.specs.Splits.{PartAt, ToDivide, RestAt, PartsOf}

@@ -24,7 +24,7 @@ fn point_of_two(d: Quadratic, y: Residue, m: Modulus) -> Linear
     ensures { λ r. ⌜ PartAt m (Divisor.Two d) (el m y) (Divisor.One r) ⌝ }
 {
     let u0 = y.neg(m).settle(m);
-    let v0 = rests::less(d.v0, d.v1, u0, m).settle(m);
+    let v0 = curve::division::less(d.v0, d.v1, u0, m).settle(m);
     Linear { u0: u0, v0: v0 }
 }
 
@@ -33,8 +33,8 @@ fn point_of_three(d: Cubic, y: Residue, m: Modulus) -> Linear
     ensures { λ r. ⌜ PartAt m (Divisor.Three d) (el m y) (Divisor.One r) ⌝ }
 {
     let u0 = y.neg(m).settle(m);
-    let w = rests::less(d.v1, d.v2, u0, m);
-    let v0 = rests::less(d.v0, w, u0, m).settle(m);
+    let w = curve::division::less(d.v1, d.v2, u0, m);
+    let v0 = curve::division::less(d.v0, w, u0, m).settle(m);
     Linear { u0: u0, v0: v0 }
 }
 
@@ -45,8 +45,8 @@ fn rest_of_three(d: Cubic, y: Residue, m: Modulus) -> Quadratic
 {
     let u1 = d.u2.add(y, m).settle(m);
     let u0 = y.mul(u1, m).add(d.u1, m).settle(m);
-    let v1 = rests::less(d.v1, d.v2, u1, m).settle(m);
-    let v0 = rests::less(d.v0, d.v2, u0, m).settle(m);
+    let v1 = curve::division::less(d.v1, d.v2, u1, m).settle(m);
+    let v0 = curve::division::less(d.v0, d.v2, u0, m).settle(m);
     Quadratic {
         u0: u0,
         u1: u1,

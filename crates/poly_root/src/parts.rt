@@ -13,8 +13,8 @@ fn common(u: MonicCubic, r: Rest, m: Modulus) -> Poly
     requires { ⌜ ToShare m u r ⌝ }
     ensures { λ g. ⌜ Shared m u r g ⌝ }
 {
-    let a = few::parabola(u.u0, u.u1, u.u2, m).put(3, Residue::one(m), m);
-    let b = few::parabola(r.c0.settle(m), r.c1.settle(m), r.c2.settle(m), m);
+    let a = curve::polynomials::parabola(u.u0, u.u1, u.u2, m).put(3, Residue::one(m), m);
+    let b = curve::polynomials::parabola(r.c0.settle(m), r.c1.settle(m), r.c2.settle(m), m);
     poly_euclid::gcd(a, b, m)
 }
 

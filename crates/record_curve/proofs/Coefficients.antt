@@ -25,7 +25,7 @@ use Rattle.curve.specs.declared.Curve.{Curve}
 use Rattle.curve.specs.Curves.{Shaped, Sound, lows, curveOf}
 use Rattle.curve.specs.Record.{recordOf}
 use Rattle.curve.proofs.Above.{up-to}
-use Rattle.few.specs.Few.{OfCurve}
+use Rattle.curve.specs.polynomials.Few.{OfCurve}
 use Rattle.record_bytes.proofs.Rows.{words-append, below-append}
 use Rattle.record_numbers.specs.declared.Residues.{Residues}
 use Rattle.record_numbers.specs.Read.{ResiduesIs}

@@ -31,7 +31,7 @@ fn read_coefficients(s: &[u8], g: usize, m: Modulus) -> CurveRead
     };
     if low.below {
         if high.below {
-            if poly_euclid::is_square_free(few::f_of(c), m) {
+            if poly_euclid::is_square_free(curve::polynomials::f_of(c), m) {
                 return CurveRead::Taken(c);
             }
             return CurveRead::Refused(refusals::REPEATED_FACTOR);

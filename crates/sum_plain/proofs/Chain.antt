@@ -16,7 +16,7 @@ use Rattle.composing.specs.declared.Mumford.{Mumford}
 use Rattle.sum_cantor.specs.Reducing.{Steps, none, more}
 use Rattle.curve.specs.declared.Curve.{Curve}
 use Rattle.curve.specs.Curves.{curveOf}
-use Rattle.few.specs.Few.{OfCurve}
+use Rattle.curve.specs.polynomials.Few.{OfCurve}
 
 -- ---- in any ring
 module _ (R : CRing) where

@@ -23,7 +23,7 @@ use Rattle.sum_cantor.specs.Reducing.{ToSum, Summed}
 use Rattle.curve.specs.declared.Curve.{Curve}
 use Rattle.curve.specs.Curves.{curveOf, Sound, Holds, Gives}
 use Rattle.curve.proofs.Contains.{accepted}
-use Rattle.few.specs.Few.{OfCurve}
+use Rattle.curve.specs.polynomials.Few.{OfCurve}
 use Rattle.sum_plain.specs.Pairs.{AsPair, FromPair}
 use Rattle.sum_plain.proofs.Chain.{composed-by, composed-at, reached-by}
 

@@ -23,7 +23,7 @@ fn of_linear(d: Linear, m: Modulus) -> Mumford
 {
     let u0 = d.u0;
     let v0 = d.v0;
-    let u = few::line(u0, Residue::one(m), m);
+    let u = curve::polynomials::line(u0, Residue::one(m), m);
     let v = Poly::constant(v0, m);
     Mumford { u: u, v: v }
 }
@@ -36,8 +36,8 @@ fn of_quadratic(d: Quadratic, m: Modulus) -> Mumford
     let u1 = d.u1;
     let v0 = d.v0;
     let v1 = d.v1;
-    let u = few::parabola(u0, u1, Residue::one(m), m);
-    let v = few::line(v0, v1, m);
+    let u = curve::polynomials::parabola(u0, u1, Residue::one(m), m);
+    let v = curve::polynomials::line(v0, v1, m);
     Mumford { u: u, v: v }
 }
 
@@ -51,8 +51,8 @@ fn of_cubic(d: Cubic, m: Modulus) -> Mumford
     let v0 = d.v0;
     let v1 = d.v1;
     let v2 = d.v2;
-    let u = few::parabola(u0, u1, u2, m).put(3, Residue::one(m), m);
-    let v = few::parabola(v0, v1, v2, m);
+    let u = curve::polynomials::parabola(u0, u1, u2, m).put(3, Residue::one(m), m);
+    let v = curve::polynomials::parabola(v0, v1, v2, m);
     Mumford { u: u, v: v }
 }
 
@@ -123,7 +123,7 @@ pub fn sum(c: Curve, a: Divisor, b: Divisor) -> Divisor
     ensures { λ r. ⌜ Gives c r (sum (curveOf c) (pair (c .m) a) (pair (c .m) b)) ⌝ }
 {
     let m = c.m;
-    let f = few::f_of(c);
+    let f = curve::polynomials::f_of(c);
     let x = pair_of(a, m);
     let y = pair_of(b, m);
     divisor_of(sum_cantor::sum(f, c.g, x, y, m), m)
@@ -134,7 +134,7 @@ pub fn double(c: Curve, a: Divisor) -> Divisor
     ensures { λ r. ⌜ Gives c r (double (curveOf c) (pair (c .m) a)) ⌝ }
 {
     let m = c.m;
-    let f = few::f_of(c);
+    let f = curve::polynomials::f_of(c);
     let x = pair_of(a, m);
     divisor_of(sum_cantor::double(f, c.g, x, m), m)
 }

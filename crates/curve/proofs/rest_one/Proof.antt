@@ -5,9 +5,9 @@ use Rattle.curve.proofs.rest_one.Statement.{statement}
 use Rattle.curve.proofs.rest_one.Tie as tie
 use Rattle.curve.proofs.rest_one.Reads as reads
 use Rattle.curve.proofs.rest_one.Lts as lts
-use Rattle.rests.proofs.less.Reads as less-reads
+use Rattle.curve.proofs.division.less.Reads as less-reads
 use Rattle.curve.proofs.top_one.Reads as top-one-reads
-use Rattle.rests.proofs.turn_one.Reads as turn-one-reads
+use Rattle.curve.proofs.division.turn_one.Reads as turn-one-reads
 
 -- src/lib.rt:158:9
 top-one-requires : tie.Need-top-one-requires

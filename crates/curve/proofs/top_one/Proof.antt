@@ -5,7 +5,7 @@ use Rattle.curve.proofs.top_one.Statement.{statement}
 use Rattle.curve.proofs.top_one.Tie as tie
 use Rattle.curve.proofs.top_one.Reads as reads
 use Rattle.curve.proofs.top_one.Lts as lts
-use Rattle.rests.proofs.turn_one.Reads as turn-one-reads
+use Rattle.curve.proofs.division.turn_one.Reads as turn-one-reads
 use Rattle.field.proofs.Residue.one.Reads as one-reads
 
 -- src/lib.rt:125:9

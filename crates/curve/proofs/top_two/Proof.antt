@@ -5,7 +5,7 @@ use Rattle.curve.proofs.top_two.Statement.{statement}
 use Rattle.curve.proofs.top_two.Tie as tie
 use Rattle.curve.proofs.top_two.Reads as reads
 use Rattle.curve.proofs.top_two.Lts as lts
-use Rattle.rests.proofs.turn_two.Reads as turn-two-reads
+use Rattle.curve.proofs.division.turn_two.Reads as turn-two-reads
 use Rattle.field.proofs.Residue.one.Reads as one-reads
 
 -- src/lib.rt:140:9

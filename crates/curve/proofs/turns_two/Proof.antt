@@ -5,9 +5,9 @@ use Rattle.curve.proofs.turns_two.Statement.{statement}
 use Rattle.curve.proofs.turns_two.Tie as tie
 use Rattle.curve.proofs.turns_two.Reads as reads
 use Rattle.curve.proofs.turns_two.Lts as lts
-use Rattle.rests.proofs.less.Reads as less-reads
+use Rattle.curve.proofs.division.less.Reads as less-reads
 use Rattle.curve.proofs.top_two.Reads as top-two-reads
-use Rattle.rests.proofs.turn_two.Reads as turn-two-reads
+use Rattle.curve.proofs.division.turn_two.Reads as turn-two-reads
 use Rattle.field.proofs.Residue.dbl.Reads as dbl-reads
 
 -- src/lib.rt:174:9

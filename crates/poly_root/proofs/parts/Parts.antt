@@ -26,7 +26,7 @@ use Rattle.poly.specs.Contracts.{IsMonic}
 use Rattle.poly.proofs.Lengths.{none-is}
 use Rattle.poly.proofs.Division.{monic-of}
 use Rattle.poly_euclid.specs.Euclid.{Gcd}
-use Rattle.few.proofs.Few.{next-term}
+use Rattle.curve.proofs.polynomials.Few.{next-term}
 use Rattle.rules.proofs.roots.Factor.{same-degree}
 use Rattle.rules.proofs.roots.Value.{ev, ev-hom, linear, root-iff, root-factor, root-rest}
 use Rattle.poly_root.specs.declared.rests.MonicCubic.{MonicCubic}

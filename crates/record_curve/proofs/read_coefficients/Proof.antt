@@ -6,7 +6,7 @@ use Rattle.record_curve.proofs.read_coefficients.Tie as tie
 use Rattle.record_curve.proofs.read_coefficients.Reads as reads
 use Rattle.record_curve.proofs.read_coefficients.Lts as lts
 use Rattle.poly_euclid.proofs.is_square_free.Reads as is-square-free-reads
-use Rattle.few.proofs.f_of.Reads as f-of-reads
+use Rattle.curve.proofs.polynomials.f_of.Reads as f-of-reads
 use Rattle.record_numbers.proofs.residues_at.Reads as residues-at-reads
 
 -- src/lib.rt:20:9

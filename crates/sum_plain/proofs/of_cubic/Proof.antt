@@ -1,7 +1,7 @@
 use Rattle.field.specs.Residues.{el}
 use Rattle.divisor.specs.declared.Divisor.the-variants.{Three}
 use Rattle.divisor.specs.Divisors.{us, elements}
-use Rattle.few.proofs.Few.{next-term}
+use Rattle.curve.proofs.polynomials.Few.{next-term}
 use Rattle.sum_plain.proofs.Convert.{pair-is}
 use borrow.Author.Needs.{needs}
 use Rattle.sum_plain.proofs.of_cubic.Statement.{statement}

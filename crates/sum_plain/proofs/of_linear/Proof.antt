@@ -1,5 +1,5 @@
 use Rattle.divisor.specs.declared.Divisor.the-variants.{One}
-use Rattle.few.proofs.Few.{one-term}
+use Rattle.curve.proofs.polynomials.Few.{one-term}
 use Rattle.sum_plain.proofs.Convert.{pair-is}
 use borrow.Author.Needs.{needs}
 use Rattle.sum_plain.proofs.of_linear.Statement.{statement}

@@ -11,9 +11,9 @@ use Rattle.curve.proofs.Curve.contains.Statement.{statement}
 use Rattle.curve.proofs.Curve.contains.Tie as tie
 use Rattle.curve.proofs.Curve.contains.Reads as reads
 use Rattle.curve.proofs.Curve.contains.Lts as lts
-use Rattle.rests.proofs.is_none.Reads as is-none-reads
-use Rattle.rests.proofs.is_none_three.Reads as is-none-three-reads
-use Rattle.rests.proofs.is_none_two.Reads as is-none-two-reads
+use Rattle.curve.proofs.division.is_none.Reads as is-none-reads
+use Rattle.curve.proofs.division.is_none_three.Reads as is-none-three-reads
+use Rattle.curve.proofs.division.is_none_two.Reads as is-none-two-reads
 use Rattle.curve.proofs.rest_one.Reads as rest-one-reads
 use Rattle.curve.proofs.rest_three.Reads as rest-three-reads
 use Rattle.curve.proofs.rest_two.Reads as rest-two-reads
