@@ -21,8 +21,8 @@ use Rattle.divisor.specs.Divisors.{weightOf, pair, Held}
 use Rattle.divisor.proofs.Laws.{weight-is}
 use Rattle.curve.specs.declared.Curve.{Curve}
 use Rattle.curve.specs.Record.{recordOf}
-use Rattle.folds.specs.declared.Multiple.{Multiple}
-use Rattle.folds.specs.Contracts.{Multiplied as IsMultiple}
+use Rattle.multiple_affine.specs.declared.promise.Multiple.{Multiple}
+use Rattle.multiple_affine.specs.promise.Contracts.{Multiplied as IsMultiple}
 use Rattle.call_answer.specs.declared.Made.{Made}
 use Rattle.call_answer.specs.declared.Made.the-variants.{Done as DoneMade, Refused as RefusedMade}
 use Rattle.call_answer.specs.declared.CurveAndDivisor.the-variants.{Taken, Refused}

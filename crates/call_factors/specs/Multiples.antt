@@ -14,8 +14,8 @@ use Rattle.divisor.specs.declared.Divisor.{Divisor}
 use Rattle.divisor.specs.Divisors.{pair}
 use Rattle.curve.specs.declared.Curve.{Curve}
 use Rattle.curve.specs.Record.{recordOf}
-use Rattle.folds.specs.declared.Multiple.{Multiple}
-use Rattle.folds.specs.Contracts.{ToMultiply}
+use Rattle.multiple_affine.specs.declared.promise.Multiple.{Multiple}
+use Rattle.multiple_affine.specs.promise.Contracts.{ToMultiply}
 use Rattle.call_answer.specs.declared.Answer.{Answer}
 use Rattle.call_answer.specs.declared.Made.{Made}
 use Rattle.call_answer.specs.declared.CurveAndDivisor.{CurveAndDivisor}

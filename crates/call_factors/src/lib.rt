@@ -4,7 +4,7 @@ ghost use Rattle.call_factors.specs.Multiples.{FactorsIs, MultipleMade, 
 use call_answer::CurveAndDivisor;
 use call_answer::Made;
 use field::Modulus;
-use folds::Multiple;
+use multiple_affine::promise::Multiple;
 
 // Number 12 where the scalar is too long, then 19 where the divisor is neutral.
 pub fn read_factors(curve: &[u8], a: &[u8], scalar: &[u8]) -> CurveAndDivisor

@@ -1,14 +1,14 @@
 // The calls inside Rattle that multiply, by either engine. Their promise is the equation with the call's rule.
 ghost use Rattle.rules.specs.Bytes.{number};
 ghost use Rattle.rules.specs.Calls.{multiply-call};
-ghost use Rattle.folds.specs.Contracts.{ToMultiply, Multiplied};
+ghost use Rattle.multiple_affine.specs.promise.Contracts.{ToMultiply, Multiplied};
 ghost use Rattle.call_factors.specs.Multiples.{MultipleIs, MultipleMade, multiplying};
 use call_answer::Answer;
 use call_answer::CurveAndDivisor;
 use call_answer::Made;
 use curve::Curve;
 use divisor::Divisor;
-use folds::Multiple;
+use multiple_affine::promise::Multiple;
 
 // The engine that takes fewer instructions (docs/BENCH.md): in genus 2 the one without inversions.
 pub fn quicker(c: Curve, a: Divisor, s: &[u8]) -> Multiple

@@ -22,11 +22,11 @@ use Rattle.curve.specs.Record.{recordOf}
 use Rattle.field_witness.specs.Witness.{AllSome, MadeOf}
 use Rattle.field_witness.proofs.Listed.{none-stop, none-turn, none-end}
 use Rattle.field_witness.proofs.Accepted.{parts, comes-to}
-use Rattle.folds.specs.declared.Multiple.{Multiple}
-use Rattle.folds.specs.Contracts.{Multiplied}
-use Rattle.big_numbers.specs.declared.Divided.{Divided}
-use Rattle.big_numbers.specs.Numbers.{DividedBy}
-use Rattle.big_numbers.proofs.Stripped.{row, row-all, row-next, row-end}
+use Rattle.multiple_affine.specs.declared.promise.Multiple.{Multiple}
+use Rattle.multiple_affine.specs.promise.Contracts.{Multiplied}
+use Rattle.scalar.specs.declared.numbers.Divided.{Divided}
+use Rattle.scalar.specs.numbers.Numbers.{DividedBy}
+use Rattle.scalar.proofs.numbers.Stripped.{row, row-all, row-next, row-end}
 use Rattle.call_factors.proofs.Multiples.{weightless, weighty}
 use Rattle.record_curve_prime.proofs.Prime.{all-small, small-all}
 use Rattle.call_order.specs.Folds.{fold?, Folded, NoneBelow}

@@ -5,7 +5,7 @@ ghost use Rattle.rules.proofs.calls.Orders.{Tested};
 ghost use Rattle.field.specs.Primes.{Decides};
 ghost use Rattle.divisor.specs.Divisors.{pair};
 ghost use Rattle.curve.specs.Record.{recordOf};
-ghost use Rattle.folds.specs.Contracts.{ToMultiply};
+ghost use Rattle.multiple_affine.specs.promise.Contracts.{ToMultiply};
 ghost use Rattle.call_answer.specs.Answers.{CheckIs};
 ghost use Rattle.call_order.specs.Folds.{Folding, ToLook, Folded, NoneBelow};
 use call_answer::Answer;
@@ -33,7 +33,7 @@ fn is_none_below(c: Curve, a: Divisor, n: [u8; MOST_SCALAR], primes: &[u8]) -> b
     let mut j: usize = 0;
     while j < k {
         let q = record_bytes::read32(primes, 4 * j);
-        let d = big_numbers::divide(n, q);
+        let d = scalar::numbers::divide(n, q);
         let m = d.quotient;
         if is_neutral_fold(c, a, m) {
             return false;
@@ -54,12 +54,12 @@ fn is_order(c: Curve, a: Divisor, order: &[u8], primes: &[u8]) -> bool
     if refusals::MOST_LISTED < primes.len() {
         return false;
     }
-    let n = big_numbers::from_bytes(order);
-    let low = big_numbers::capped(n);
+    let n = scalar::numbers::from_bytes(order);
+    let low = scalar::numbers::capped(n);
     if low == 0 {
         return false;
     }
-    if !big_numbers::is_made_of(n, primes) {
+    if !scalar::numbers::is_made_of(n, primes) {
         return false;
     }
     if !is_neutral_fold(c, a, n) {

@@ -25,8 +25,8 @@ use Rattle.divisor.specs.Divisors.{pair}
 use Rattle.curve.specs.declared.Curve.{Curve}
 use Rattle.curve.specs.Curves.{curveOf, Sound, Holds, Gives}
 use Rattle.curve.specs.Record.{recordOf}
-use Rattle.openings.specs.declared.Opening.{Opening}
-use Rattle.openings.specs.Openings.{Opened, Under, Undoes}
+use Rattle.sum_lanes.specs.declared.openings.Opening.{Opening}
+use Rattle.sum_lanes.specs.openings.Openings.{Opened, Under, Undoes}
 use Rattle.sum_lanes.specs.declared.Waiting.{Waiting}
 use Rattle.sum_lanes.specs.Lanes.{Waits, together, lane, waiter}
 use Rattle.sum_lanes.proofs.Side.{ends as undone}

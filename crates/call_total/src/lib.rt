@@ -40,8 +40,8 @@ pub fn total_on(c: Curve, s: &[u8]) -> TotalRead
         }
         match record_divisor::divisor_at(c, false, s, a) {
             DivisorRead::Taken(d) => {
-                let o = openings::open(c, sums[n], d);
-                let f = openings::under(o, m);
+                let o = sum_lanes::openings::open(c, sums[n], d);
+                let f = sum_lanes::openings::under(o, m);
                 let w = Waiting {
                     d: d,
                     o: o,
@@ -66,7 +66,7 @@ pub fn total_on(c: Curve, s: &[u8]) -> TotalRead
                 let d = w.d;
                 let o = w.o;
                 let i = back.mul(w.before, m);
-                sums[n] = openings::close(c, sums[n], d, o, i);
+                sums[n] = sum_lanes::openings::close(c, sums[n], d, o, i);
                 back = back.mul(w.f, m);
             }
             all = one;

@@ -8,8 +8,8 @@ use Rattle.curve.specs.declared.Curve.{Curve}
 use Rattle.curve.specs.Curves.{Gives}
 use Rattle.algebra.proofs.zmod.PrimeField.{modulo}
 use Rattle.rules.specs.Pair.{Pair}
-use Rattle.folds.specs.declared.Multiple.{Multiple}
-use Rattle.folds.specs.Contracts.{Multiplied}
+use Rattle.multiple_affine.specs.declared.promise.Multiple.{Multiple}
+use Rattle.multiple_affine.specs.promise.Contracts.{Multiplied}
 use Rattle.multiple.specs.declared.Run.{Run}
 use Rattle.multiple_tuple_step.specs.States.{GivesIt}
 use Rattle.multiple.specs.Runs.{Reaches, GoneOn}

@@ -14,7 +14,7 @@ use Rattle.curve.specs.Curves.{curveOf, Sound, Holds, Gives}
 use Rattle.scalar.specs.declared.Digits.{Digits}
 use Rattle.scalar.specs.Recoded.{upper, Recoded}
 use Rattle.scalar.proofs.Upper.{upper-more, upper-all, upper-first}
-use Rattle.folds.proofs.Folds.{itself}
+use Rattle.multiple_affine.proofs.promise.Folds.{itself}
 use Rattle.multiple_tuple_step.specs.declared.State.{State}
 use Rattle.multiple.specs.declared.Run.{Run}
 use Rattle.multiple_tuple_step.specs.States.{Means, Some, GivesIt, Stepped}

@@ -9,7 +9,7 @@ use Rattle.divisor.specs.declared.Divisor.the-variants.{Two}
 use Rattle.divisor.specs.declared.Quadratic.{Quadratic}
 use Rattle.divisor.specs.Divisors.{pair}
 use Rattle.curve.specs.declared.Curve.{Curve}
-use Rattle.folds.specs.Contracts.{Stepped as StepsPlain}
+use Rattle.multiple_affine.specs.promise.Contracts.{Stepped as StepsPlain}
 use Rattle.multiple_tuple.specs.declared.Tuple.{Tuple}
 use Rattle.multiple_tuple_step.specs.declared.State.{State}
 use Rattle.multiple_tuple_step.specs.declared.State.the-variants.{Free}

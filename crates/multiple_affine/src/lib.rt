@@ -1,10 +1,12 @@
 // The n-fold multiple of a divisor by left-to-right double-and-add over the scalar's signed digits, with the counts of its steps.
 ghost use Rattle.rules.specs.Bytes.{number};
-ghost use Rattle.folds.specs.Contracts.{ToStep, Stepped, ToMultiply, Multiplied};
+ghost use Rattle.multiple_affine.specs.promise.Contracts.{ToStep, Stepped, ToMultiply, Multiplied};
+use crate::promise::Multiple;
 use curve::Curve;
 use divisor::Divisor;
-use folds::Multiple;
 use scalar::Digits;
+
+pub mod promise;
 
 // r doubled, and a or its opposite b added as the digit says.
 pub fn step(c: Curve, a: Divisor, b: Divisor, r: Divisor, digit: u8) -> Divisor

@@ -8,7 +8,7 @@ use Rattle.algebra.proofs.ring.Quote.{ring, quote, by}
 use Rattle.algebra.proofs.ring.Field.{no-zero-divisors}
 use Rattle.algebra.proofs.zmod.PrimeField.{modulo}
 use Rattle.rules.specs.Pair.{Pair}
-use Rattle.tuples.proofs.Affine2.{answer}
+use Rattle.sum_formulas.proofs.tuples.Affine2.{answer}
 use Rattle.field.specs.declared.Modulus.{Modulus}
 use Rattle.field.specs.declared.Residue.{Residue}
 use Rattle.field.specs.Residues.{el, Good}

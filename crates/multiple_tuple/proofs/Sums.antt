@@ -9,9 +9,9 @@ use Rattle.rules.specs.Pair.{Pair, Valid}
 use Rattle.rules.specs.Sum.{sum}
 use Rattle.rules.proofs.cantor.Accepted.{Accepted}
 use Rattle.rules.proofs.cantor.Group.{sum-comm}
-use Rattle.tuples.proofs.Affine2.{r2, top2, low2, rd, topd, lowd, n0, n1, m0, m1, pair-of, affine-add2, affine-double2}
-use Rattle.tuples.proofs.Projective2.{differ-1, differ-2, both-1, last-z}
-use Rattle.tuples.proofs.Shares2.{Shares, shares}
+use Rattle.sum_formulas.proofs.tuples.Affine2.{r2, top2, low2, rd, topd, lowd, n0, n1, m0, m1, pair-of, affine-add2, affine-double2}
+use Rattle.sum_formulas.proofs.tuples.Projective2.{differ-1, differ-2, both-1, last-z}
+use Rattle.sum_formulas.proofs.tuples.Shares2.{Shares, shares}
 use Rattle.field.specs.declared.Modulus.{Modulus}
 use Rattle.field.specs.declared.Residue.{Residue}
 use Rattle.field.specs.Residues.{el, Good}

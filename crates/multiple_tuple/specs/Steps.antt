@@ -3,7 +3,7 @@ use mathlib.Core.Path.{_≡_}
 use mathlib.Core.Logic.{_≢_}
 use Rattle.algebra.proofs.ring.CRing.{CRing}
 use Rattle.algebra.proofs.zmod.PrimeField.{modulo}
-use Rattle.tuples.proofs.Affine2.{r2, top2, low2, rd, topd, lowd, k0, k1, n0, n1, m0, m1}
+use Rattle.sum_formulas.proofs.tuples.Affine2.{r2, top2, low2, rd, topd, lowd, k0, k1, n0, n1, m0, m1}
 use Rattle.field.specs.declared.Modulus.{Modulus}
 use Rattle.field.specs.declared.Residue.{Residue}
 use Rattle.field.specs.Residues.{el, Kept, Settled}

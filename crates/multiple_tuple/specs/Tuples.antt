@@ -9,7 +9,7 @@ use Rattle.rules.specs.Curve.{Curve}
 use Rattle.rules.specs.Pair.{Pair, Valid}
 use Rattle.rules.specs.Sum.{sum}
 use Rattle.rules.proofs.cantor.Accepted.{Accepted}
-use Rattle.tuples.proofs.Affine2.{r2, top2, low2, rd, topd, lowd, n0, n1, m0, m1}
+use Rattle.sum_formulas.proofs.tuples.Affine2.{r2, top2, low2, rd, topd, lowd, n0, n1, m0, m1}
 use Rattle.field.specs.declared.Modulus.{Modulus}
 use Rattle.field.specs.declared.Residue.{Residue}
 use Rattle.field.specs.Residues.{el, Good, Kept, Settled}

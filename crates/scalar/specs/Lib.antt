@@ -1,1 +1,2 @@
 pub mod Recoded
+pub mod numbers

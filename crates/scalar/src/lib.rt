@@ -6,6 +6,8 @@ ghost use Rattle.rules.specs.Bytes.{number};
 ghost use Rattle.rules.proofs.calls.Bytes.{AreBytes};
 ghost use Rattle.scalar.specs.Recoded.{Risen, Counted, Recoded};
 
+pub mod numbers;
+
 // The digits -1 and 0 as they are kept, one above; 1 is the other one.
 pub const MINUS: u8 = 0;
 

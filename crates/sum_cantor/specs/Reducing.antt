@@ -6,10 +6,10 @@ use Rattle.algebra.proofs.poly.Term.{C}
 use Rattle.field.specs.declared.Modulus.{Modulus}
 use Rattle.poly.specs.declared.Poly.{Poly}
 use Rattle.poly.specs.Polys.{K, P, pol, Ok}
-use Rattle.composing.specs.declared.Mumford.{Mumford}
-use Rattle.composing.specs.Pairs.{OnCurvePair}
-use Rattle.composing.specs.Cofactors.{ToCofactor}
-use Rattle.composing.specs.Composing.{Composed}
+use Rattle.sum_cantor.specs.declared.composing.Mumford.{Mumford}
+use Rattle.sum_cantor.specs.composing.Pairs.{OnCurvePair}
+use Rattle.sum_cantor.specs.composing.Cofactors.{ToCofactor}
+use Rattle.sum_cantor.specs.composing.Composing.{Composed}
 
 module _ (m : Modulus) where
   open CRing (P m) using (El as Po, add as _+P_, mul as _*P_, neg as negP)

@@ -1,8 +1,11 @@
 // Cantor's reduction, and the sum: composed, then reduced. Contracts promise the equations that the theorem of `rules` takes.
 ghost use Rattle.sum_cantor.specs.Reducing.{ToStep, Stepped, ToReduce, Reduced, ToSum, Summed};
-use composing::Mumford;
+use crate::composing::Mumford;
 use field::Modulus;
 use poly::Poly;
+
+pub mod common;
+pub mod composing;
 
 // One step of the reduction: u becomes (f - v * v) / u made monic, v becomes -v modulo the new u.
 fn step(f: Poly, x: Mumford, m: Modulus) -> Mumford

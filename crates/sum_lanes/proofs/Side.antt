@@ -25,7 +25,7 @@ use Rattle.divisor.specs.Divisors.{pair}
 use Rattle.curve.specs.declared.Curve.{Curve}
 use Rattle.curve.specs.Curves.{curveOf, Sound, Holds, Gives}
 use Rattle.curve.proofs.Contains.{accepted, neutral-holds}
-use Rattle.openings.specs.Openings.{Under, Undoes}
+use Rattle.sum_lanes.specs.openings.Openings.{Under, Undoes}
 use Rattle.sum_lanes.specs.declared.Waiting.{Waiting}
 use Rattle.sum_lanes.specs.Lanes.{Backs, together, AllHold}
 

@@ -16,8 +16,8 @@ use Rattle.divisor.specs.declared.Divisor.the-variants.{Neutral}
 use Rattle.divisor.specs.Divisors.{pair}
 use Rattle.curve.specs.declared.Curve.{Curve}
 use Rattle.curve.specs.Curves.{curveOf, Holds}
-use Rattle.openings.specs.declared.Opening.the-variants.{Special}
-use Rattle.openings.specs.Openings.{Opened, Under}
+use Rattle.sum_lanes.specs.declared.openings.Opening.the-variants.{Special}
+use Rattle.sum_lanes.specs.openings.Openings.{Opened, Under}
 use Rattle.sum_lanes.specs.declared.Waiting.{Waiting}
 
 -- opened from its lane and itself

@@ -3,10 +3,12 @@
 ghost use Prim.Native.Nat.{_≤_};
 ghost use Rattle.curve.specs.Curves.{Sound, Gives};
 ghost use Rattle.sum_lanes.specs.Lanes.{together, AllHold, lane, waiter};
+use crate::openings::Opening;
 use curve::Curve;
 use divisor::Divisor;
 use field::Residue;
-use openings::Opening;
+
+pub mod openings;
 
 pub const LANES: usize = 16;
 

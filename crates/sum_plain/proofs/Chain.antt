@@ -12,7 +12,7 @@ use Rattle.rules.proofs.IsSum.{Reached, here, turn}
 use Rattle.field.specs.declared.Modulus.{Modulus}
 use Rattle.poly.specs.declared.Poly.{Poly}
 use Rattle.poly.specs.Polys.{K, P, pol}
-use Rattle.composing.specs.declared.Mumford.{Mumford}
+use Rattle.sum_cantor.specs.declared.composing.Mumford.{Mumford}
 use Rattle.sum_cantor.specs.Reducing.{Steps, none, more}
 use Rattle.curve.specs.declared.Curve.{Curve}
 use Rattle.curve.specs.Curves.{curveOf}

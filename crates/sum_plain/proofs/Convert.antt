@@ -22,7 +22,7 @@ use Rattle.divisor.specs.declared.Divisor.{Divisor}
 use Rattle.divisor.specs.declared.Divisor.the-variants.{Neutral}
 use Rattle.divisor.specs.Divisors.{weightOf, us, vs, elements, AllSettled}
 use Rattle.divisor.proofs.Laws.{length-us, length-vs, length-elements}
-use Rattle.composing.specs.declared.Mumford.{Mumford}
+use Rattle.sum_cantor.specs.declared.composing.Mumford.{Mumford}
 use Rattle.sum_plain.specs.Pairs.{AsPair, ToDivisor, FromPair}
 
 module _ (m : Modulus) where

@@ -17,8 +17,8 @@ use Rattle.poly.specs.Polys.{P, pol}
 use Rattle.divisor.specs.declared.Divisor.{Divisor}
 use Rattle.divisor.specs.Divisors.{pair}
 use Rattle.divisor.proofs.Laws.{weight-is, weight-is-v}
-use Rattle.composing.specs.declared.Mumford.{Mumford}
-use Rattle.composing.specs.Pairs.{OnCurvePair}
+use Rattle.sum_cantor.specs.declared.composing.Mumford.{Mumford}
+use Rattle.sum_cantor.specs.composing.Pairs.{OnCurvePair}
 use Rattle.sum_cantor.specs.Reducing.{ToSum, Summed}
 use Rattle.curve.specs.declared.Curve.{Curve}
 use Rattle.curve.specs.Curves.{curveOf, Sound, Holds, Gives}

@@ -8,7 +8,7 @@ use Rattle.poly.specs.Polys.{pol, Ok}
 use Rattle.poly.specs.Contracts.{IsMonic}
 use Rattle.divisor.specs.declared.Divisor.{Divisor}
 use Rattle.divisor.specs.Divisors.{weightOf, us, vs, elements, Held}
-use Rattle.composing.specs.declared.Mumford.{Mumford}
+use Rattle.sum_cantor.specs.declared.composing.Mumford.{Mumford}
 
 -- x has the polynomials u and v of d
 pub record AsPair (m : Modulus) (d : Divisor) (x : Mumford) : Type 0 where

@@ -7,7 +7,6 @@ ghost use Rattle.poly.specs.Polys.{pol, Ok};
 ghost use Rattle.divisor.specs.Divisors.{pair, Held};
 ghost use Rattle.curve.specs.Curves.{curveOf, Sound, Holds, Gives};
 ghost use Rattle.sum_plain.specs.Pairs.{AsPair, ToDivisor, FromPair};
-use composing::Mumford;
 use curve::Curve;
 use divisor::Cubic;
 use divisor::Divisor;
@@ -16,6 +15,7 @@ use divisor::Quadratic;
 use field::Modulus;
 use field::Residue;
 use poly::Poly;
+use sum_cantor::composing::Mumford;
 
 fn of_linear(d: Linear, m: Modulus) -> Mumford
     requires { ⌜ Held m (Divisor.One d) ⌝ }

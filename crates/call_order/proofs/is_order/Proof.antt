@@ -5,7 +5,7 @@ use Rattle.rules.specs.Calls.{listed}
 use Rattle.field.proofs.Decide.{decided-yes, decided-no}
 use Rattle.field_witness.specs.Witness.{MadeOf}
 use Rattle.field_witness.proofs.Listed.{all-some}
-use Rattle.big_numbers.proofs.Stripped.{capped-none, capped-some}
+use Rattle.scalar.proofs.numbers.Stripped.{capped-none, capped-some}
 use Rattle.call_order.proofs.Folds.{not-zero, not-made, not-here, decided}
 use borrow.Author.Needs.{needs}
 use Rattle.call_order.proofs.is_order.Statement.{statement}

@@ -18,9 +18,9 @@ use Rattle.jacobian.proofs.sum.Reads as sum-reads
 use Rattle.sum_lanes.proofs.lane_total.Reads as lane-total-reads
 use Rattle.sum_lanes.proofs.nobody.Reads as nobody-reads
 use Rattle.sum_lanes.proofs.waiting_total.Reads as waiting-total-reads
-use Rattle.openings.proofs.close.Reads as close-reads
-use Rattle.openings.proofs.open.Reads as open-reads
-use Rattle.openings.proofs.under.Reads as under-reads
+use Rattle.sum_lanes.proofs.openings.close.Reads as close-reads
+use Rattle.sum_lanes.proofs.openings.open.Reads as open-reads
+use Rattle.sum_lanes.proofs.openings.under.Reads as under-reads
 use Rattle.record_divisor.proofs.divisor_at.Reads as divisor-at-reads
 
 abbrev Inv-loop2 : tie.InvT-loop2

@@ -1,8 +1,8 @@
 use native.Mathlib.Omega.{arith}
 use borrow.Author.Needs.{needs}
 use Rattle.rules.specs.Bytes.{number}
-use Rattle.folds.proofs.Counted.{doublings-are, additions-are, no-nonzeros, some-nonzero}
-use Rattle.folds.proofs.Multiplying.{nothing}
+use Rattle.multiple_affine.proofs.promise.Counted.{doublings-are, additions-are, no-nonzeros, some-nonzero}
+use Rattle.multiple_affine.proofs.promise.Multiplying.{nothing}
 use Rattle.multiple.proofs.Running.{Running, begin, turn, some-at, end}
 use Rattle.multiple.proofs.by_tuples.Statement.{statement}
 use Rattle.multiple.proofs.by_tuples.Tie as tie

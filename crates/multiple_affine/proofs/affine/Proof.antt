@@ -1,8 +1,8 @@
 use native.Mathlib.Omega.{arith}
 use borrow.Author.Needs.{needs}
 use Rattle.rules.specs.Bytes.{number}
-use Rattle.folds.proofs.Counted.{doublings-are, additions-are, no-nonzeros, some-nonzero}
-use Rattle.folds.proofs.Multiplying.{Multiplying, begin, turn, end, nothing}
+use Rattle.multiple_affine.proofs.promise.Counted.{doublings-are, additions-are, no-nonzeros, some-nonzero}
+use Rattle.multiple_affine.proofs.promise.Multiplying.{Multiplying, begin, turn, end, nothing}
 use Rattle.multiple_affine.proofs.affine.Statement.{statement}
 use Rattle.multiple_affine.proofs.affine.Tie as tie
 

@@ -1,6 +1,6 @@
 use mathlib.Core.Path.{ap}
 use Rattle.rules.specs.signed.Digits.{minus, null, plus}
-use Rattle.folds.proofs.Folds.{with-one, taken, itself-given}
+use Rattle.multiple_affine.proofs.promise.Folds.{with-one, taken, itself-given}
 use Rattle.scalar.proofs.Upper.{plus-else}
 use Rattle.scalar.specs.Recoded.{digit}
 use borrow.Author.Needs.{needs}

@@ -2,7 +2,7 @@ use mathlib.Core.Path.{_≡_, refl, ap, ap₂, _∙_}
 use Rattle.algebra.proofs.zmod.Zmod.{zmod}
 use Rattle.field.specs.Residues.{el}
 use Rattle.field.proofs.Laws.{settled-kept}
-use Rattle.tuples.proofs.Projective2.{differ-1, differ-2, chord-r, chord-s1, chord-s0}
+use Rattle.sum_formulas.proofs.tuples.Projective2.{differ-1, differ-2, chord-r, chord-s1, chord-s0}
 use Rattle.multiple_tuple.proofs.chord.Statement.{statement}
 use Rattle.multiple_tuple.proofs.chord.Tie as tie
 

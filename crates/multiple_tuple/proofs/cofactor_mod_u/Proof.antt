@@ -2,7 +2,7 @@ use mathlib.Core.Path.{_≡_, refl, ap, ap₂, _∙_}
 use Rattle.algebra.proofs.zmod.Zmod.{zmod}
 use Rattle.field.specs.Residues.{el}
 use Rattle.field.proofs.Laws.{settled-kept}
-use Rattle.tuples.proofs.Projective2.{right-d, right-k1, right-k0}
+use Rattle.sum_formulas.proofs.tuples.Projective2.{right-d, right-k1, right-k0}
 use Rattle.multiple_tuple.proofs.cofactor_mod_u.Statement.{statement}
 use Rattle.multiple_tuple.proofs.cofactor_mod_u.Tie as tie
 

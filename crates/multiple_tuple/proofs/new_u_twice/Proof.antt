@@ -2,7 +2,7 @@ use mathlib.Core.Path.{_≡_, refl, ap, ap₂, _∙_}
 use Rattle.algebra.proofs.zmod.Zmod.{zmod}
 use Rattle.field.specs.Residues.{el}
 use Rattle.field.proofs.Laws.{settled-kept}
-use Rattle.tuples.proofs.Projective2.{twice-u0, twice-u1}
+use Rattle.sum_formulas.proofs.tuples.Projective2.{twice-u0, twice-u1}
 use Rattle.multiple_tuple.proofs.new_u_twice.Statement.{statement}
 use Rattle.multiple_tuple.proofs.new_u_twice.Tie as tie
 

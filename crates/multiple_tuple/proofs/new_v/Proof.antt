@@ -2,7 +2,7 @@ use mathlib.Core.Path.{_≡_, refl, ap, ap₂, _∙_}
 use Rattle.algebra.proofs.zmod.Zmod.{zmod}
 use Rattle.field.specs.Residues.{el}
 use Rattle.field.proofs.Laws.{settled-kept}
-use Rattle.tuples.proofs.Projective2.{line-3, line-0, line-1, over-z, new-v0, new-v1}
+use Rattle.sum_formulas.proofs.tuples.Projective2.{line-3, line-0, line-1, over-z, new-v0, new-v1}
 use Rattle.multiple_tuple.proofs.new_v.Statement.{statement}
 use Rattle.multiple_tuple.proofs.new_v.Tie as tie
 

@@ -2,7 +2,7 @@ use mathlib.Core.Path.{_≡_, refl, ap, ap₂, _∙_}
 use Rattle.algebra.proofs.zmod.Zmod.{zmod}
 use Rattle.field.specs.Residues.{el}
 use Rattle.field.proofs.Laws.{settled-kept}
-use Rattle.tuples.proofs.Projective2.{widen-is}
+use Rattle.sum_formulas.proofs.tuples.Projective2.{widen-is}
 use Rattle.multiple_tuple.proofs.widen.Statement.{statement}
 use Rattle.multiple_tuple.proofs.widen.Tie as tie
 
