@@ -45,11 +45,11 @@ pub fn deliver(made: Made, out: &mut [u8]) -> Answer
 {
     match made {
         Made::Done(d, m, i, j) => {
-            let n = record_write::record_length(d);
+            let n = record_numbers::write::record_length(d);
             if out.len() < n {
                 return Answer::Refused(refusals::OUTPUT_LENGTH, 0);
             }
-            record_write::write_divisor(d, m, out);
+            record_numbers::write::write_divisor(d, m, out);
             Answer::Done(n as u64, i, j)
         }
         Made::Refused(n, k) => Answer::Refused(n, k),

@@ -15,13 +15,13 @@ fn write_both(a: Divisor, b: Divisor, m: Modulus, out: &mut [u8]) -> Answer
     requires { ⌜ Held m a × Held m b ⌝ }
     ensures { λ r. ⌜ Wrote r (now (out .exit)) (write (now (out .entry)) (divisor-bytes (m .p) (pair m a) ++ divisor-bytes (m .p) (pair m b))) ⌝ }
 {
-    let n = record_write::record_length(a);
-    let l = n + record_write::record_length(b);
+    let n = record_numbers::write::record_length(a);
+    let l = n + record_numbers::write::record_length(b);
     if out.len() < l {
         return Answer::Refused(refusals::OUTPUT_LENGTH, 0);
     }
-    record_write::write_divisor(a, m, out);
-    record_write::write_divisor(b, m, &mut out[n..]);
+    record_numbers::write::write_divisor(a, m, out);
+    record_numbers::write::write_divisor(b, m, &mut out[n..]);
     Answer::Done(l as u64, 0, 0)
 }
 

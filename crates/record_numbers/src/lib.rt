@@ -7,6 +7,8 @@ use field::Modulus;
 use field::Residue;
 use field::ResidueRead;
 
+pub mod write;
+
 // Up to six numbers, all below p where `below` says so, and zeros behind them.
 pub struct Residues {
     pub below: bool,

@@ -11,7 +11,7 @@ use Rattle.rules.specs.Records.{choose, numbers}
 use Rattle.field.specs.declared.Modulus.{Modulus}
 use Rattle.divisor.specs.declared.Divisor.{Divisor}
 use Rattle.divisor.specs.Divisors.{weightOf, pair}
-use Rattle.record_write.specs.Write.{NumbersOf}
+use Rattle.record_numbers.specs.write.Write.{NumbersOf}
 use Rattle.divisor.proofs.Laws.{weight-le, weight-is, weight-is-v}
 use Rattle.digits.specs.Digits.{letters, hex}
 use Rattle.text_lines.specs.Lines.{two, places, spaced, record-line, total-line}

@@ -73,7 +73,7 @@ pub fn put_record(out: &mut [u8; 256], a: usize, t: Divisor, m: Modulus) -> usiz
     ensures { λ r. ⌜ PutAt (now (out .entry)) a (record-line (m .p) (pair m t)) (now (out .exit)) r ⌝ }
 {
     let w = t.weight();
-    let x = record_write::numbers_of(t, m);
+    let x = record_numbers::write::numbers_of(t, m);
     let c = digits::put_hex(out, a, 2, w as u64);
     let d = put_numbers(out, c, x, 2 * w);
     digits::put_byte(out, d, b'\n')

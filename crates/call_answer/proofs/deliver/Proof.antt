@@ -7,8 +7,8 @@ use Rattle.call_answer.proofs.deliver.Statement.{statement}
 use Rattle.call_answer.proofs.deliver.Tie as tie
 use Rattle.call_answer.proofs.deliver.Reads as reads
 use Rattle.call_answer.proofs.deliver.Lts as lts
-use Rattle.record_write.proofs.record_length.Reads as record-length-reads
-use Rattle.record_write.proofs.write_divisor.Reads as write-divisor-reads
+use Rattle.record_numbers.proofs.write.record_length.Reads as record-length-reads
+use Rattle.record_numbers.proofs.write.write_divisor.Reads as write-divisor-reads
 
 -- src/lib.rt:47:20
 enum-known-made : tie.Need-enum-known-made

@@ -16,7 +16,7 @@ use Rattle.digits.proofs.put_byte.Reads as put-byte-reads
 use Rattle.digits.proofs.put_hex.Reads as put-hex-reads
 use Rattle.divisor.proofs.Divisor.weight.Reads as weight-reads
 use Rattle.text_lines.proofs.put_numbers.Reads as put-numbers-reads
-use Rattle.record_write.proofs.numbers_of.Reads as numbers-of-reads
+use Rattle.record_numbers.proofs.write.numbers_of.Reads as numbers-of-reads
 
 -- src/lib.rt:75:9
 weight-requires : tie.Need-weight-requires

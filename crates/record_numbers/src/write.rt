@@ -5,7 +5,7 @@ ghost use lib.ListN.{length};
 ghost use lib.Seq.{sets};
 ghost use Rattle.rules.specs.Records.{divisor-bytes};
 ghost use Rattle.divisor.specs.Divisors.{pair, Held, weightOf};
-ghost use Rattle.record_write.specs.Write.{NumbersOf};
+ghost use Rattle.record_numbers.specs.write.Write.{NumbersOf};
 use divisor::Divisor;
 use field::Modulus;
 

@@ -14,7 +14,7 @@ use Rattle.divisor.specs.declared.Divisor.{Divisor}
 use Rattle.divisor.specs.Divisors.{weightOf, us, vs, elements, pair, RowOf}
 use Rattle.divisor.proofs.Laws.{weight-le}
 use Rattle.divisor.proofs.Rows.{row-long}
-use Rattle.record_write.specs.Write.{NumbersOf}
+use Rattle.record_numbers.specs.write.Write.{NumbersOf}
 
 -- ---- a divisor's row, one residue after the other
 module _ (m : Modulus) where

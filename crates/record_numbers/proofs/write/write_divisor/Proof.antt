@@ -5,10 +5,10 @@ use lib.ListN.{length, length-set}
 use Rattle.divisor.specs.Divisors.{weightOf}
 use Rattle.divisor.proofs.Laws.{weight-le}
 use lib.Seq.{length-sets}
-use Rattle.record_write.proofs.Written.{divisor-written}
+use Rattle.record_numbers.proofs.write.Written.{divisor-written}
 use borrow.Author.Needs.{needs}
-use Rattle.record_write.proofs.write_divisor.Statement.{statement}
-use Rattle.record_write.proofs.write_divisor.Tie as tie
+use Rattle.record_numbers.proofs.write.write_divisor.Statement.{statement}
+use Rattle.record_numbers.proofs.write.write_divisor.Tie as tie
 
 weight-requires : tie.Need-weight-requires
 weight-requires c κs = search needs

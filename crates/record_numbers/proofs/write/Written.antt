@@ -12,7 +12,7 @@ use Rattle.field.specs.declared.Modulus.{Modulus}
 use Rattle.divisor.specs.declared.Divisor.{Divisor}
 use Rattle.divisor.specs.Divisors.{weightOf, pair}
 use Rattle.divisor.proofs.Laws.{weight-le, weight-is}
-use Rattle.record_write.specs.Write.{NumbersOf}
+use Rattle.record_numbers.specs.write.Write.{NumbersOf}
 use Rattle.record_bytes.proofs.Writing.{all-append}
 
 pub divisor-written : (m : Modulus) (d : Divisor) (out x : List ℕ) (w : ℕ) → w ≡ weightOf d → NumbersOf m d x

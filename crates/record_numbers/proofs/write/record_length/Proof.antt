@@ -1,8 +1,8 @@
 use native.Mathlib.Omega.{arith}
 use Rattle.divisor.proofs.Laws.{weight-le}
 use borrow.Author.Needs.{needs}
-use Rattle.record_write.proofs.record_length.Statement.{statement}
-use Rattle.record_write.proofs.record_length.Tie as tie
+use Rattle.record_numbers.proofs.write.record_length.Statement.{statement}
+use Rattle.record_numbers.proofs.write.record_length.Tie as tie
 
 weight-requires : tie.Need-weight-requires
 weight-requires c κs = search needs

@@ -3,9 +3,9 @@ use native.Mathlib.Omega.{arith}
 use borrow.Author.Needs.{needs}
 use Rattle.divisor.proofs.Laws.{weight-le}
 use Rattle.divisor.proofs.Rows.{row-settled}
-use Rattle.record_write.proofs.Numbers.{Row, row-begin, row-turn, row-end}
-use Rattle.record_write.proofs.numbers_of.Statement.{statement}
-use Rattle.record_write.proofs.numbers_of.Tie as tie
+use Rattle.record_numbers.proofs.write.Numbers.{Row, row-begin, row-turn, row-end}
+use Rattle.record_numbers.proofs.write.numbers_of.Statement.{statement}
+use Rattle.record_numbers.proofs.write.numbers_of.Tie as tie
 
 abbrev Inv-loop : tie.InvT-loop
 Inv-loop m n r x₀ k₀ x k = Row m n r x k
