@@ -5,6 +5,8 @@ use curve::Curve;
 use record_curve::CurveRead;
 use record_divisor::DivisorRead;
 
+pub mod repeat;
+
 // How many records a batch has, or a number and its place.
 pub enum BatchRead {
     Taken(u64),

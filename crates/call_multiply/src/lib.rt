@@ -2,13 +2,16 @@
 ghost use Rattle.rules.specs.Bytes.{number};
 ghost use Rattle.rules.specs.Calls.{multiply-call};
 ghost use Rattle.multiple_affine.specs.promise.Contracts.{ToMultiply, Multiplied};
-ghost use Rattle.call_factors.specs.Multiples.{MultipleIs, MultipleMade, multiplying};
+ghost use Rattle.call_multiply.specs.factors.Multiples.{MultipleIs, MultipleMade, multiplying};
 use call_answer::Answer;
 use call_answer::CurveAndDivisor;
 use call_answer::Made;
 use curve::Curve;
 use divisor::Divisor;
 use multiple_affine::promise::Multiple;
+
+pub mod factors;
+pub mod order;
 
 // The engine that takes fewer instructions (docs/BENCH.md): in genus 2 the one without inversions.
 pub fn quicker(c: Curve, a: Divisor, s: &[u8]) -> Multiple
@@ -25,8 +28,8 @@ pub fn quicker(c: Curve, a: Divisor, s: &[u8]) -> Multiple
 fn multiplied(curve: &[u8], a: &[u8], scalar: &[u8]) -> Made
     ensures { λ r. ⌜ MultipleMade r (multiplying (now (curve .entry)) (now (a .entry)) (now (scalar .entry))) ⌝ }
 {
-    match call_factors::read_factors(curve, a, scalar) {
-        CurveAndDivisor::Taken(c, d) => call_factors::key_of(quicker(c, d, scalar), c.m),
+    match factors::read_factors(curve, a, scalar) {
+        CurveAndDivisor::Taken(c, d) => factors::key_of(quicker(c, d, scalar), c.m),
         CurveAndDivisor::Refused(n, k) => Made::Refused(n, k),
     }
 }
@@ -41,11 +44,8 @@ pub fn multiply(curve: &[u8], a: &[u8], scalar: &[u8], out: &mut [u8]) -> Answer
 fn multiplied_free(curve: &[u8], a: &[u8], scalar: &[u8]) -> Made
     ensures { λ r. ⌜ MultipleMade r (multiplying (now (curve .entry)) (now (a .entry)) (now (scalar .entry))) ⌝ }
 {
-    match call_factors::read_factors(curve, a, scalar) {
-        CurveAndDivisor::Taken(c, d) => call_factors::key_of(
-            multiple::by_tuples(c, d, scalar),
-            c.m,
-        ),
+    match factors::read_factors(curve, a, scalar) {
+        CurveAndDivisor::Taken(c, d) => factors::key_of(multiple::by_tuples(c, d, scalar), c.m),
         CurveAndDivisor::Refused(n, k) => Made::Refused(n, k),
     }
 }

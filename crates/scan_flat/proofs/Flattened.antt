@@ -10,7 +10,7 @@ use Rattle.divisor.specs.declared.Divisor.the-variants.{Neutral, One, Two, Thre
 use Rattle.divisor.specs.declared.Linear.{Linear}
 use Rattle.divisor.specs.declared.Quadratic.{Quadratic}
 use Rattle.divisor.specs.declared.Cubic.{Cubic}
-use Rattle.scan_resume.specs.Resumes.{totalOf}
+use Rattle.scan_total.specs.resume.Resumes.{totalOf}
 use Rattle.scan_total.specs.declared.Running.{Running}
 use Rattle.scan_flat.specs.declared.YubiRunning.{YubiRunning}
 use Rattle.scan_flat.specs.Flats.{flat-running, first-u, first-v, unflat, Flattened, Cut}

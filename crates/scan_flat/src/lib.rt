@@ -2,7 +2,7 @@
 // what is unused.
 ghost use mathlib.Core.Path.{_≡_};
 ghost use Rattle.field.specs.Primes.{Decides};
-ghost use Rattle.scan_resume.specs.Resumes.{totalOf};
+ghost use Rattle.scan_total.specs.resume.Resumes.{totalOf};
 ghost use Rattle.scan_flat.specs.Flats.{flat-running, Flattened, Cut};
 use divisor::Cubic;
 use divisor::Divisor;

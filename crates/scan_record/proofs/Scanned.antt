@@ -26,8 +26,8 @@ use Rattle.record_divisor.specs.declared.DivisorRead.the-variants.{Taken as Rea
 use Rattle.curve.specs.Record.{recordOf}
 use Rattle.record_curve.specs.Read.{CurveIs}
 use Rattle.record_divisor.specs.Read.{DivisorIs}
-use Rattle.scan_resume.specs.declared.TakenUp.the-variants.{Taken as TakenAgain, Refused as NotTakenUp}
-use Rattle.scan_resume.specs.Resumes.{ResumeIs}
+use Rattle.scan_total.specs.declared.resume.TakenUp.the-variants.{Taken as TakenAgain, Refused as NotTakenUp}
+use Rattle.scan_total.specs.resume.Resumes.{ResumeIs}
 use Rattle.scan_record.specs.declared.ScanAnswer.{ScanAnswer}
 use Rattle.scan_record.specs.declared.ScanAnswer.the-variants.{Done, Refused}
 use Rattle.scan_record.specs.Scans.{runningOf, scannedOf}

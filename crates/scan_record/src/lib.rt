@@ -7,8 +7,11 @@ ghost use Rattle.scan_record.specs.Scans.{runningOf, scannedOf};
 use curve::Curve;
 use record_curve::CurveRead;
 use record_divisor::DivisorRead;
-use scan_resume::TakenUp;
 use scan_total::Running;
+use scan_total::resume::TakenUp;
+
+pub mod flat;
+pub mod lent;
 
 pub enum ScanAnswer {
     Done(Running),
@@ -22,7 +25,7 @@ pub fn scan_on(c: Curve, t: Running, record: &[u8]) -> ScanAnswer
 {
     let before = t.divisor;
     let count = t.count;
-    match scan_resume::take_up(c, before, count) {
+    match scan_total::resume::take_up(c, before, count) {
         TakenUp::Taken(total) => {
             if record.len() < 4 {
                 return ScanAnswer::Refused(refusals::DIVISOR_LENGTH, 1);

@@ -3,6 +3,9 @@ ghost use Rattle.scan_total.specs.Totals.{Fresh, ToTake, Taken};
 use curve::Curve;
 use divisor::Divisor;
 
+pub mod numbers;
+pub mod resume;
+
 pub struct Running {
     pub divisor: Divisor,
     pub count: u64,
@@ -29,7 +32,7 @@ impl Running {
         let pole = self.pole;
         let m = c.m;
         Running {
-            divisor: scan_numbers::numbers_of(jacobian::sum(c, total, d), m),
+            divisor: numbers::numbers_of(jacobian::sum(c, total, d), m),
             count: n + 1,
             pole: pole,
         }

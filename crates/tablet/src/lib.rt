@@ -115,7 +115,7 @@ pub extern "C" fn yubi_check_order(
 ) -> YubiAnswer
     ensures { λ r. ⌜ r ≡ flat (check-order (now (curve .entry)) (now (divisor .entry)) (now (order .entry)) (now (primes .entry))) ⌝ }
 {
-    tablet_answers::flatten(call_order::check_order(curve, divisor, order, primes))
+    tablet_answers::flatten(call_multiply::order::check_order(curve, divisor, order, primes))
 }
 
 #[no_mangle]
@@ -138,7 +138,7 @@ pub extern "C" fn yubi_total_batch(curve: &[u8], batch: &[u8], out: &mut [u8]) -
 pub extern "C" fn yubi_first_repeat(curve: &[u8], batch: &[u8]) -> YubiRepeat
     ensures { λ r. ⌜ r ≡ flat-repeat (repeat-call (now (curve .entry)) (now (batch .entry))) ⌝ }
 {
-    tablet_answers::flatten_repeat(call_repeat::first_repeat(curve, batch))
+    tablet_answers::flatten_repeat(call_batch::repeat::first_repeat(curve, batch))
 }
 
 #[no_mangle]
@@ -152,7 +152,7 @@ pub extern "C" fn yubi_fresh_total(pole: u32) -> YubiRunning
 pub extern "C" fn yubi_scan(total: YubiRunning, curve: &[u8], record: &[u8]) -> YubiScanned
     ensures { λ r. ⌜ FlatScanIs total (now (curve .entry)) (now («record» .entry)) r ⌝ }
 {
-    scan_flat_value::scan(total, curve, record)
+    scan_record::flat::scan(total, curve, record)
 }
 
 // What a scan left of the total, beside its answer.
@@ -165,7 +165,7 @@ struct LentStep {
 fn lent_by_value(total: YubiRunning, curve: &[u8], record: &[u8]) -> LentStep
     ensures { λ r. ⌜ FlatScanIs total (now (curve .entry)) (now («record» .entry)) (scanned-as (r .answer .number) (r .answer .place) (r .answer .length) (r .total)) ⌝ }
 {
-    let s = scan_flat_value::scan(total, curve, record);
+    let s = scan_record::flat::scan(total, curve, record);
     let after = s.total;
     LentStep {
         total: after,

@@ -45,7 +45,7 @@ fn scan_inside(text: &mut [u8], curve: &[u8], record: &[u8], total: &[u8]) -> us
     if !answer_lines::is_fresh(t) {
         return scan(text, curve, record, total);
     }
-    let s = scan_lent::scan_own(Running::fresh(t.pole), curve, record);
+    let s = scan_record::lent::scan_own(Running::fresh(t.pole), curve, record);
     answer_lines::scanned(
         text,
         YubiScanned {

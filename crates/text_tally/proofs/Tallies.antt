@@ -28,8 +28,8 @@ use Rattle.call_answer.specs.Answers.{Values, valuesOf}
 use Rattle.call_total.specs.declared.TotalRead.{TotalRead}
 use Rattle.call_total.specs.declared.TotalRead.the-variants.{Done, Refused}
 use Rattle.call_total.specs.Totals.{TotalIs}
-use Rattle.call_repeat.specs.Repeats.{repeat-on, RepeatIs}
-use Rattle.call_repeat.proofs.Calls.{on-curve as repeat-called}
+use Rattle.call_batch.specs.repeat.Repeats.{repeat-on, RepeatIs}
+use Rattle.call_batch.proofs.repeat.Calls.{on-curve as repeat-called}
 use Rattle.text_tally.specs.declared.FileRead.{FileRead}
 use Rattle.text_tally.specs.declared.FileRead.the-variants.{Holds, Unreadable}
 use Rattle.text_lines.specs.declared.Places.{Places}

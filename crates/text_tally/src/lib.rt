@@ -50,7 +50,7 @@ pub fn tally(curve: &[u8], batch: &[u8], out: &mut [u8; 256]) -> usize
     match record_curve::read_curve(curve) {
         CurveRead::Taken(c) => match call_total::total_on(c, batch) {
             TotalRead::Done(t, n) => {
-                let r = places_of(call_repeat::repeat_on(c, batch));
+                let r = places_of(call_batch::repeat::repeat_on(c, batch));
                 let a = text_lines::put_count(out, 0, n);
                 let b = text_lines::put_repeat(out, a, r);
                 text_lines::put_total(out, b, t, c.m)

@@ -1,6 +1,6 @@
 use mathlib.Core.Path.{subst}
-use Rattle.call_factors.specs.Multiples.{FactorsIs}
-use Rattle.call_factors.proofs.Multiples.{multiply-refused, multiply-made}
+use Rattle.call_multiply.specs.factors.Multiples.{FactorsIs}
+use Rattle.call_multiply.proofs.factors.Multiples.{multiply-refused, multiply-made}
 use borrow.Author.Needs.{needs}
 use Rattle.call_multiply.proofs.multiplied_free.Statement.{statement}
 use Rattle.call_multiply.proofs.multiplied_free.Tie as tie

@@ -1,6 +1,6 @@
 use mathlib.Core.Path.{subst}
 use native.Mathlib.Omega.{arith}
-use Rattle.scan_resume.specs.Resumes.{ResumeIs}
+use Rattle.scan_total.specs.resume.Resumes.{ResumeIs}
 use Rattle.scan_record.proofs.Scanned.{not-resumed, no-pole, other-pole, not-read, to-take, scanned}
 use borrow.Author.Needs.{needs}
 use Rattle.scan_record.proofs.scan_on.Statement.{statement}
