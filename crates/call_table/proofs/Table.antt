@@ -36,8 +36,8 @@ use Rattle.rules.proofs.exactly.Divisors.{Some, Weight, Length, Residues, OnCur
 use Rattle.rules.proofs.exactly.Batches.{GoesOn, batch-14, batch-taken}
 use Rattle.rules.proofs.exactly.Scans.{scan-8, scan-20}
 use Rattle.text_lines.specs.Lines.{refused-line}
-use Rattle.text_rule.specs.Text.{File, text, census-text}
-use Rattle.text_rule.proofs.FileNumbers.{Readable, Short, text-16, text-17, census-16, census-17}
+use Rattle.text_lines.specs.rule.Text.{File, text, census-text}
+use Rattle.text_lines.proofs.rule.FileNumbers.{Readable, Short, text-16, text-17, census-16, census-17}
 use Rattle.rules.specs.pole.PoleFile.{word16, curve-part, read-file}
 use Rattle.rules.proofs.pole.Misfits.{CutShort}
 use Rattle.rules.proofs.pole.FileNumbers.{PoleMarked, Counted, tail-of, read-21, read-22, read-23}

@@ -5,12 +5,15 @@ use scan_total::Running;
 use tablet_answers::YubiAnswer;
 use tablet_answers::YubiMultiple;
 
+pub mod lent;
+pub mod lines;
+
 fn scan(text: &mut [u8], curve: &[u8], record: &[u8], total: &[u8]) -> usize {
     if total.len() != 68 {
         return 0;
     }
-    let a = tablet::yubi_scan(answer_lines::running(total), curve, record);
-    answer_lines::scanned(text, a)
+    let a = tablet::yubi_scan(lines::running(total), curve, record);
+    lines::scanned(text, a)
 }
 
 // The same scan into a total that is lent. A total of zeros, but for its pole, is the library's own fresh one.
@@ -18,14 +21,14 @@ fn scan_lent(text: &mut [u8], curve: &[u8], record: &[u8], total: &[u8]) -> usiz
     if total.len() != 68 {
         return 0;
     }
-    let mut t = answer_lines::running(total);
-    if answer_lines::is_fresh(t) {
+    let mut t = lines::running(total);
+    if lines::is_fresh(t) {
         t = tablet::yubi_fresh_total(t.pole);
     }
-    let s = lends::scan_own(t, curve, record);
+    let s = lent::scan_own(t, curve, record);
     let a = s.answer;
     let after = s.total;
-    answer_lines::scanned(
+    lines::scanned(
         text,
         YubiScanned {
             number: a.number,
@@ -41,12 +44,12 @@ fn scan_inside(text: &mut [u8], curve: &[u8], record: &[u8], total: &[u8]) -> us
     if total.len() != 68 {
         return 0;
     }
-    let t = answer_lines::running(total);
-    if !answer_lines::is_fresh(t) {
+    let t = lines::running(total);
+    if !lines::is_fresh(t) {
         return scan(text, curve, record, total);
     }
     let s = scan_record::lent::scan_own(Running::fresh(t.pole), curve, record);
-    answer_lines::scanned(
+    lines::scanned(
         text,
         YubiScanned {
             number: s.report.number,
@@ -89,8 +92,8 @@ fn write_file(text: &mut [u8], curve: &[u8], batch: &[u8], out: &mut [u8], pole:
     if pole.len() != 4 {
         return 0;
     }
-    let a = tablet::yubi_write_pole_file(answer_lines::pole(pole), curve, batch, out);
-    answer_lines::written(text, a, out)
+    let a = tablet::yubi_write_pole_file(lines::pole(pole), curve, batch, out);
+    lines::written(text, a, out)
 }
 
 // The frame's line at the front of the text; answers its length, 0 where there is no such operation, a scan's total isn't 68 bytes or a written
@@ -106,29 +109,29 @@ pub fn line(
 ) -> usize {
     match operation {
         0 => test_text::label(text, curve),
-        1 => answer_lines::checked(text, tablet::yubi_check_curve(curve)),
-        2 => answer_lines::checked(text, tablet::yubi_check_divisor(curve, first)),
+        1 => lines::checked(text, tablet::yubi_check_curve(curve)),
+        2 => lines::checked(text, tablet::yubi_check_divisor(curve, first)),
         3..=7 | 16 | 17 => {
             let a = write(operation, curve, first, second, out);
-            answer_lines::written(text, a, out)
+            lines::written(text, a, out)
         }
         8 | 12 => {
             let a = multiply(operation, curve, first, second, out);
-            answer_lines::multiplied(text, a, out)
+            lines::multiplied(text, a, out)
         }
         9 => {
             let a = tablet::yubi_total_batch(curve, first, out);
-            answer_lines::totalled(text, a, out)
+            lines::totalled(text, a, out)
         }
-        10 => answer_lines::repeated(text, tablet::yubi_first_repeat(curve, first)),
+        10 => lines::repeated(text, tablet::yubi_first_repeat(curve, first)),
         11 => scan(text, curve, first, total),
         13 => scan_lent(text, curve, first, total),
         14 => scan_inside(text, curve, first, total),
-        15 => answer_lines::checked(text, tablet::yubi_check_order(curve, first, second, total)),
+        15 => lines::checked(text, tablet::yubi_check_order(curve, first, second, total)),
         18 => write_file(text, curve, first, out, total),
         19 => {
             let a = tablet::yubi_read_pole_file(first, out);
-            answer_lines::pole_read(text, a, out)
+            lines::pole_read(text, a, out)
         }
         _ => 0,
     }

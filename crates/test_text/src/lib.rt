@@ -2,6 +2,8 @@
 // contracts say no more than safety asks.
 ghost use Prim.Native.Nat.{_<_};
 
+pub mod frames;
+
 fn put(text: &mut [u8], at: usize, b: u8) -> usize {
     if at < text.len() {
         text[at] = b;

@@ -4,9 +4,9 @@
 ghost use mathlib.Core.Path.{_≡_};
 ghost use Prim.Native.Nat.{_≤_};
 ghost use lib.ListN.{length, take};
-ghost use Rattle.frames.specs.Frames.{InOrder};
-use frames::Frame;
+ghost use Rattle.test_text.specs.frames.Frames.{InOrder};
 use libc::STDOUT_FILENO;
+use test_text::frames::Frame;
 
 // What each byte of an output holds before a call, and the longest output.
 const GUARD: u8 = 165;
@@ -98,7 +98,7 @@ fn lines(s: &[u8], text: &mut [u8]) -> usize
     let mut at: usize = 0;
     let mut end: usize = 0;
     while at < s.len() {
-        let f = frames::cut(&s[at..]);
+        let f = test_text::frames::cut(&s[at..]);
         let n = f.end;
         if s.len() - at < n {
             return end;

@@ -9,8 +9,8 @@ use divisor::Divisor;
 use divisor_census::Next;
 use field::Modulus;
 use libc::STDOUT_FILENO;
-use text_census::Opened;
 use text_tally::FileRead;
+use text_tally::census::Opened;
 
 // Reads on until the end, a failed read or a full buffer. A read that fails, as of a directory, isn't the end of a file.
 fn read_open(fd: i32, buf: &mut [u8]) -> FileRead
@@ -88,7 +88,7 @@ pub fn print_census(curve: &[u8]) {
     let mut s = [0u8; 65537];
     let f = read(curve, &mut s);
     let mut out = [0u8; 256];
-    match text_census::open(f, &s, &mut out) {
+    match text_tally::census::open(f, &s, &mut out) {
         Opened::Training(c) => {
             print_lines(c);
         }

@@ -11,9 +11,9 @@ use Rattle.rules.specs.Pair.{Pair}
 use Rattle.rules.specs.Lists.{Repeat}
 use Rattle.rules.specs.Records.{choose, numbers}
 use Rattle.rules.proofs.calls.Elements.{length-numbers}
-use Rattle.digits.specs.Digits.{letters, decimal, hex}
+use Rattle.text_lines.specs.digits.Digits.{letters, decimal, hex}
 use Rattle.text_lines.specs.Lines.{two, places, spaced, count-line, repeat-line, record-line, total-line, refused-line}
-use Rattle.digits.proofs.Decimals.{length-hex, Word, decimal-short}
+use Rattle.text_lines.proofs.digits.Decimals.{length-hex, Word, decimal-short}
 
 -- ---- digits
 pub length-spaced : (l : List ℕ) → length (spaced l) ≡ 17 * length l

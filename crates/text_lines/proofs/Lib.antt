@@ -1,3 +1,4 @@
 pub mod Lengths
 pub mod Lines
 pub mod Printing
+pub mod rule

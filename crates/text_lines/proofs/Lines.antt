@@ -13,12 +13,12 @@ use Rattle.divisor.specs.declared.Divisor.{Divisor}
 use Rattle.divisor.specs.Divisors.{weightOf, pair}
 use Rattle.record_numbers.specs.write.Write.{NumbersOf}
 use Rattle.divisor.proofs.Laws.{weight-le, weight-is, weight-is-v}
-use Rattle.digits.specs.Digits.{letters, hex}
+use Rattle.text_lines.specs.digits.Digits.{letters, hex}
 use Rattle.text_lines.specs.Lines.{two, places, spaced, record-line, total-line}
-use Rattle.digits.specs.Put.{PutAt, Room}
-use Rattle.digits.proofs.Decimals.{length-hex}
+use Rattle.text_lines.specs.digits.Put.{PutAt, Room}
+use Rattle.text_lines.proofs.digits.Decimals.{length-hex}
 use Rattle.text_lines.proofs.Lengths.{length-spaced, record-short}
-use Rattle.digits.proofs.Putting.{put-as, put-then, room-as, room-first, room-next}
+use Rattle.text_lines.proofs.digits.Putting.{put-as, put-then, room-as, room-first, room-next}
 
 pub places-none : (i j : ℕ) → i ≡ 0 → places i j ≡ (letters "none")
 unfolding places

@@ -5,7 +5,7 @@ use mathlib.Core.List.{List}
 use native.Mathlib.Omega.{arith}
 use lib.ListN.{length, take, drop}
 use lib.Seq.{length-sets, sets-eq, take-at}
-use Rattle.digits.specs.Put.{PutAt, Room}
+use Rattle.text_lines.specs.digits.Put.{PutAt, Room}
 use Rattle.text_lines.specs.Printed.{Printed}
 
 -- a text from place 0 on

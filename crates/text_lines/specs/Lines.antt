@@ -7,7 +7,7 @@ use Rattle.algebra.proofs.zmod.PrimeField.{modulo}
 use Rattle.rules.specs.Pair.{Pair}
 use Rattle.rules.specs.Records.{choose, numbers}
 use Rattle.rules.specs.Lists.{Repeat}
-use Rattle.digits.specs.Digits.{letters, decimal, hex}
+use Rattle.text_lines.specs.digits.Digits.{letters, decimal, hex}
 
 -- two numbers in decimal, one space between them
 unfoldable pub two : ℕ → ℕ → List ℕ

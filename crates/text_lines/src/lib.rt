@@ -2,11 +2,13 @@
 ghost use Prim.Native.Nat.{_≤_};
 ghost use lib.ListN.{take};
 ghost use Rattle.divisor.specs.Divisors.{pair, Held};
-ghost use Rattle.digits.specs.Put.{PutAt, Room};
+ghost use Rattle.text_lines.specs.digits.Put.{PutAt, Room};
 ghost use Rattle.text_lines.specs.Lines.{count-line, repeat-line, record-line, total-line, refused-line, spaced, two, places};
 ghost use Rattle.text_lines.specs.Printed.{Printed, placesOf};
 use divisor::Divisor;
 use field::Modulus;
+
+pub mod digits;
 
 // The places of the first repeat, 0 and 0 for none.
 pub struct Places {

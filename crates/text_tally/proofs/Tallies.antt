@@ -34,14 +34,14 @@ use Rattle.text_tally.specs.declared.FileRead.{FileRead}
 use Rattle.text_tally.specs.declared.FileRead.the-variants.{Holds, Unreadable}
 use Rattle.text_lines.specs.declared.Places.{Places}
 use Rattle.text_lines.specs.Lines.{count-line, repeat-line, total-line, refused-line}
-use Rattle.text_rule.specs.Text.{holds, with-file, text-of}
-use Rattle.digits.specs.Put.{PutAt, Room}
+use Rattle.text_lines.specs.rule.Text.{holds, with-file, text-of}
+use Rattle.text_lines.specs.digits.Put.{PutAt, Room}
 use Rattle.text_lines.specs.Printed.{Printed, placesOf}
 use Rattle.text_tally.specs.Read.{fileOf}
-use Rattle.digits.proofs.Decimals.{Word}
+use Rattle.text_lines.proofs.digits.Decimals.{Word}
 use Rattle.text_lines.proofs.Lengths.{count-short, repeat-short, total-short}
 use Rattle.text_lines.proofs.Printing.{printed}
-use Rattle.digits.proofs.Putting.{room-first, room-next, put-then}
+use Rattle.text_lines.proofs.digits.Putting.{room-first, room-next, put-then}
 
 -- ---- three lines, and room for them
 module _ (n : ℕ) (q : Places) (m : Modulus) (d : Divisor) where

@@ -2,7 +2,7 @@
 use Prim.Native.Nat.{ℕ}
 use mathlib.Core.List.{List}
 use lib.ListN.{take}
-use Rattle.text_rule.specs.Text.{File, unreadable, holds}
+use Rattle.text_lines.specs.rule.Text.{File, unreadable, holds}
 use Rattle.text_tally.specs.declared.FileRead.{FileRead}
 use Rattle.text_tally.specs.declared.FileRead.the-variants.{Holds, Unreadable}
 

@@ -4,12 +4,14 @@ ghost use lib.ListN.{take};
 ghost use Rattle.call_answer.specs.Answers.{valuesOf};
 ghost use Rattle.text_lines.specs.Lines.{refused-line};
 ghost use Rattle.text_lines.specs.Printed.{Printed};
-ghost use Rattle.text_rule.specs.Text.{text, with-file, text-of};
+ghost use Rattle.text_lines.specs.rule.Text.{text, with-file, text-of};
 ghost use Rattle.text_tally.specs.Read.{fileOf};
 use call_answer::Answer;
 use call_total::TotalRead;
 use record_curve::CurveRead;
 use text_lines::Places;
+
+pub mod census;
 
 // What was read of a file: how many bytes, or that it can't be opened or read.
 pub enum FileRead {

@@ -1,13 +1,13 @@
 use mathlib.Core.Path.{refl, sym, subst}
 use lib.Seq.{length-take-le}
-use Rattle.text_census.specs.Opened.{OpenedIs}
+use Rattle.text_tally.specs.census.Opened.{OpenedIs}
 use Rattle.text_lines.proofs.Printing.{printed-within}
 use borrow.Author.Needs.{needs}
 use Rattle.text_files.proofs.print_census.Statement.{statement}
 use Rattle.text_files.proofs.print_census.Tie as tie
 use Rattle.text_files.proofs.print_census.Reads as reads
 use Rattle.text_files.proofs.print_census.Lts as lts
-use Rattle.text_census.proofs.open.Reads as open-reads
+use Rattle.text_tally.proofs.census.open.Reads as open-reads
 use Rattle.text_files.proofs.print_lines.Reads as print-lines-reads
 use Rattle.text_files.proofs.read.Reads as read-reads
 use Rattle.io.proofs.write_all.Reads as write-all-reads

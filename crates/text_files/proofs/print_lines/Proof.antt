@@ -3,9 +3,9 @@ use mathlib.Core.Path.{sym, subst}
 use native.Mathlib.Omega.{arith}
 use Rattle.divisor_census.specs.Rows.{NextIs}
 use Rattle.curve.proofs.Contains.{neutral-holds}
-use Rattle.text_rule.proofs.Census.{fewer}
+use Rattle.text_lines.proofs.rule.Census.{fewer}
 use lib.ListN.{length}
-use Rattle.text_rule.proofs.Census.{onward}
+use Rattle.text_lines.proofs.rule.Census.{onward}
 use Rattle.divisor.specs.Divisors.{pair}
 use Rattle.curve.specs.Curves.{Holds}
 use Rattle.curve.specs.Record.{recordOf}

@@ -1,6 +1,6 @@
-use Rattle.digits.specs.Digits.{letters, decimal}
+use Rattle.text_lines.specs.digits.Digits.{letters, decimal}
 use Rattle.text_lines.specs.Lines.{count-line}
-use Rattle.digits.proofs.Putting.{first-room, second-room, third-room, all-three}
+use Rattle.text_lines.proofs.digits.Putting.{first-room, second-room, third-room, all-three}
 use borrow.Author.Needs.{needs}
 use Rattle.text_lines.proofs.put_count.Statement.{statement}
 use Rattle.text_lines.proofs.put_count.Tie as tie

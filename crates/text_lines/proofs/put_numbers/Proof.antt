@@ -4,8 +4,8 @@ use mathlib.Core.Path.{ap}
 use Prim.Native.Nat.{ℕ, _≤_, _-_}
 use lib.ListN.{take}
 use Rattle.text_lines.specs.Lines.{spaced}
-use Rattle.digits.specs.Put.{PutAt}
-use Rattle.digits.proofs.Putting.{put-none, put-as}
+use Rattle.text_lines.specs.digits.Put.{PutAt}
+use Rattle.text_lines.proofs.digits.Putting.{put-none, put-as}
 use Rattle.text_lines.proofs.Lines.{turn-room, hex-room, turn}
 use Rattle.text_lines.proofs.put_numbers.Statement.{statement}
 use Rattle.text_lines.proofs.put_numbers.Tie as tie

@@ -1,5 +1,5 @@
 use mathlib.Core.Path.{sym}
-use Rattle.digits.proofs.Putting.{put-as, room-as}
+use Rattle.text_lines.proofs.digits.Putting.{put-as, room-as}
 use Rattle.text_lines.proofs.Lines.{places-none, places-some}
 use borrow.Author.Needs.{needs}
 use Rattle.text_lines.proofs.put_places.Statement.{statement}

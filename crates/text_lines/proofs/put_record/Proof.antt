@@ -3,17 +3,17 @@ use Prim.Native.Nat.{_≤_, _*_}
 use lib.ListN.{take}
 use Rattle.divisor.specs.Divisors.{weightOf}
 use Rattle.divisor.proofs.Laws.{weight-le}
-use Rattle.digits.specs.Digits.{hex}
+use Rattle.text_lines.specs.digits.Digits.{hex}
 use Rattle.text_lines.specs.Lines.{spaced}
-use Rattle.digits.proofs.Putting.{put-then, first-room, second-room, third-room}
+use Rattle.text_lines.proofs.digits.Putting.{put-then, first-room, second-room, third-room}
 use Rattle.text_lines.proofs.Lines.{parts-room, record-put}
 use borrow.Author.Needs.{needs}
 use Rattle.text_lines.proofs.put_record.Statement.{statement}
 use Rattle.text_lines.proofs.put_record.Tie as tie
 use Rattle.text_lines.proofs.put_record.Reads as reads
 use Rattle.text_lines.proofs.put_record.Lts as lts
-use Rattle.digits.proofs.put_byte.Reads as put-byte-reads
-use Rattle.digits.proofs.put_hex.Reads as put-hex-reads
+use Rattle.text_lines.proofs.digits.put_byte.Reads as put-byte-reads
+use Rattle.text_lines.proofs.digits.put_hex.Reads as put-hex-reads
 use Rattle.divisor.proofs.Divisor.weight.Reads as weight-reads
 use Rattle.text_lines.proofs.put_numbers.Reads as put-numbers-reads
 use Rattle.record_numbers.proofs.write.numbers_of.Reads as numbers-of-reads

@@ -1,6 +1,6 @@
 use Rattle.text_lines.specs.Lines.{repeat-line, places}
-use Rattle.digits.specs.Digits.{letters}
-use Rattle.digits.proofs.Putting.{first-room, second-room, third-room, all-three}
+use Rattle.text_lines.specs.digits.Digits.{letters}
+use Rattle.text_lines.proofs.digits.Putting.{first-room, second-room, third-room, all-three}
 use borrow.Author.Needs.{needs}
 use Rattle.text_lines.proofs.put_repeat.Statement.{statement}
 use Rattle.text_lines.proofs.put_repeat.Tie as tie

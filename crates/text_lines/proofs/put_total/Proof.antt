@@ -4,7 +4,7 @@ use Rattle.text_lines.proofs.put_total.Statement.{statement}
 use Rattle.text_lines.proofs.put_total.Tie as tie
 use Rattle.text_lines.proofs.put_total.Reads as reads
 use Rattle.text_lines.proofs.put_total.Lts as lts
-use Rattle.digits.proofs.put_bytes.Reads as put-bytes-reads
+use Rattle.text_lines.proofs.digits.put_bytes.Reads as put-bytes-reads
 use Rattle.text_lines.proofs.put_record.Reads as put-record-reads
 
 -- src/lib.rt:86:39

@@ -1,8 +1,8 @@
 use native.Mathlib.Omega.{arith}
 use mathlib.Core.List.{_∷_}
-use Rattle.digits.specs.Digits.{decimal}
+use Rattle.text_lines.specs.digits.Digits.{decimal}
 use Rattle.text_lines.specs.Lines.{two}
-use Rattle.digits.proofs.Putting.{room-first, room-next, put-then}
+use Rattle.text_lines.proofs.digits.Putting.{room-first, room-next, put-then}
 use Rattle.text_lines.proofs.put_two.Statement.{statement}
 use Rattle.text_lines.proofs.put_two.Tie as tie
 

@@ -1,11 +1,11 @@
 use native.Mathlib.Omega.{arith}
 use Prim.Native.Nat.{ℕ}
-use Rattle.digits.specs.Digits.{letters}
-use Rattle.digits.specs.Put.{Room}
+use Rattle.text_lines.specs.digits.Digits.{letters}
+use Rattle.text_lines.specs.digits.Put.{Room}
 use Rattle.text_lines.specs.Lines.{refused-line, two}
 use Rattle.text_lines.proofs.Lengths.{refused-short}
-use Rattle.digits.proofs.Decimals.{Word}
-use Rattle.digits.proofs.Putting.{second-room, third-room, all-three}
+use Rattle.text_lines.proofs.digits.Decimals.{Word}
+use Rattle.text_lines.proofs.digits.Putting.{second-room, third-room, all-three}
 use Rattle.text_lines.proofs.Printing.{printed}
 use borrow.Author.Needs.{needs}
 use Rattle.text_lines.proofs.refusal.Statement.{statement}

@@ -1,4 +1,4 @@
-use Rattle.text_rule.specs.Text.{text-of}
+use Rattle.text_lines.specs.rule.Text.{text-of}
 use Rattle.text_lines.proofs.Printing.{printed-as}
 use Rattle.text_tally.proofs.Tallies.{no-file, long-file, whole-file}
 use borrow.Author.Needs.{needs}
