@@ -16,6 +16,8 @@ import svg
 from sources import wrapped
 
 WIDEST = 120
+ALONE = "algebra rules refusals jacobian scalar curve tablet tally census".split()  # all other names begin with a family's word
+BEGINS = "field poly divisor sum multiple record call scan text test tablet".split()
 Family = namedtuple("Family", "name what crates")
 Crate = namedtuple("Crate", "name sentence uses")
 
@@ -29,6 +31,8 @@ def read_house():
         if head:
             families.append(Family(*head.groups(), []))
         elif crate and sentence and families:
+            if crate.group(1) not in ALONE and crate.group(1).split("_")[0] not in BEGINS:
+                raise SystemExit("crates.txt, line %d: the name %s is of no family" % (number, crate.group(1)))
             families[-1].crates.append(Crate(crate.group(1), sentence, crate.group(2).split()))
         elif not re.fullmatch(r"|# .+", line):
             raise SystemExit("crates.txt, line %d: neither a family, a sentence nor a crate below its sentence" % number)

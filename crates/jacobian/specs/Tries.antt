@@ -1,4 +1,4 @@
--- What a try of the formulae promises: what is found is the sum; where nothing is found, one of the three conditions (crate formulas) fails: both have weight g (1), what is inverted is coprime to u (2), and in genus 3 the slope isn't short (3).
+-- What a try of the formulae promises: what is found is the sum; where nothing is found, one of the three conditions (crate sum_formulas) fails: both have weight g (1), what is inverted is coprime to u (2), and in genus 3 the slope isn't short (3).
 use mathlib.Core.Path.{_≡_}
 use Rattle.algebra.proofs.zmod.PrimeField.{modulo}
 use Rattle.rules.specs.Pair.{Pair}

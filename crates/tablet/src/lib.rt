@@ -187,7 +187,7 @@ pub extern "C" fn yubi_scan_lent(total: &mut YubiRunning, curve: &[u8], record: 
     s.answer
 }
 
-// The pole file: a floor above the other calls, by their promises alone (pole_file).
+// The pole file: a floor above the other calls, by their promises alone (call_pole).
 #[no_mangle]
 pub extern "C" fn yubi_write_pole_file(
     pole: u32,

@@ -1,5 +1,5 @@
 // Reads pairs of tuples from standard input and prints the plain form of their sum, of the sum with the second one made plain first, and of twice the
-// first; "special" where the answer's Z is 0. Input and expected text are made by tools/tuple_vectors.py, from plain divisors alone.
+// first; "special" where the answer's Z is 0. Input and expected text are made by tools/make/tuple_vectors.py, from plain divisors alone.
 // A number is 4 bytes, the highest first. A row is p, f2, f3, f4, then u1, u0, v1, v0 and Z of each tuple.
 ghost use mathlib.Core.Path.{_≡_};
 ghost use Prim.Native.Nat.{_≤_};

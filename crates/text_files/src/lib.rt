@@ -44,7 +44,7 @@ pub fn read(path: &[u8], buf: &mut [u8]) -> FileRead
     r
 }
 
-// Writes to standard output what crate `texts` makes of the two files, and nothing else. The buffers have room for one byte more than a file
+// Writes to standard output what crate `text_tally` makes of the two files, and nothing else. The buffers have room for one byte more than a file
 // may have, so that a file that is too long shows.
 pub fn print(curve: &[u8], batch: &[u8]) {
     let mut s = [0u8; 65537];

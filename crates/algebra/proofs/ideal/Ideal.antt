@@ -1,6 +1,6 @@
 -- Ideals of a commutative ring, as predicates on its elements. Gives: inclusion, products (an inductive family: sums of products, no
 -- truncation), ideals with two generators `Span g h`, multiples `Scaled d I`; products are commutative and associative.
--- The ground of the steps L0 to L7 (docs/PROVED.md, "The chain of the proof").
+-- The ground of the steps L0 to L7 (docs/proofs/GROUP.md, "The chain of the proof").
 -- Open: `Sub`, `_⊆_`.
 use mathlib.Core.Path.{_≡_, refl, sym, ap, subst}
 use mathlib.Core.List.{[], _∷_}

@@ -1,6 +1,6 @@
 -- The ring R[y]/(y² - f), its elements a + b y as pairs. Gives: the ring `quad`; `pr a b` for a + b y, `ι` for R in it (a homomorphism) and
 -- `y`, with y² = f; the parts `rea` and `ima`; the conjugate a - b y and the norm a² - f b², x · conj x = norm x.
--- The ground of the steps L0 to L7 (docs/PROVED.md, "The chain of the proof").
+-- The ground of the steps L0 to L7 (docs/proofs/GROUP.md, "The chain of the proof").
 -- Shut (`unfoldable`): `quad`, `pr`, `rea`, `ima`, `norm`, `conj`. Open: `ι`, `y`.
 use mathlib.Core.Path.{_≡_, refl}
 use mathlib.Core.List.{[], _∷_}

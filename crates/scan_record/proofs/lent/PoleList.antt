@@ -1,5 +1,5 @@
 -- Document 01, "The pole's list": from a fresh total, after each scan, the lent total equals the batch total of what was taken so far under that same curve
--- record. Said of any scans `xs`, and whatever follows them, each of which keeps the words of `scan_lent::scan` on the total that the one before it left,
+-- record. Said of any scans `xs`, and whatever follows them, each of which keeps the words of `lent::scan` on the total that the one before it left,
 -- whatever it reported. (Of the flat total that C lends: scan_flat.)
 use Prim.Native.Nat.{ℕ}
 use mathlib.Core.Path.{_≡_, ap}

@@ -1,4 +1,4 @@
--- `scan_lent::scan` meets its contract: a walk of its MIR, by hand. The borrow is opened, the total is copied out and handed to `scan_by_value`, of which the proof knows only its contract; the new total is stored in the cell, and the borrow is closed at it.
+-- `lent::scan` meets its contract: a walk of its MIR, by hand. The borrow is opened, the total is copied out and handed to `scan_by_value`, of which the proof knows only its contract; the new total is stored in the cell, and the borrow is closed at it.
 -- Assumes nothing.
 use mathlib.Core.Path.{refl, ap}
 use Prim.Native.Nat.{ℕ}
