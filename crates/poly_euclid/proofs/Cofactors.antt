@@ -16,7 +16,7 @@ use Rattle.poly.specs.Contracts.{Divided}
 use Rattle.poly_euclid.specs.declared.Line.{Line}
 use Rattle.poly_euclid.specs.declared.RightLine.{RightLine}
 use Rattle.poly_euclid.specs.Euclid.{OkL, OkH, Lessens, MinusMultiple, Less, Scaled, ScaledH, Gcd, Xgcd, XgcdRight}
-use Rattle.poly_euclid.proofs.Common.{Euclid, euclid-begin, euclid-turn, euclid-end, euclid-stop}
+use Rattle.poly_euclid.proofs.Common.{Euclid, euclid-begin, euclid-turn, euclid-end, euclid-stop, shared-monic}
 
 -- lengths: xr, yr of the two r, and xs, ys of their cofactors in one column
 pub record Column (B xr yr xs ys : ℕ) : Type 0 where
@@ -113,10 +113,10 @@ module _ (m : Modulus) where
   half-finish {a} {b} zs g e ht h = record { gcd = g; ok-t = h .t .ok; s = C (K m) (h .up) *P zs; is = combined a b zs e h; short-t = omega (arith, h .r .same, h .t .short, ht) }
 
   pub half-end : {a b : Poly} {x y u : RightLine} {xs ys : Po} → Halved a b x y xs ys → y .r .n ≡ 0 → ScaledH m x u → XgcdRight m a b u
-  half-end {xs = xs} v e h = half-finish xs (euclid-end m (v .core) e (h .r)) (v .x-is) (v .t .x-end) h
+  half-end {xs = xs} v e h = half-finish xs (shared-monic m (euclid-end m (v .core) e) (h .r)) (v .x-is) (v .t .x-end) h
 
   pub half-stop : {a b : Poly} {x y u : RightLine} {xs ys : Po} → Halved a b x y xs ys → y .r .n ≡ 1 → ScaledH m y u → XgcdRight m a b u
-  half-stop {ys = ys} v e h = half-finish ys (euclid-stop m (v .core) e (h .r)) (v .y-is) (v .t .y-end) h
+  half-stop {ys = ys} v e h = half-finish ys (shared-monic m (euclid-stop m (v .core) e) (h .r)) (v .y-is) (v .t .y-end) h
 
   -- ---- whole lines: the same, with the s kept
   abbrev upper : Line → RightLine
@@ -170,7 +170,7 @@ module _ (m : Modulus) where
   }
 
   pub extended-end : {a b : Poly} {x y u : Line} → Extended a b x y → y .r .n ≡ 0 → Scaled m x u → Xgcd m a b u
-  extended-end v e h = finish (euclid-end m (v .half .core) e (h .r)) (v .half .x-is) (v .s .x-end) (v .half .t .x-end) h
+  extended-end v e h = finish (shared-monic m (euclid-end m (v .half .core) e) (h .r)) (v .half .x-is) (v .s .x-end) (v .half .t .x-end) h
 
   pub extended-stop : {a b : Poly} {x y u : Line} → Extended a b x y → y .r .n ≡ 1 → Scaled m y u → Xgcd m a b u
-  extended-stop v e h = finish (euclid-stop m (v .half .core) e (h .r)) (v .half .y-is) (v .s .y-end) (v .half .t .y-end) h
+  extended-stop v e h = finish (shared-monic m (euclid-stop m (v .half .core) e) (h .r)) (v .half .y-is) (v .s .y-end) (v .half .t .y-end) h

@@ -1,20 +1,20 @@
--- Euclid without cofactors: under way the pair x, y has the common divisors of a and b, and at the end, y being zero, x made monic is
--- their greatest common divisor; where y is a constant, y made monic is.
+-- Euclid without cofactors: under way the pair x, y has the common divisors of a and b, and at the end, y being zero, x is their greatest common divisor up to a
+-- constant; where y is a constant, y is. Made monic it is the greatest common divisor.
 use Prim.Native.Nat.{_<_, _≤_, max}
 use mathlib.Core.Path.{_≡_, refl, sym, ap, _∙_}
 use mathlib.Core.List.{[], _∷_}
 use native.Mathlib.Omega.{arith}
-use Rattle.algebra.proofs.ring.CRing.{CRing, mul-one}
+use Rattle.algebra.proofs.ring.CRing.{CRing}
 use Rattle.algebra.proofs.ring.Quote.{ring, quote, by}
-use Rattle.algebra.proofs.ring.Divides.{Divides, divides-zer, divides-add, divides-neg, divides-mul, divides-eq}
+use Rattle.algebra.proofs.ring.Divides.{Divides, divides-zer, divides-add, divides-neg, divides-mul, divides-trans, divides-eq}
 use Rattle.algebra.proofs.poly.Term.{C, constants}
 use Rattle.field.specs.declared.Modulus.{Modulus}
 use Rattle.poly.specs.declared.Poly.{Poly}
 use Rattle.poly.specs.Polys.{K, P, pol, Ok}
 use Rattle.poly.specs.Contracts.{Divided, MonicBy}
 use Rattle.poly.proofs.Lengths.{none-is}
-use Rattle.poly.proofs.Monic.{monic-one}
-use Rattle.poly_euclid.specs.Euclid.{ToDivideBy, Gcd}
+use Rattle.poly_euclid.specs.Euclid.{ToDivideBy, Shared, Gcd}
+use Rattle.poly_euclid.proofs.Constant.{divides-all}
 
 module _ (m : Modulus) where
   open CRing (K m) using (El as A)
@@ -55,31 +55,30 @@ module _ (m : Modulus) where
         rest-is : pol m e ≡ pol m x +P negP (pol m q *P pol m y)
         rest-is = by (P m) (negP 1P) (d .is) (ring (P m) (pol m x ∷ pol m q ∷ pol m y ∷ pol m e ∷ []) (search quote depth 40) refl)
 
-    pub euclid-end : {g : Poly} {up : A} → y .n ≡ 0 → MonicBy m up x g → Gcd m a b g
-    euclid-end {g} {up} e o = record {
-      ok = o .ok;
-      left = both .0;
-      right = both .1;
-      greatest = λ h da db. divides-eq (P m) (sym (o .is)) (divides-mul (P m) (C (K m) up) (v .forth h da db .0));
-      lead = o .lead;
-      short = omega (arith, o .same, v .short-x);
-    }
+    -- y is zero
+    pub euclid-end : y .n ≡ 0 → Shared m a b x
+    euclid-end e = record { ok = v .ok-x; left = both .0; right = both .1; greatest = λ h da db. v .forth h da db .0; short = v .short-x }
       where
-        x-is : pol m x ≡ C (K m) (o .down) *P pol m g
-        x-is = sym (ap (λ t. C (K m) (o .down) *P t) (o .is) ∙ sym (P m .mul-assoc (C (K m) (o .down)) (C (K m) up) (pol m x)) ∙ ap (λ t. t *P pol m x) (sym (constants (K m) .h-mul (o .down) up) ∙ ap (C (K m)) (o .unit) ∙ constants (K m) .h-one) ∙ P m .one-mul (pol m x))
+        both : (pol m x ∣ pol m a) × (pol m x ∣ pol m b)
+        both = v .back (pol m x) (record { factor = 1P; is = sym (P m .one-mul (pol m x)) }) (divides-eq (P m) (sym (none-is m (v .ok-y) e)) (divides-zer (P m) (pol m x)))
 
-        both : (pol m g ∣ pol m a) × (pol m g ∣ pol m b)
-        both = v .back (pol m g) (record { factor = C (K m) (o .down); is = x-is }) (divides-eq (P m) (sym (none-is m (v .ok-y) e)) (divides-zer (P m) (pol m g)))
+    -- y is a constant
+    pub euclid-stop : y .n ≡ 1 → Shared m a b y
+    euclid-stop e = record { ok = v .ok-y; left = divides-all m (v .ok-y) e (pol m a); right = divides-all m (v .ok-y) e (pol m b); greatest = λ h da db. v .forth h da db .1; short = v .short-y }
 
-    pub euclid-stop : {g : Poly} {up : A} → y .n ≡ 1 → MonicBy m up y g → Gcd m a b g
-    euclid-stop {g} {up} e o = record {
-      ok = o .ok;
-      left = all (pol m a);
-      right = all (pol m b);
-      greatest = λ h da db. divides-eq (P m) (sym (o .is)) (divides-mul (P m) (C (K m) up) (v .forth h da db .1));
-      lead = o .lead;
-      short = omega (arith, o .same, v .short-y);
-    }
-      where
-        all : (w : Po) → pol m g ∣ w
-        all w = record { factor = w; is = sym (ap (λ t. w *P t) (monic-one m (o .ok) (omega (arith, o .same)) (o .lead (omega (arith, o .same)))) ∙ mul-one (P m) w) }
+  -- made monic
+  pub shared-monic : {a b x g : Poly} {up : A} → Shared m a b x → MonicBy m up x g → Gcd m a b g
+  shared-monic {a} {b} {x} {g} {up} s o = record {
+    ok = o .ok;
+    left = divides-trans (P m) divides-x (s .left);
+    right = divides-trans (P m) divides-x (s .right);
+    greatest = λ h da db. divides-eq (P m) (sym (o .is)) (divides-mul (P m) (C (K m) up) (s .greatest h da db));
+    lead = o .lead;
+    short = omega (arith, o .same, s .short);
+  }
+    where
+      divides-x : pol m g ∣ pol m x
+      divides-x = record {
+        factor = C (K m) (o .down);
+        is = sym (ap (λ t. C (K m) (o .down) *P t) (o .is) ∙ sym (P m .mul-assoc (C (K m) (o .down)) (C (K m) up) (pol m x)) ∙ ap (λ t. t *P pol m x) (sym (constants (K m) .h-mul (o .down) up) ∙ ap (C (K m)) (o .unit) ∙ constants (K m) .h-one) ∙ P m .one-mul (pol m x));
+      }

@@ -1,4 +1,5 @@
 pub mod Steps
+pub mod Constant
 pub mod Common
 pub mod Cofactors
 pub mod Shares

@@ -1,4 +1,4 @@
--- From gcd's contract alone: if the gcd of a and b has degree 0, no polynomial of degree 1 or more divides both; else one does.
+-- From the contract of Euclid's last remainder alone: if it has degree 0, no polynomial of degree 1 or more divides both; else one does.
 use Prim.Native.Nat.{ℕ, suc, _-_}
 use mathlib.Core.Path.{_≡_, sym, ap, _∙_, subst}
 use native.Mathlib.Omega.{arith}
@@ -7,7 +7,7 @@ use Rattle.algebra.proofs.ring.CRing.{CRing, mul-zer}
 use Rattle.algebra.proofs.ring.Divides.{Divides, divides-zer, divides-eq}
 use Rattle.algebra.proofs.ring.Field.{Field}
 use Rattle.algebra.proofs.poly.Poly.{coef}
-use Rattle.algebra.proofs.poly.Term.{at, X, coef-term, termS, termS-at, termS-off, term-one}
+use Rattle.algebra.proofs.poly.Term.{at, X, coef-term, termS, termS-at, termS-off}
 use Rattle.algebra.proofs.poly.Degree.{Degree}
 use Rattle.algebra.proofs.poly.Common.{SharesNoFactor, constant-factor, shares-some}
 use Rattle.field.specs.declared.Modulus.{Modulus}
@@ -15,10 +15,10 @@ use Rattle.field.proofs.Laws.{residue-field}
 use Rattle.poly.specs.declared.Poly.{Poly}
 use Rattle.poly.specs.Polys.{K, P, pol}
 use Rattle.poly.proofs.Lengths.{none-is}
-use Rattle.poly.proofs.Monic.{monic-one}
-use Rattle.poly_euclid.specs.Euclid.{Gcd}
+use Rattle.poly_euclid.specs.Euclid.{Shared}
+use Rattle.poly_euclid.proofs.Constant.{head, head-ne, constant-is}
 
-module _ (m : Modulus) {a b g : Poly} (h : Gcd m a b g) where
+module _ (m : Modulus) {a b g : Poly} (h : Shared m a b g) where
   open CRing (P m) using (El as Po, mul as _*P_, zer as 0P)
 
   infixl 70 _*P_
@@ -34,7 +34,7 @@ module _ (m : Modulus) {a b g : Poly} (h : Gcd m a b g) where
     pub degree : Degree F (suc less-one) factor
 
   pub degree-zero : g .n ≡ 1 → SharesNoFactor (K m) (pol m a) (pol m b)
-  degree-zero e d da db = constant-factor F (K m .one) d (F .one-ne) (divides-eq (P m) (monic-one m (h .ok) e (h .lead (omega arith)) ∙ sym (term-one (K m))) (h .greatest d da db))
+  degree-zero e d da db = constant-factor F (head m (h .ok) e) d (head-ne m (h .ok) e) (divides-eq (P m) (constant-is m (h .ok) e) (h .greatest d da db))
 
   zero-is : {v : Po} → g .n ≡ 0 → Divides (P m) (pol m g) v → 0P ≡ v
   zero-is e d = sym (d .is ∙ ap (λ t. d .factor *P t) (none-is m (h .ok) e) ∙ mul-zer (P m) (d .factor))
@@ -65,7 +65,7 @@ module _ (m : Modulus) {a b g : Poly} (h : Gcd m a b g) where
   shares-else ne = let f : SharedFactor = degree-else ne in shares-some F (pol m a) (pol m b) (f .factor) (f .left) (f .right) (f .degree)
 
 -- the same where b stands for w, as the derivative does
-module _ (m : Modulus) {a b g : Poly} {w : P m .El} (e : pol m b ≡ w) (h : Gcd m a b g) where
+module _ (m : Modulus) {a b g : Poly} {w : P m .El} (e : pol m b ≡ w) (h : Shared m a b g) where
   pub shares-none-with : g .n ≡ 1 → SharesNoFactor (K m) (pol m a) w
   shares-none-with l = subst (λ (v : P m .El). SharesNoFactor (K m) (pol m a) v) e (degree-zero m h l)
 

@@ -23,6 +23,14 @@ module _ (m : Modulus) where
 
   infixl 65 _+P_
   infixl 70 _*P_
+  -- g divides a and b, and whatever divides both divides g: their greatest common divisor up to a constant
+  pub record Shared (a b g : Poly) : Type 0 where
+    pub ok : Ok m g
+    pub left : Divides (P m) (pol m g) (pol m a)
+    pub right : Divides (P m) (pol m g) (pol m b)
+    pub greatest : (h : Po) → Divides (P m) h (pol m a) → Divides (P m) h (pol m b) → Divides (P m) h (pol m g)
+    pub short : g .n ≤ max (a .n) (b .n)
+
   -- g divides a and b, whatever divides both divides g, and g is monic, or zero
   pub record Gcd (a b g : Poly) : Type 0 where
     pub ok : Ok m g

@@ -6,7 +6,7 @@ ghost use Rattle.algebra.proofs.poly.Derivative.{derP};
 ghost use Rattle.field.specs.Primes.{Decides};
 ghost use Rattle.poly.specs.Polys.{K, pol, Ok};
 ghost use Rattle.poly.specs.Contracts.{Divided};
-ghost use Rattle.poly_euclid.specs.Euclid.{ToDivideBy, OkL, OkH, Lessens, Less, Scaled, ScaledH, Gcd, Xgcd, XgcdRight};
+ghost use Rattle.poly_euclid.specs.Euclid.{ToDivideBy, OkL, OkH, Lessens, Less, Scaled, ScaledH, Shared, Gcd, Xgcd, XgcdRight};
 use field::Modulus;
 use poly::DivRem;
 use poly::Poly;
@@ -40,21 +40,32 @@ fn divide(a: Poly, u: Poly, m: Modulus) -> DivRem
     }
 }
 
-pub fn gcd(a: Poly, b: Poly, m: Modulus) -> Poly
+// Euclid's last remainder: a constant ends it, with no division by that. Nothing is made monic.
+fn last_remainder(a: Poly, b: Poly, m: Modulus) -> Poly
     requires { ⌜ Ok m a × Ok m b ⌝ }
-    ensures { λ g. ⌜ Gcd m a b g ⌝ }
+    ensures { λ g. ⌜ Shared m a b g ⌝ }
 {
     let mut x = a;
     let mut y = b;
     let mut n = b.n;
-    while 0 < n {
+    while 1 < n {
         let d = divide(x, y, m);
         let e = d.remainder;
         x = y;
         y = e;
         n = e.n;
     }
-    x.monic(m)
+    if n == 0 {
+        return x;
+    }
+    y
+}
+
+pub fn gcd(a: Poly, b: Poly, m: Modulus) -> Poly
+    requires { ⌜ Ok m a × Ok m b ⌝ }
+    ensures { λ g. ⌜ Gcd m a b g ⌝ }
+{
+    last_remainder(a, b, m).monic(m)
 }
 
 impl Line {
@@ -177,7 +188,7 @@ pub fn is_square_free(f: Poly, m: Modulus) -> bool
     requires { ⌜ Ok m f ⌝ }
     ensures { λ b. ⌜ Decides b (SharesNoFactor (K m) (pol m f) (derP (K m) (pol m f))) ⌝ }
 {
-    let g = gcd(f, f.derivative(m), m);
+    let g = last_remainder(f, f.derivative(m), m);
     if g.n == 1 {
         return true;
     }

@@ -1,42 +1,16 @@
-use native.Mathlib.Omega.{arith}
-use mathlib.Core.Path.{_≡_, refl}
-use Rattle.poly_euclid.proofs.Common.{Euclid, euclid-begin, euclid-turn, euclid-end, to-divide-by}
+use borrow.Author.Needs.{needs}
+use Rattle.poly_euclid.proofs.Common.{shared-monic}
 use Rattle.poly_euclid.proofs.gcd.Statement.{statement}
 use Rattle.poly_euclid.proofs.gcd.Tie as tie
 
-abbrev Inv-loop : tie.InvT-loop
-Inv-loop m x₀ y₀ n₀ x y n = Euclid m x₀ y₀ x y × (n ≡ y .n)
+last-remainder-requires : tie.Need-last-remainder-requires
+last-remainder-requires c κs = search needs
 
-abbrev μ-loop : tie.MeasureT-loop
-μ-loop m x₀ y₀ n₀ x y n = n
+monic-requires : tie.Need-monic-requires
+monic-requires c κs = search needs
 
-loop-holds : tie.Need-loop-holds Inv-loop μ-loop
-loop-holds c = (euclid-begin (c .args .m) (c .args .a) (c .args .b) (c .pre .0) (c .pre .1), refl)
-
-divide-requires : tie.Need-divide-requires Inv-loop μ-loop
-divide-requires c κs = to-divide-by (c .before .before .args .m) (c .before .loop .inv .0) (omega arith)
-
-loop-less : tie.Need-loop-less Inv-loop μ-loop
-loop-less c = omega (arith, c .before .divide .ensures .rest)
-
-loop-again : tie.Need-loop-again Inv-loop μ-loop
-loop-again c = (euclid-turn (c .before .before .before .before .args .m) (c .before .before .before .loop .inv .0) (c .before .divide .ensures), refl)
-
-monic-requires : tie.Need-monic-requires Inv-loop μ-loop
-monic-requires c κs = c .before .loop .inv .0 .ok-x
-
-returns : tie.Need-returns Inv-loop μ-loop
-returns c = euclid-end (c .before .before .before .args .m) (c .before .before .loop .inv .0) (omega arith) (c .monic .ensures .made)
+returns : tie.Need-returns
+returns c = shared-monic (c .before .before .args .m) (c .before .last-remainder .ensures) (c .monic .ensures .made)
 
 pub gcd-spec : {M : Type 1} → statement M
-gcd-spec =
-    tie.close
-    (tie.spec
-    Inv-loop
-    μ-loop
-    loop-holds
-    divide-requires
-    loop-less
-    loop-again
-    monic-requires
-    returns)
+gcd-spec = tie.close (tie.spec last-remainder-requires monic-requires returns)
