@@ -36,6 +36,7 @@ use Rattle.record_divisor.specs.declared.DivisorRead.the-variants.{Taken, Refus
 use Rattle.record_divisor.specs.Read.{DivisorIs}
 use Rattle.call_total.specs.declared.TotalRead.the-variants.{Done, Refused as RefusedTotal}
 use Rattle.call_total.specs.Totals.{TotalIs}
+use Rattle.call_total.proofs.Places.{not-full}
 use Rattle.call_answer.proofs.Turns.{Going, begins, read-taken, ends, full, refuses, turns}
 
 -- t is the total so far, from first to last
@@ -45,14 +46,18 @@ pub record Totalling (c : Curve) (s : List ℕ) (sums : List Divisor) (next : Li
   pub going : Going c (sum (curveOf c)) s neutral k a t
 
 -- `all` is the product of what those that wait divide by
-pub record Filling (c : Curve) (s : List ℕ) (sums : List Divisor) (next : List Waiting) (all : Residue) (n k a : ℕ) : Type 0 where
+pub record Filling (c : Curve) (s : List ℕ) (one : Residue) (sums : List Divisor) (next : List Waiting) (all : Residue) (n k a : ℕ) : Type 0 where
+  pub sound : Sound c
+  pub one-is : Settles (c .m) one (zmod (c .m .p) .one)
   pub room : n < 16
   pub total : Totalling c s sums next n k a
   pub unit : HasInverse (c .m) all
   pub product : el (c .m) all ≡ prods c next n
 
 -- back is 1 over it
-pub record Shutting (c : Curve) (s : List ℕ) (sums : List Divisor) (next : List Waiting) (back : Residue) (n k a : ℕ) : Type 0 where
+pub record Shutting (c : Curve) (s : List ℕ) (one : Residue) (sums : List Divisor) (next : List Waiting) (back : Residue) (n k a : ℕ) : Type 0 where
+  pub sound : Sound c
+  pub one-is : Settles (c .m) one (zmod (c .m .p) .one)
   pub total : Totalling c s sums next n k a
   pub kept : Kept (c .m) back
   pub inverse : zmod (c .m .p) .mul (el (c .m) back) (prods c next n) ≡ zmod (c .m .p) .one
@@ -64,8 +69,10 @@ module _ (c : Curve) (s : List ℕ) (h : Sound c) where
   one-unit : (one : Residue) → Settles (c .m) one (K .one) → HasInverse (c .m) one
   one-unit one o = record { good = h .good; kept = settled-kept (c .m) (o .settled); nonzero = λ e. residue-field (c .m) (h .good) .one-ne (sym (o .is) ∙ e) }
 
-  pub total-begin : (z : Divisor) (w : Waiting) (one : Residue) → z ≡ Neutral → Settles (c .m) one (K .one) → Filling c s (replicate 16 z) (replicate 16 w) one 0 0 0
+  pub total-begin : (z : Divisor) (w : Waiting) (one : Residue) → z ≡ Neutral → Settles (c .m) one (K .one) → Filling c s one (replicate 16 z) (replicate 16 w) one 0 0 0
   total-begin z w one e o = record {
+    sound = h;
+    one-is = o;
     room = omega arith;
     total = record { t = neutral; row = row-begin c h z e w; going = begins c (sum (curveOf c)) s neutral };
     unit = one-unit one o;
@@ -77,8 +84,8 @@ module _ (c : Curve) (s : List ℕ) (h : Sound c) where
       pub total-full : a < length s → k ≡ 4096 → TotalIs c s (RefusedTotal 14 0)
       total-full = full (i .going)
 
-      pub total-refuses : (r : DivisorRead) {e : ℕ} → a < length s → k < 4096 → DivisorIs c false s a r → r ≡ Refused e → TotalIs c s (RefusedTotal e (k + 1))
-      total-refuses r more room is e = refuses (i .going) more room r is e
+      pub total-refuses : (r : DivisorRead) {e : ℕ} → a < length s → (k ≡ 4096 → ⊥) → DivisorIs c false s a r → r ≡ Refused e → TotalIs c s (RefusedTotal e (k + 1))
+      total-refuses r more few is e = refuses (i .going) more (not-full (i .going .room) few) r is e
 
       pub total-ends : length s ≤ a → (x y r : Divisor) → Gives c x (together c (waiter next) n) → Gives c y (together c (lane sums) 16) → Gives c r (sum (curveOf c) (pair (c .m) x) (pair (c .m) y))
           → TotalIs c s (Done r k)
@@ -90,7 +97,7 @@ module _ (c : Curve) (s : List ℕ) (h : Sound c) where
           taken-with p = taken (record { result = p; count = k })
 
     -- one more record, opened with its lane
-    module _ (n : ℕ) (all : Residue) (i : Filling c s sums next all n k a) (r : DivisorRead) {d : Divisor} (more : a < length s) (room : k < 4096) (is : DivisorIs c false s a r) (e : r ≡ Taken d)
+    module _ (n : ℕ) (one all : Residue) (i : Filling c s one sums next all n k a) (r : DivisorRead) {d : Divisor} (more : a < length s) (few : k ≡ 4096 → ⊥) (is : DivisorIs c false s a r) (e : r ≡ Taken d)
         (o : Opening) (opened : Opened c (lane sums n) d o) (f : Residue) (under : Under (c .m) o f) (all' : Residue) (product : Stands (c .m) all' (K .mul (el (c .m) all) (el (c .m) f))) {v : ℕ} (weight : v ≡ getD s a 0) where
       abbrev w : Waiting
       w = record { d = d; o = o; f = f; before = all }
@@ -99,7 +106,7 @@ module _ (c : Curve) (s : List ℕ) (h : Sound c) where
       turned = record {
         t = sum (curveOf c) (i .total .t) (pair (c .m) d);
         row = row-more c h (i .total .row) (i .room) w (record { holds = read-taken c s a r is e .0; opened = opened; under = under }) (record { kept = i .unit .kept; is = i .product });
-        going = turns (i .total .going) more room r is e weight refl;
+        going = turns (i .total .going) more (not-full (i .total .going .room) few) r is e weight refl;
       }
 
       pub turned-product : el (c .m) all' ≡ prods c (set next n w) (n + 1)
@@ -108,18 +115,20 @@ module _ (c : Curve) (s : List ℕ) (h : Sound c) where
       pub turned-unit : HasInverse (c .m) all'
       turned-unit = product-unit (c .m) all f all' (i .unit) (under .unit) product
 
-      pub total-turn : (n + 1 ≡ 16 → ⊥) → Filling c s sums (set next n w) all' (n + 1) (k + 1) (a + 1 + 16 * v)
-      total-turn q = record { room = omega (arith, i .room); total = turned; unit = turned-unit; product = turned-product }
+      pub total-turn : (n + 1 ≡ 16 → ⊥) → Filling c s one sums (set next n w) all' (n + 1) (k + 1) (a + 1 + 16 * v)
+      total-turn q = record { sound = h; one-is = i .one-is; room = omega (arith, i .room); total = turned; unit = turned-unit; product = turned-product }
 
       -- one waits for each lane
-      pub shut-begin : (back : Residue) → Inverts (c .m) all' back → Shutting c s sums (set next n w) back (n + 1) (k + 1) (a + 1 + 16 * v)
+      pub shut-begin : (back : Residue) → Inverts (c .m) all' back → Shutting c s one sums (set next n w) back (n + 1) (k + 1) (a + 1 + 16 * v)
       shut-begin back b = record {
+        sound = h;
+        one-is = i .one-is;
         total = turned;
         kept = b .kept;
         inverse = ap (K .mul (el (c .m) back)) (sym turned-product) ∙ K .mul-comm (el (c .m) back) (el (c .m) all') ∙ b .is;
       }
 
-    module _ (n : ℕ) (back : Residue) (i : Shutting c s sums next back n k a) where
+    module _ (n : ℕ) (one back : Residue) (i : Shutting c s one sums next back n k a) where
       -- the last that waits, and its lane
       module _ (j : ℕ) (last : j + 1 ≡ n) where
         pub waits : Waits c (lane sums j) (at next j)
@@ -135,17 +144,21 @@ module _ (c : Curve) (s : List ℕ) (h : Sound c) where
         undoes x hx = undone (c .m) (at next j) back x (waits .under) (backs c (i .total .row) j last back (i .kept) (i .inverse)) hx
 
         pub shut-turn : (r : Divisor) (back' : Residue) → Gives c r (sum (curveOf c) (pair (c .m) (lane sums j)) (pair (c .m) (waiter next j)))
-            → Stands (c .m) back' (K .mul (el (c .m) back) (el (c .m) (at next j .f))) → Shutting c s (set sums j r) next back' j k a
+            → Stands (c .m) back' (K .mul (el (c .m) back) (el (c .m) (at next j .f))) → Shutting c s one (set sums j r) next back' j k a
         shut-turn r back' g b = record {
+          sound = h;
+          one-is = i .one-is;
           total = record { t = i .total .t; row = row-less c h (i .total .row) j last r g; going = i .total .going };
           kept = b .kept;
           inverse = prods-less c (i .total .row) j last back back' (i .inverse) (b .is);
         }
 
-      pub shut-ends : n ≤ 0 → (one : Residue) → Settles (c .m) one (K .one) → Filling c s sums next one n k a
-      shut-ends z one o = record {
+      pub shut-ends : n ≤ 0 → Filling c s one sums next one n k a
+      shut-ends z = record {
+        sound = h;
+        one-is = i .one-is;
         room = omega arith;
         total = i .total;
-        unit = one-unit one o;
-        product = o .is ∙ ap (prods c next) {x = 0} {y = n} (omega arith);
+        unit = one-unit one (i .one-is);
+        product = i .one-is .is ∙ ap (prods c next) {x = 0} {y = n} (omega arith);
       }
