@@ -8,7 +8,7 @@ ghost use Rattle.rules.specs.Checks.{refused, go-on};
 ghost use Rattle.rules.specs.Records.{read-curve};
 ghost use Rattle.rules.specs.Calls.{put, write, deliver};
 ghost use Rattle.call_answer.specs.Answers.{Wrote};
-ghost use Rattle.rules.specs.pole.PoleFile.{word16, bytes16, pole-marked?, head-bytes, file-bytes, both-parts, read-parts, read-behind, read-file, write-file};
+ghost use Rattle.rules.specs.pole.PoleFile.{word16, bytes16, head-bytes, file-bytes, both-parts, read-parts, read-behind, read-file, write-file};
 ghost use Rattle.call_pole.specs.Files.{Least, PoleIs, Ends, PartsAre, InFile};
 use call_answer::Answer;
 use call_batch::BatchRead;
@@ -32,18 +32,6 @@ fn put16(out: &mut [u8], a: usize, x: u64)
 {
     out[a] = (x / 256 % 256) as u8;
     out[a + 1] = (x % 256) as u8;
-}
-
-fn marked(s: &[u8]) -> bool
-    requires { ⌜ 9 ≤ length (now s) ⌝ }
-    ensures { λ r. ⌜ r ≡ pole-marked? (now (s .entry)) ⌝ }
-{
-    if s[0] == MARK[0] {
-        if s[1] == MARK[1] {
-            return s[2] == MARK[2];
-        }
-    }
-    false
 }
 
 // The mark, the version and the pole.
@@ -207,7 +195,7 @@ pub fn read_pole_file(file: &[u8], out: &mut [u8]) -> Answer
     if file.len() < 9 {
         return Answer::Refused(refusals::POLE_FILE_LENGTH, 0);
     }
-    if !marked(file) {
+    if !record_bytes::marked(file, MARK) {
         return Answer::Refused(refusals::POLE_FILE_MARK, 0);
     }
     if read16(file, 3) != VERSION {

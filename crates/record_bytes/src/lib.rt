@@ -1,14 +1,27 @@
-// Numbers as bytes, the highest byte first: 8 bytes read as a number, and numbers written one after the other.
+// Numbers as bytes, the highest byte first: 8 bytes read as a number, and numbers written one after the other. And the mark that a record begins with.
 ghost use mathlib.Core.Path.{_≡_};
 ghost use Prim.Native.Nat.{_+_, _*_, _≤_, _<_};
 ghost use lib.ListN.{length, take};
 ghost use lib.Seq.{sets};
 ghost use Rattle.rules.specs.Bytes.{word32, word64, bytes64, all-bytes};
+ghost use Rattle.record_bytes.specs.Marks.{begins?};
 
 pub fn wide(x: u8) -> u64
     ensures { λ r. ⌜ (r ≡ x) × (r < 256) ⌝ }
 {
     x as u64
+}
+
+pub fn marked(s: &[u8], mark: [u8; 3]) -> bool
+    requires { ⌜ 3 ≤ length (now s) ⌝ }
+    ensures { λ r. ⌜ r ≡ begins? mark (now (s .entry)) ⌝ }
+{
+    if s[0] == mark[0] {
+        if s[1] == mark[1] {
+            return s[2] == mark[2];
+        }
+    }
+    false
 }
 
 pub fn read32(s: &[u8], a: usize) -> u64

@@ -2,21 +2,9 @@
 ghost use mathlib.Core.Path.{_≡_};
 ghost use Prim.Native.Nat.{_≤_};
 ghost use lib.ListN.{length};
-ghost use Rattle.rules.specs.Records.{marked?, genus?, version?, version-of};
+ghost use Rattle.rules.specs.Records.{genus?, version?, version-of};
 ghost use Rattle.record_curve_head.specs.Heads.{Begun, HeadIs};
 use curve::Curve;
-
-fn marked(s: &[u8]) -> bool
-    requires { ⌜ 6 ≤ length (now s) ⌝ }
-    ensures { λ r. ⌜ r ≡ marked? (now (s .entry)) ⌝ }
-{
-    if s[0] == Curve::MARK[0] {
-        if s[1] == Curve::MARK[1] {
-            return s[2] == Curve::MARK[2];
-        }
-    }
-    false
-}
 
 fn is_version(v: u64) -> bool
     ensures { λ r. ⌜ r ≡ version? v ⌝ }
@@ -77,7 +65,7 @@ pub fn head_number(s: &[u8]) -> u64
     if s.len() < 6 {
         return refusals::CURVE_LENGTH;
     }
-    if !marked(s) {
+    if !record_bytes::marked(s, Curve::MARK) {
         return refusals::MARK;
     }
     let version = record_bytes::wide(s[3]) * 256 + record_bytes::wide(s[4]);

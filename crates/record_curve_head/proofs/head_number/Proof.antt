@@ -13,7 +13,7 @@ use Rattle.record_curve_head.proofs.head_number.Lts as lts
 use Rattle.record_bytes.proofs.wide.Reads as wide-reads
 use Rattle.record_curve_head.proofs.is_genus.Reads as is-genus-reads
 use Rattle.record_curve_head.proofs.is_version.Reads as is-version-reads
-use Rattle.record_curve_head.proofs.marked.Reads as marked-reads
+use Rattle.record_bytes.proofs.marked.Reads as marked-reads
 use Rattle.record_curve_head.proofs.plain_length.Reads as plain-length-reads
 use Rattle.record_curve_head.proofs.witness_length.Reads as witness-length-reads
 

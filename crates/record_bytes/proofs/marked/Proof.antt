@@ -1,7 +1,7 @@
 use borrow.Author.Tests.{eq-eqb, ne-eqb}
 use borrow.Author.Needs.{needs}
-use Rattle.record_curve_head.proofs.marked.Statement.{statement}
-use Rattle.record_curve_head.proofs.marked.Tie as tie
+use Rattle.record_bytes.proofs.marked.Statement.{statement}
+use Rattle.record_bytes.proofs.marked.Tie as tie
 
 shared-slice-read-if1 : tie.Need-shared-slice-read-if1
 shared-slice-read-if1 c = search needs
