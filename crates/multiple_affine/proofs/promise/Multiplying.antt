@@ -1,4 +1,5 @@
--- The multiple by the digits passed so far: what the loop over a scalar's digits keeps, from the highest digit to the lowest, and the answer for 0.
+-- The multiple by the digits passed so far: what the loop over a scalar's digits keeps, from the highest digit to the lowest. Gives also the answer for 0 and the answer at
+-- the end with their counts, for either engine (`by-none`, `by-some`).
 use Prim.Native.Nat.{ℕ, _-_, _≤_, _<_}
 use mathlib.Core.Path.{_≡_, sym, ap, _∙_, subst}
 use mathlib.Core.List.{List}
@@ -14,8 +15,9 @@ use Rattle.curve.specs.declared.Curve.{Curve}
 use Rattle.curve.specs.Curves.{curveOf, Sound, Holds, Gives}
 use Rattle.scalar.specs.declared.Digits.{Digits}
 use Rattle.scalar.specs.Recoded.{upper, Recoded}
-use Rattle.multiple_affine.specs.promise.Contracts.{Stepped}
-use Rattle.multiple_affine.proofs.promise.Counted.{none}
+use Rattle.multiple_affine.specs.declared.promise.Multiple.{Multiple}
+use Rattle.multiple_affine.specs.promise.Contracts.{Stepped, Multiplied}
+use Rattle.multiple_affine.proofs.promise.Counted.{doublings-are, additions-are, none, no-nonzeros}
 use Rattle.scalar.proofs.Upper.{upper-more, upper-all, upper-first}
 use Rattle.multiple_affine.proofs.promise.Folds.{zero-fold, itself}
 
@@ -35,8 +37,18 @@ module _ (c : Curve) (a : Divisor) where
     pub end : (r : Divisor) (k : ℕ) → Multiplying c a (x .at) (x .length) r k → k ≤ 0 → Gives c r (multiple (curveOf c) n (pair (c .m) a))
     end r k v z = same r (ap (upper (x .at)) {x = k} {y = 0} (omega arith) ∙ upper-all n x h) (v .gives)
 
-    pub nothing : Sound c → Holds c a → x .length ≡ 0 → Gives c Neutral (multiple (curveOf c) n (pair (c .m) a))
+    nothing : Sound c → Holds c a → x .length ≡ 0 → Gives c Neutral (multiple (curveOf c) n (pair (c .m) a))
     nothing sound holds e = same Neutral (ap pos (sym (none n (x .length) (h .length-is) e))) (zero-fold c sound a holds)
+
+    pub by-none : Sound c → Holds c a → x .length ≡ 0 → {r : Divisor} → r ≡ Neutral → Multiplied c a n (record { divisor = r; doublings = 0; additions = 0 })
+    by-none sound holds e i = record {
+      gives = rw i (nothing sound holds e);
+      doublings-is = omega (arith, doublings-are n (x .length) (h .length-is));
+      additions-is = omega (arith, additions-are n (x .nonzeros) (h .nonzeros-is), no-nonzeros n (x .length) (x .nonzeros) (h .length-is) e (h .nonzeros-is));
+    }
+
+    pub by-some : {r : Divisor} → Gives c r (multiple (curveOf c) n (pair (c .m) a)) → Multiplied c a n (record { divisor = r; doublings = x .length - 1; additions = x .nonzeros - 1 })
+    by-some g = record { gives = g; doublings-is = sym (doublings-are n (x .length) (h .length-is)); additions-is = sym (additions-are n (x .nonzeros) (h .nonzeros-is)) }
 
   pub turn : (d : List ℕ) (l : ℕ) (r t : Divisor) (k : ℕ) → Multiplying c a d l r k → 0 < k → k ≤ length d → Stepped c a r (getD d (k - 1) 0) t → Multiplying c a d l t (k - 1)
   turn d l r t k v more room s = record {
