@@ -2,12 +2,10 @@
 // whether they are square-free. Input and expected text are made by tools/make/poly_vectors.py, which shares no code with this.
 // A number is 4 bytes, the highest first. A pair is p, then each polynomial: its length, its coefficients.
 ghost use Prim.Native.Nat.{_+_, _<_, _≤_};
-ghost use Rattle.field.specs.Residues.{Good, Kept};
+ghost use Rattle.field.specs.Residues.{Good};
 ghost use Rattle.poly.specs.Polys.{Ok};
 use field::Modulus;
 use field::ModulusRead;
-use field::Residue;
-use field::ResidueRead;
 use poly::Poly;
 
 const OUT: i32 = 1;
@@ -36,16 +34,6 @@ fn length(s: &[u8], at: usize) -> usize
     0
 }
 
-fn residue(x: u64, m: Modulus) -> Residue
-    requires { ⌜ Good m ⌝ }
-    ensures { λ r. ⌜ Kept m r ⌝ }
-{
-    match Residue::read(x, m) {
-        ResidueRead::Below(r) => r,
-        ResidueRead::TooLarge => Residue::one(m),
-    }
-}
-
 fn read_poly(s: &[u8], at: usize, m: Modulus) -> Poly
     requires { ⌜ Good m × (at ≤ 100000) ⌝ }
     ensures { λ r. ⌜ Ok m r ⌝ }
@@ -54,7 +42,7 @@ fn read_poly(s: &[u8], at: usize, m: Modulus) -> Poly
     let mut r = Poly::zero(m);
     let mut k: usize = 0;
     while k < n {
-        let x = residue(number(s, at + 4 * (k + 1)), m);
+        let x = test_text::numbers::residue(number(s, at + 4 * (k + 1)), m);
         r = r.put(k, x, m);
         k += 1;
     }

@@ -4,7 +4,6 @@ ghost use Rattle.field.specs.Constants.{Odd};
 ghost use Rattle.field.specs.Residues.{Ring, Kept};
 use field::Modulus;
 use field::Residue;
-use field::ResidueRead;
 
 fn last(r: Residue, m: Modulus)
     requires { ⌜ Kept m r ⌝ }
@@ -12,22 +11,12 @@ fn last(r: Residue, m: Modulus)
     crate::line(r.settle(m).number(m));
 }
 
-fn unit(n: u64, m: Modulus) -> Residue
-    requires { ⌜ Ring m ⌝ }
-    ensures { λ r. ⌜ Kept m r ⌝ }
-{
-    match Residue::read(n, m) {
-        ResidueRead::Below(x) => x,
-        ResidueRead::TooLarge => Residue::one(m),
-    }
-}
-
 // The k-th operand, where n is 2^-64 modulo p: x holds 1, y 2p - 1, z 0, w p, v p + 1.
 fn operand(k: usize, n: u64, m: Modulus) -> Residue
     requires { ⌜ Ring m ⌝ }
     ensures { λ r. ⌜ Kept m r ⌝ }
 {
-    let x = unit(n, m);
+    let x = test_text::numbers::residue(n, m);
     let y = x.neg(m);
     let z = x.sub(x, m);
     let w = z.mul(z, m);

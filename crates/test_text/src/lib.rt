@@ -3,6 +3,7 @@
 ghost use Prim.Native.Nat.{_<_};
 
 pub mod frames;
+pub mod numbers;
 
 fn put(text: &mut [u8], at: usize, b: u8) -> usize {
     if at < text.len() {

@@ -12,7 +12,6 @@ use divisor::Quadratic;
 use field::Modulus;
 use field::ModulusRead;
 use field::Residue;
-use field::ResidueRead;
 use multiple_tuple::Tuple;
 
 const OUT: i32 = 1;
@@ -22,22 +21,12 @@ const MOST: usize = 65536;
 
 const ROW: usize = 56;
 
-fn residue(x: u64, m: Modulus) -> Residue
-    requires { ⌜ Good m ⌝ }
-    ensures { λ r. ⌜ Settled m r ⌝ }
-{
-    match Residue::read(x, m) {
-        ResidueRead::Below(r) => r,
-        ResidueRead::TooLarge => Residue::one(m),
-    }
-}
-
 // The residue at place k of a row.
 fn number(s: &[u8], k: usize, m: Modulus) -> Residue
     requires { ⌜ Good m × (length (now s) ≡ 56) × (k ≤ 13) ⌝ }
     ensures { λ r. ⌜ Settled m r ⌝ }
 {
-    residue(record_bytes::read32(s, 4 * k), m)
+    test_text::numbers::residue(record_bytes::read32(s, 4 * k), m)
 }
 
 fn tuple(s: &[u8], k: usize, m: Modulus) -> Tuple

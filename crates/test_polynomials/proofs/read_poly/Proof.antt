@@ -33,10 +33,10 @@ number-requires : tie.Need-number-requires Inv-loop μ-loop
 number-requires c κs = search needs
 
 residue-requires : tie.Need-residue-requires Inv-loop μ-loop
-residue-requires c κs = c .before .before .before .before .before .before .pre .0
+residue-requires c κs = c .before .before .before .before .before .before .pre .0 .ring
 
 put-requires : tie.Need-put-requires Inv-loop μ-loop
-put-requires c κs = record { left = c .before .before .before .loop .inv .0; fits = omega (arith, c .before .before .before .before .before .length .ensures, c .before .before .loop-test .taken); term = c .residue .ensures }
+put-requires c κs = record { left = c .before .before .before .loop .inv .0; fits = omega (arith, c .before .before .before .before .before .length .ensures, c .before .before .loop-test .taken); term = c .residue .ensures .1 }
 
 add-k : tie.Need-add-k Inv-loop μ-loop
 add-k c = search needs

@@ -1,9 +1,9 @@
-use mathlib.Core.Path.{subst}
-use Rattle.field.specs.declared.ResidueRead.{ResidueRead}
-use Rattle.field.specs.Read.{ResidueIs}
+use mathlib.Core.Path.{refl}
+use Rattle.field.proofs.Laws.{settled-kept}
+use Rattle.field.proofs.Read.{read-below}
 use borrow.Author.Needs.{needs}
-use Rattle.test_tuples.proofs.residue.Statement.{statement}
-use Rattle.test_tuples.proofs.residue.Tie as tie
+use Rattle.test_text.proofs.numbers.residue.Statement.{statement}
+use Rattle.test_text.proofs.numbers.residue.Tie as tie
 
 read-requires : tie.Need-read-requires
 read-requires c κs = search needs
@@ -18,10 +18,10 @@ one-requires : tie.Need-one-requires
 one-requires c κs = search needs
 
 returns : tie.Need-returns
-returns c = let s = c .before .before .before .before in (subst (λ (r : ResidueRead). ResidueIs (s .args .m) (s .args .x) r) (c .before .r .given .1) (c .before .before .before .read .ensures)) .1 .settled
+returns c = let s = read-below _ _ _ _ _ (c .before .before .before .read .ensures) (c .before .r .given .1) refl .1 .settled in (s, settled-kept _ s)
 
 returns-2 : tie.Need-returns-2
-returns-2 c = search needs
+returns-2 c = (c .one .ensures .settled, settled-kept _ (c .one .ensures .settled))
 
 pub residue-spec : {M : Type 1} → statement M
 residue-spec =
