@@ -169,6 +169,15 @@ impl Curve {
     // With a witness that p is prime.
     pub const VERSION_WITNESSED: u64 = 2;
 
+    // Where g, p, f_0 and f_5 stand in it.
+    pub const GENUS_AT: usize = 5;
+
+    pub const PRIME_AT: usize = 6;
+
+    pub const LOW_AT: usize = 14;
+
+    pub const HIGH_AT: usize = 54;
+
     // Whether u divides f - v * v.
     pub fn contains(self, d: Divisor) -> bool
         requires { ⌜ Sound self × (Held (self .m) d × (weightOf d ≤ self .g)) ⌝ }

@@ -14,8 +14,8 @@ fn read_coefficients(s: &[u8], g: usize, m: Modulus) -> CurveRead
     requires { ⌜ ToRead (now s) g m ⌝ }
     ensures { λ r. ⌜ CoefficientsIs (now (s .entry)) g m r ⌝ }
 {
-    let low = record_numbers::residues_at(s, 14, 5, m);
-    let high = record_numbers::residues_at(s, 54, 2 * g - 4, m);
+    let low = record_numbers::residues_at(s, Curve::LOW_AT, 5, m);
+    let high = record_numbers::residues_at(s, Curve::HIGH_AT, 2 * g - 4, m);
     let l = low.r;
     let h = high.r;
     let c = Curve {
@@ -48,7 +48,11 @@ pub fn read_curve(s: &[u8]) -> CurveRead
         return CurveRead::Refused(number);
     }
     match record_curve_prime::read_prime(s) {
-        PrimeRead::Modulo(m) => read_coefficients(s, record_bytes::wide(s[5]) as usize, m),
+        PrimeRead::Modulo(m) => read_coefficients(
+            s,
+            record_bytes::wide(s[Curve::GENUS_AT]) as usize,
+            m,
+        ),
         PrimeRead::Refused(n) => CurveRead::Refused(n),
     }
 }

@@ -29,7 +29,7 @@ fn plain_length(s: &[u8]) -> u64
     requires { ⌜ Begun (now s) × (version-of (now s) ≡ 1) ⌝ }
     ensures { λ r. ⌜ HeadIs (now (s .entry)) r ⌝ }
 {
-    let g = record_bytes::wide(s[5]) as usize;
+    let g = record_bytes::wide(s[Curve::GENUS_AT]) as usize;
     if s.len() != 22 + 16 * g {
         return refusals::CURVE_LENGTH;
     }
@@ -41,7 +41,7 @@ fn witness_length(s: &[u8]) -> u64
     requires { ⌜ Begun (now s) × (version-of (now s) ≡ 1 → ⊥) ⌝ }
     ensures { λ r. ⌜ HeadIs (now (s .entry)) r ⌝ }
 {
-    let g = record_bytes::wide(s[5]) as usize;
+    let g = record_bytes::wide(s[Curve::GENUS_AT]) as usize;
     if s.len() < 31 + 16 * g {
         return refusals::CURVE_LENGTH;
     }
@@ -72,7 +72,7 @@ pub fn head_number(s: &[u8]) -> u64
     if !is_version(version) {
         return refusals::VERSION;
     }
-    if !is_genus(record_bytes::wide(s[5])) {
+    if !is_genus(record_bytes::wide(s[Curve::GENUS_AT])) {
         return refusals::GENUS;
     }
     if version == Curve::VERSION {

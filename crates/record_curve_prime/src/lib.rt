@@ -22,7 +22,7 @@ fn by_trial(s: &[u8]) -> PrimeRead
     requires { ⌜ Headed (now s) × (version-of (now s) ≡ 1) ⌝ }
     ensures { λ r. ⌜ PrimeIs (now (s .entry)) r ⌝ }
 {
-    match Modulus::read(record_bytes::read64(s, 6)) {
+    match Modulus::read(record_bytes::read64(s, Curve::PRIME_AT)) {
         ModulusRead::Modulo(m) => PrimeRead::Modulo(m),
         ModulusRead::NoPrime => PrimeRead::Refused(refusals::PRIME),
     }
@@ -62,11 +62,11 @@ fn by_witness(s: &[u8]) -> PrimeRead
     requires { ⌜ Headed (now s) × (version-of (now s) ≡ 1 → ⊥) ⌝ }
     ensures { λ r. ⌜ PrimeIs (now (s .entry)) r ⌝ }
 {
-    let p = record_bytes::read64(s, 6);
+    let p = record_bytes::read64(s, Curve::PRIME_AT);
     if !is_odd_number(p) {
         return PrimeRead::Refused(refusals::PRIME);
     }
-    let g = record_bytes::wide(s[5]) as usize;
+    let g = record_bytes::wide(s[Curve::GENUS_AT]) as usize;
     let k = record_bytes::wide(s[30 + 16 * g]) as usize;
     let a = record_bytes::read64(s, 22 + 16 * g);
     if a < 1 {
