@@ -8,7 +8,7 @@ use Rattle.algebra.proofs.poly.Term.{C}
 use Rattle.algebra.proofs.list.Value.{pol, mon}
 use Rattle.field.specs.declared.Modulus.{Modulus}
 use Rattle.field.specs.declared.Residue.{Residue}
-use Rattle.field.specs.Residues.{el, Kept}
+use Rattle.field.specs.Residues.{el, Kept, Stands, Settles}
 use Rattle.divisor.specs.declared.Cubic.{Cubic}
 use Rattle.divisor.specs.declared.Divisor.the-variants.{Three}
 use Rattle.divisor.specs.Divisors.{Held}
@@ -92,15 +92,41 @@ module _ (m : Modulus) where
     pub kept : KeptFour n
     pub tops : Below (K m) 3 (coef (K m) (slopeOf x ⊗ (z ⊕ cst (x .wi) ⊗ twice m a) ⊖ cst (x .wi) ⊗ (cst (x .wi) ⊗ topOf f6 a) ⊖ uOf m b ⊗ quarticOf n))
 
+  -- n's coefficients 1 and 0, each from those above it; d is 2·v2
+  abbrev pub Quotient1 : Cubic → Slope → Five → Residue → Residue → Residue → Residue → Type 0
+  Quotient1 b x z d n2 n3 n1 = Stands m n1 (el m (z .c2) + neg (el m (b .u0)) + (el m (x .s0) * el m (z .c4) + el m (x .s1) * el m (z .c3)) + neg (el m (b .u2) * el m n2 + el m (b .u1) * el m n3) + el m (x .wi) * (el m d + neg (el m (x .wi))))
+
+  abbrev pub Quotient0 : Residue → Cubic → Cubic → Slope → Five → Residue → Residue → Residue → Residue → Residue → Type 0
+  Quotient0 f6 a b x z d n1 n2 n3 n0 = Stands m n0 (el m (z .c1) + (el m (x .s0) * el m (z .c3) + neg (el m (b .u1) * el m n2)) + (el m (x .s1) * el m (z .c2) + el m (x .wi) * (el m d * el m (x .s1) + el m (x .wi) * (el m (a .u2) + neg (el m f6)) + (el m (a .v1) + el m (a .v1)))) + neg (el m (b .u2) * el m n1 + el m (b .u0) * el m n3))
+
+  -- (S·2v - ((f - v²)/u)/w)/u at place 0
+  abbrev pub OverU : Residue → Cubic → Slope → Residue → Residue → Type 0
+  OverU f6 a x d q = Stands m q ((el m (x .s1) + neg (el m (a .u2))) * el m d + el m (x .wi) * (el m (a .u2) + el m (a .u2) + neg (el m f6)) + (el m (a .v1) + el m (a .v1)))
+
   -- v + s·u modulo n
   pub record Rest (a : Cubic) (x : Slope) (z : Five) (n t : Four) : Type 0 where
     pub kept : KeptFour t
     pub q : P
     pub is : vOf m a ⊕ cst (x .w) ⊗ quinticOf z ≡ q ⊗ quarticOf n ⊕ fourOf t
 
+  -- the coefficient 0 of (f - t²)/n, from t1 = 2·t3 and those above it
+  abbrev pub SecondU0 : Four → Four → Residue → Residue → Residue → Residue → Residue → Type 0
+  SecondU0 n t t1 e1 e2 f4 e0 = Settles m e0 (el m f4 + neg (el m (n .c1)) + neg (el m (t .c2) * el m (t .c2) + el m e2 * el m (n .c2)) + neg (el m e1 * el m (n .c3) + el m t1 * el m (t .c1)))
+
+  -- u is x³ + e2 x² + .., v is t modulo u
+  pub record SecondV (e0 e1 e2 : Residue) (t : Four) (d : Cubic) : Type 0 where
+    pub held : Held m (Three d)
+    pub u : uOf m d ≡ mon (K m) (el m e0 ∷ el m e1 ∷ el m e2 ∷ [])
+    pub q : P
+    pub is : fourOf t ≡ q ⊗ uOf m d ⊕ vOf m d
+
+  -- p is (f - t²)/n from place 4 on
+  abbrev pub SecondTops : Four → Four → Residue → Residue → Residue → P → Type 0
+  SecondTops n t f4 f5 f6 p = (g0 g1 g2 g3 : A) → Below (K m) 4 (coef (K m) (fWith m g0 g1 g2 g3 f4 f5 f6 ⊖ fourOf t ⊗ fourOf t ⊖ quarticOf n ⊗ p))
+
   -- (f - t²)/n, and t modulo it
   pub record Second (n t : Four) (f4 f5 f6 : Residue) (d : Cubic) : Type 0 where
     pub held : Held m (Three d)
-    pub tops : (g0 g1 g2 g3 : A) → Below (K m) 4 (coef (K m) (fWith m g0 g1 g2 g3 f4 f5 f6 ⊖ fourOf t ⊗ fourOf t ⊖ quarticOf n ⊗ uOf m d))
+    pub tops : SecondTops n t f4 f5 f6 (uOf m d)
     pub q : P
     pub is : fourOf t ≡ q ⊗ uOf m d ⊕ vOf m d

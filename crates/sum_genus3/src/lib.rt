@@ -7,10 +7,11 @@
 // With `sum_genus3_open` a sum takes 73 products and 5 squares under 47 reductions, a double 67 and 9 under 48: schoolbook, by twos under one reduction, where
 // Toom's 70 products each want their own. One inverse stands between `chord` and `close`, so that sums side by side can share it.
 ghost use Rattle.algebra.proofs.poly.Poly.{poly};
-ghost use Rattle.field.specs.Residues.{Good, Kept};
+ghost use Rattle.field.specs.Residues.{Good, Kept, Settled};
 ghost use Rattle.divisor.specs.Divisors.{Held};
 ghost use Rattle.sum_genus3_open.specs.Opens.{K, uOf};
-ghost use Rattle.sum_genus3.specs.Steps.{KeptFour, KeptFive, KeptSlope, quinticOf, slopeOf, Divisible, Slopes, Stretched, Quotient, Rest, Second};
+ghost use Rattle.sum_genus3.specs.Steps.{KeptFour, KeptFive, KeptSlope, quinticOf, slopeOf, Divisible, Slopes, Stretched};
+ghost use Rattle.sum_genus3.specs.Steps.{Quotient1, Quotient0, Quotient, OverU, Rest, SecondU0, SecondV, Second};
 ghost use Rattle.sum_genus3.specs.Sums.{Closes, Sum3, Double3};
 use divisor::Cubic;
 use divisor::Divisor;
@@ -82,6 +83,49 @@ fn stretch(a: Cubic, x: Slope, m: Modulus) -> Five
     }
 }
 
+// The first quotient's coefficient 1, from d = 2 v2 and the two above it.
+fn quotient_1(
+    b: Cubic,
+    x: Slope,
+    z: Five,
+    d: Residue,
+    n2: Residue,
+    n3: Residue,
+    m: Modulus,
+) -> Residue
+    requires { ⌜ Held m (Divisor.Three b) × (KeptSlope m x × (KeptFive m z × (Kept m d × (Kept m n2 × Kept m n3)))) ⌝ }
+    ensures { λ n1. ⌜ Quotient1 m b x z d n2 n3 n1 ⌝ }
+{
+    z.c2
+        .sub(b.u0, m)
+        .add(x.s0.dot(z.c4, x.s1, z.c3, m), m)
+        .sub(b.u2.dot(n2, b.u1, n3, m), m)
+        .add(x.wi.mul_diff(d, x.wi, m), m)
+}
+
+// Its coefficient 0, from the three above it; q is S · 2v - (f - v²) / (u · w) at place 3.
+fn quotient_0(
+    a: Cubic,
+    b: Cubic,
+    x: Slope,
+    z: Five,
+    f6: Residue,
+    d: Residue,
+    n1: Residue,
+    n2: Residue,
+    n3: Residue,
+    m: Modulus,
+) -> Residue
+    requires { ⌜ Held m (Divisor.Three a) × (Held m (Divisor.Three b) × (KeptSlope m x × (KeptFive m z × (Kept m f6 × (Kept m d × (Kept m n1 × (Kept m n2 × Kept m n3))))))) ⌝ }
+    ensures { λ n0. ⌜ Quotient0 m f6 a b x z d n1 n2 n3 n0 ⌝ }
+{
+    let q = d.dot(x.s1, x.wi, a.u2.sub(f6, m), m).add(a.v1.dbl(m), m);
+    z.c1
+        .add(x.s0.cross(z.c3, b.u1, n2, m), m)
+        .add(x.s1.dot(z.c2, x.wi, q, m), m)
+        .sub(b.u2.dot(n1, b.u0, n3, m), m)
+}
+
 // The first quotient, from the top down, in the right order. What is divided is known to be a multiple, so its top coefficients are enough.
 fn new_u(a: Cubic, b: Cubic, x: Slope, z: Five, f6: Residue, m: Modulus) -> Four
     requires { ⌜ Held m (Divisor.Three a) × (Held m (Divisor.Three b) × (KeptSlope m x × (KeptFive m z × Kept m f6))) ⌝ }
@@ -91,22 +135,25 @@ fn new_u(a: Cubic, b: Cubic, x: Slope, z: Five, f6: Residue, m: Modulus) -> Four
     let t5 = x.s1.cross(z.c4, b.u2, n3, m);
     let n2 = z.c3.add(x.s0, m).add(t5, m).sub(b.u1, m);
     let d = a.v2.dbl(m);
-    let n1 = z.c2
-        .sub(b.u0, m)
-        .add(x.s0.dot(z.c4, x.s1, z.c3, m), m)
-        .sub(b.u2.dot(n2, b.u1, n3, m), m)
-        .add(x.wi.mul_diff(d, x.wi, m), m);
-    let q = d.dot(x.s1, x.wi, a.u2.sub(f6, m), m).add(a.v1.dbl(m), m);
-    let n0 = z.c1
-        .add(x.s0.cross(z.c3, b.u1, n2, m), m)
-        .add(x.s1.dot(z.c2, x.wi, q, m), m)
-        .sub(b.u2.dot(n1, b.u0, n3, m), m);
+    let n1 = quotient_1(b, x, z, d, n2, n3, m);
+    let n0 = quotient_0(a, b, x, z, f6, d, n1, n2, n3, m);
     Four {
         c0: n0,
         c1: n1,
         c2: n2,
         c3: n3,
     }
+}
+
+// S · 2v - (f - v²) / (u · w) over u, at place 0; d is 2 v2.
+fn over_u(a: Cubic, x: Slope, d: Residue, f6: Residue, m: Modulus) -> Residue
+    requires { ⌜ Held m (Divisor.Three a) × (KeptSlope m x × (Kept m d × Kept m f6)) ⌝ }
+    ensures { λ q. ⌜ OverU m f6 a x d q ⌝ }
+{
+    x.s1
+        .sub(a.u2, m)
+        .dot(d, x.wi, a.u2.dbl(m).sub(f6, m), m)
+        .add(a.v1.dbl(m), m)
 }
 
 // The same of a pair with itself: S² is divided off.
@@ -118,10 +165,7 @@ fn new_u_twice(a: Cubic, x: Slope, f6: Residue, m: Modulus) -> Four
     let n2 = x.s1.sqr(m).add(x.s0.dbl(m), m);
     let d = a.v2.dbl(m);
     let n1 = n3.dot(x.s0, x.wi, d.sub(x.wi, m), m);
-    let q = x.s1
-        .sub(a.u2, m)
-        .dot(d, x.wi, a.u2.dbl(m).sub(f6, m), m)
-        .add(a.v1.dbl(m), m);
+    let q = over_u(a, x, d, f6, m);
     let n0 = x.s0.dot(x.s0, x.wi, q, m);
     Four {
         c0: n0,
@@ -149,18 +193,30 @@ fn new_v(a: Cubic, x: Slope, z: Five, n: Four, m: Modulus) -> Four
     }
 }
 
-// The second step, settled: u = (f - t²) / n, v = t modulo u.
-fn second(n: Four, t: Four, f4: Residue, f5: Residue, f6: Residue, m: Modulus) -> Cubic
-    requires { ⌜ Good m × (KeptFour m n × (KeptFour m t × (Kept m f4 × (Kept m f5 × Kept m f6)))) ⌝ }
-    ensures { λ d. ⌜ Second m n t f4 f5 f6 d ⌝ }
+// The second u's coefficient 0, from t1 = 2 t3 and the two above it.
+fn second_u0(
+    n: Four,
+    t: Four,
+    t1: Residue,
+    e1: Residue,
+    e2: Residue,
+    f4: Residue,
+    m: Modulus,
+) -> Residue
+    requires { ⌜ KeptFour m n × (KeptFour m t × (Kept m t1 × (Kept m e1 × (Kept m e2 × Kept m f4)))) ⌝ }
+    ensures { λ e0. ⌜ SecondU0 m n t t1 e1 e2 f4 e0 ⌝ }
 {
-    let t1 = t.c3.dbl(m);
-    let e2 = f6.sub(n.c3.add(t.c3.sqr(m), m), m).settle(m);
-    let e1 = f5.sub(n.c2, m).sub(e2.dot(n.c3, t1, t.c2, m), m).settle(m);
-    let e0 = f4.sub(n.c1, m)
+    f4.sub(n.c1, m)
         .sub(t.c2.dot(t.c2, e2, n.c2, m), m)
         .sub(e1.dot(n.c3, t1, t.c1, m), m)
-        .settle(m);
+        .settle(m)
+}
+
+// u with v = t modulo u.
+fn second_v(e0: Residue, e1: Residue, e2: Residue, t: Four, m: Modulus) -> Cubic
+    requires { ⌜ Good m × (Settled m e0 × (Settled m e1 × (Settled m e2 × KeptFour m t))) ⌝ }
+    ensures { λ d. ⌜ SecondV m e0 e1 e2 t d ⌝ }
+{
     let q2 = t.c2.sub(e2.mul(t.c3, m), m).settle(m);
     let q1 = t.c1.sub(e1.mul(t.c3, m), m).settle(m);
     let q0 = t.c0.sub(e0.mul(t.c3, m), m).settle(m);
@@ -172,6 +228,18 @@ fn second(n: Four, t: Four, f4: Residue, f5: Residue, f6: Residue, m: Modulus) -
         v1: q1,
         v2: q2,
     }
+}
+
+// The second step, settled: u = (f - t²) / n, v = t modulo u.
+fn second(n: Four, t: Four, f4: Residue, f5: Residue, f6: Residue, m: Modulus) -> Cubic
+    requires { ⌜ Good m × (KeptFour m n × (KeptFour m t × (Kept m f4 × (Kept m f5 × Kept m f6)))) ⌝ }
+    ensures { λ d. ⌜ Second m n t f4 f5 f6 d ⌝ }
+{
+    let t1 = t.c3.dbl(m);
+    let e2 = f6.sub(n.c3.add(t.c3.sqr(m), m), m).settle(m);
+    let e1 = f5.sub(n.c2, m).sub(e2.dot(n.c3, t1, t.c2, m), m).settle(m);
+    let e0 = second_u0(n, t, t1, e1, e2, f4, m);
+    second_v(e0, e1, e2, t, m)
 }
 
 // The sum of a and b from their r and s', given i = 1 / (r · s'2).

@@ -1,5 +1,4 @@
 use mathlib.Core.Path.{sym, subst}
-use borrow.Author.Needs.{needs}
 use Rattle.algebra.proofs.poly.Poly.{poly}
 use Rattle.sum_genus3_open.specs.Opens.{K}
 use Rattle.sum_genus3.specs.Steps.{Quotient}
@@ -8,10 +7,10 @@ use Rattle.sum_genus3.proofs.close.Statement.{statement}
 use Rattle.sum_genus3.proofs.close.Tie as tie
 
 divide-requires : tie.Need-divide-requires
-divide-requires c κs = search needs
+divide-requires c κs = c .pre .1 .1 .0
 
 stretch-requires : tie.Need-stretch-requires
-stretch-requires c κs = search needs
+stretch-requires c κs = (c .before .pre .0, c .divide .ensures .kept)
 
 new-u-requires : tie.Need-new-u-requires
 new-u-requires c κs =
@@ -19,7 +18,7 @@ new-u-requires c κs =
     (s .pre .0, (s .pre .1 .0, (c .before .divide .ensures .kept, (c .stretch .ensures .kept, s .pre .1 .1 .1 .1 .1))))
 
 new-v-requires : tie.Need-new-v-requires
-new-v-requires c κs = search needs
+new-v-requires c κs = (c .before .before .before .pre .0, (c .before .before .divide .ensures .kept, (c .before .stretch .ensures .kept, c .new-u .ensures .kept)))
 
 second-requires : tie.Need-second-requires
 second-requires c κs =

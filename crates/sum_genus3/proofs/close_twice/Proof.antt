@@ -1,22 +1,21 @@
-use borrow.Author.Needs.{needs}
 use Rattle.sum_genus3.proofs.Ends.{ends}
 use Rattle.sum_genus3.proofs.close_twice.Statement.{statement}
 use Rattle.sum_genus3.proofs.close_twice.Tie as tie
 
 divide-requires : tie.Need-divide-requires
-divide-requires c κs = search needs
+divide-requires c κs = c .pre .1 .0
 
 stretch-requires : tie.Need-stretch-requires
-stretch-requires c κs = search needs
+stretch-requires c κs = (c .before .pre .0, c .divide .ensures .kept)
 
 new-u-twice-requires : tie.Need-new-u-twice-requires
-new-u-twice-requires c κs = search needs
+new-u-twice-requires c κs = let s = c .before .before in (s .pre .0, (c .before .divide .ensures .kept, s .pre .1 .1 .1 .1))
 
 new-v-requires : tie.Need-new-v-requires
-new-v-requires c κs = search needs
+new-v-requires c κs = (c .before .before .before .pre .0, (c .before .before .divide .ensures .kept, (c .before .stretch .ensures .kept, c .new-u-twice .ensures .kept)))
 
 second-requires : tie.Need-second-requires
-second-requires c κs = search needs
+second-requires c κs = let s = c .before .before .before .before in (s .pre .0 .good, (c .before .new-u-twice .ensures .kept, (c .new-v .ensures .kept, s .pre .1 .1)))
 
 returns : tie.Need-returns
 returns c =

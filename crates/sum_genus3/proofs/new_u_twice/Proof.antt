@@ -1,7 +1,7 @@
-use mathlib.Core.Path.{refl, ap₂, _∙_}
 use Rattle.algebra.proofs.zmod.Zmod.{zmod}
 use Rattle.field.proofs.Laws.{settled-kept}
 use Rattle.sum_formulas.proofs.Close3.{quotient-twice}
+use Rattle.sum_genus3.proofs.Chains.{dot-last, plus}
 use Rattle.sum_genus3.proofs.new_u_twice.Statement.{statement}
 use Rattle.sum_genus3.proofs.new_u_twice.Tie as tie
 
@@ -26,42 +26,27 @@ sub-requires c κs = let s = c .before .before .before .before .before in (c .db
 dot-requires : tie.Need-dot-requires
 dot-requires c κs = let s = c .before .before .before .before .before .before in (c .before .before .before .before .before .dbl .ensures .kept, s .pre .1 .0 .s0, s .pre .1 .0 .wi, c .sub .ensures .kept)
 
-sub-requires-2 : tie.Need-sub-requires-2
-sub-requires-2 c κs = let s = c .before .before .before .before .before .before .before in (s .pre .1 .0 .s1, settled-kept (s .args .m) (s .pre .0 .u .1 .1 .0))
-
-dbl-requires-4 : tie.Need-dbl-requires-4
-dbl-requires-4 c κs = let s = c .before .before .before .before .before .before .before .before in settled-kept (s .args .m) (s .pre .0 .u .1 .1 .0)
-
-sub-requires-3 : tie.Need-sub-requires-3
-sub-requires-3 c κs = let s = c .before .before .before .before .before .before .before .before .before in (c .dbl4 .ensures .kept, s .pre .1 .1)
+over-u-requires : tie.Need-over-u-requires
+over-u-requires c κs = let s = c .before .before .before .before .before .before .before in (s .pre .0, (s .pre .1 .0, (c .before .before .dbl3 .ensures .kept, s .pre .1 .1)))
 
 dot-requires-2 : tie.Need-dot-requires-2
-dot-requires-2 c κs = let s = c .before .before .before .before .before .before .before .before .before .before in (c .before .before .sub2 .ensures .kept, c .before .before .before .before .before .dbl3 .ensures .kept, s .pre .1 .0 .wi, c .sub3 .ensures .kept)
-
-dbl-requires-5 : tie.Need-dbl-requires-5
-dbl-requires-5 c κs = let s = c .before .before .before .before .before .before .before .before .before .before .before in settled-kept (s .args .m) (s .pre .0 .v .1 .0)
-
-add-requires-2 : tie.Need-add-requires-2
-add-requires-2 c κs = (c .before .dot2 .ensures .kept, c .dbl5 .ensures .kept)
-
-dot-requires-3 : tie.Need-dot-requires-3
-dot-requires-3 c κs = let s = c .before .before .before .before .before .before .before .before .before .before .before .before .before in (s .pre .1 .0 .s0, s .pre .1 .0 .s0, s .pre .1 .0 .wi, c .add2 .ensures .kept)
+dot-requires-2 c κs = let s = c .before .before .before .before .before .before .before .before in (s .pre .1 .0 .s0, s .pre .1 .0 .s0, s .pre .1 .0 .wi, c .over-u .ensures .kept)
 
 returns : tie.Need-returns
 returns c =
-    let s = c .before .before .before .before .before .before .before .before .before .before .before .before .before .before in
+    let s = c .before .before .before .before .before .before .before .before .before in
     let K = zmod (s .args .m .p) in
     record {
-      kept = record { c0 = c .dot3 .ensures .kept; c1 = c .before .before .before .before .before .before .before .dot .ensures .kept; c2 = c .before .before .before .before .before .before .before .before .before .before .add .ensures .kept; c3 = c .before .before .before .before .before .before .before .before .before .before .before .before .before .dbl .ensures .kept };
+      kept = record { c0 = c .dot2 .ensures .kept; c1 = c .before .before .dot .ensures .kept; c2 = c .before .before .before .before .before .add .ensures .kept; c3 = c .before .before .before .before .before .before .before .before .dbl .ensures .kept };
       tops = quotient-twice K _ _ _ _ _ _ _ _ _ _ _ _ _ _ _ _
-          (c .before .before .before .before .before .before .before .before .before .before .before .before .before .dbl .ensures .is)
-          (c .before .before .before .before .before .before .before .before .before .before .add .ensures .is ∙ ap₂ (K .add) (c .before .before .before .before .before .before .before .before .before .before .before .before .sqr .ensures .is) (c .before .before .before .before .before .before .before .before .before .before .before .dbl2 .ensures .is))
-          (c .before .before .before .before .before .before .before .before .before .dbl3 .ensures .is)
-          (c .before .before .before .before .before .before .before .dot .ensures .is ∙ ap₂ (K .add) refl (ap₂ (K .mul) refl (c .before .before .before .before .before .before .before .before .sub .ensures .is)))
-          (c .before .add2 .ensures .is ∙ ap₂ (K .add) (c .before .before .before .dot2 .ensures .is ∙ ap₂ (K .add) (ap₂ (K .mul) (c .before .before .before .before .before .before .sub2 .ensures .is) refl) (ap₂ (K .mul) refl (c .before .before .before .before .sub3 .ensures .is ∙ ap₂ (λ s t. K .add s (K .neg t)) (c .before .before .before .before .before .dbl4 .ensures .is) refl))) (c .before .before .dbl5 .ensures .is))
-          (c .dot3 .ensures .is);
+          (c .before .before .before .before .before .before .before .before .dbl .ensures .is)
+          (plus K _ _ _ _ _ (c .before .before .before .before .before .before .before .sqr .ensures .is) (c .before .before .before .before .before .before .dbl2 .ensures .is) (c .before .before .before .before .before .add .ensures .is))
+          (c .before .before .before .before .dbl3 .ensures .is)
+          (dot-last K _ _ _ _ _ _ (c .before .before .before .sub .ensures .is) (c .before .before .dot .ensures .is))
+          (c .before .over-u .ensures .is)
+          (c .dot2 .ensures .is);
     }
 
 pub new-u-twice-spec : {M : Type 1} → statement M
 new-u-twice-spec =
-    tie.close (tie.spec dbl-requires sqr-requires dbl-requires-2 add-requires dbl-requires-3 sub-requires dot-requires sub-requires-2 dbl-requires-4 sub-requires-3 dot-requires-2 dbl-requires-5 add-requires-2 dot-requires-3 returns)
+    tie.close (tie.spec dbl-requires sqr-requires dbl-requires-2 add-requires dbl-requires-3 sub-requires dot-requires over-u-requires dot-requires-2 returns)

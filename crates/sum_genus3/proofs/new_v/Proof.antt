@@ -1,12 +1,12 @@
-use mathlib.Core.Path.{refl, ap₂, _∙_}
 use Rattle.algebra.proofs.zmod.Zmod.{zmod}
 use Rattle.field.proofs.Laws.{settled-kept}
 use Rattle.sum_formulas.proofs.Close3.{rest-is}
+use Rattle.sum_genus3.proofs.Chains.{dot-last, plus-first}
 use Rattle.sum_genus3.proofs.new_v.Statement.{statement}
 use Rattle.sum_genus3.proofs.new_v.Tie as tie
 
 mul-diff-requires : tie.Need-mul-diff-requires
-mul-diff-requires c κs = (c .pre .1 .0 .w, c .pre .1 .1 .1 .c3, c .pre .1 .1 .0 .c4)
+mul-diff-requires c κs = let s = c in (s .pre .1 .0 .w, s .pre .1 .1 .1 .c3, s .pre .1 .1 .0 .c4)
 
 dot-requires : tie.Need-dot-requires
 dot-requires c κs = let s = c .before in (c .mul-diff .ensures .kept, s .pre .1 .1 .1 .c0, s .pre .1 .0 .w, s .pre .1 .1 .0 .c0)
@@ -42,15 +42,16 @@ returns : tie.Need-returns
 returns c =
     let s = c .before .before .before .before .before .before .before .before .before .before .before in
     let K = zmod (s .args .m .p) in
+    let y = c .before .before .before .before .before .before .before .before .before .before .mul-diff in
     record {
       kept = record { c0 = c .before .before .before .before .before .before .before .before .add .ensures .kept; c1 = c .before .before .before .before .before .add2 .ensures .kept; c2 = c .before .before .add3 .ensures .kept; c3 = c .dot4 .ensures .kept };
       q = _;
       is = rest-is K _ _ _ _ _ _ _ _ _ _ _ _ _ _ _ _ _ _
-          (c .before .before .before .before .before .before .before .before .before .before .mul-diff .ensures .is)
-          (c .before .before .before .before .before .before .before .before .add .ensures .is ∙ ap₂ (K .add) (c .before .before .before .before .before .before .before .before .before .dot .ensures .is) refl)
-          (c .before .before .before .before .before .add2 .ensures .is ∙ ap₂ (K .add) (c .before .before .before .before .before .before .dot2 .ensures .is ∙ ap₂ (K .add) refl (ap₂ (K .mul) refl (c .before .before .before .before .before .before .before .sub .ensures .is))) refl)
-          (c .before .before .add3 .ensures .is ∙ ap₂ (K .add) (c .before .before .before .dot3 .ensures .is ∙ ap₂ (K .add) refl (ap₂ (K .mul) refl (c .before .before .before .before .sub2 .ensures .is))) refl)
-          (c .dot4 .ensures .is ∙ ap₂ (K .add) refl (ap₂ (K .mul) refl (c .before .sub3 .ensures .is)));
+          (y .ensures .is)
+          (plus-first K _ _ _ _ (c .before .before .before .before .before .before .before .before .before .dot .ensures .is) (c .before .before .before .before .before .before .before .before .add .ensures .is))
+          (plus-first K _ _ _ _ (dot-last K _ _ _ _ _ _ (c .before .before .before .before .before .before .before .sub .ensures .is) (c .before .before .before .before .before .before .dot2 .ensures .is)) (c .before .before .before .before .before .add2 .ensures .is))
+          (plus-first K _ _ _ _ (dot-last K _ _ _ _ _ _ (c .before .before .before .before .sub2 .ensures .is) (c .before .before .before .dot3 .ensures .is)) (c .before .before .add3 .ensures .is))
+          (dot-last K _ _ _ _ _ _ (c .before .sub3 .ensures .is) (c .dot4 .ensures .is));
     }
 
 pub new-v-spec : {M : Type 1} → statement M

@@ -1,7 +1,7 @@
-use mathlib.Core.Path.{refl, ap₂, _∙_}
 use Rattle.algebra.proofs.zmod.Zmod.{zmod}
 use Rattle.field.proofs.Laws.{settled-kept}
 use Rattle.sum_formulas.proofs.Close3.{stretch-is}
+use Rattle.sum_genus3.proofs.Chains.{plus-first}
 use Rattle.sum_genus3.proofs.stretch.Statement.{statement}
 use Rattle.sum_genus3.proofs.stretch.Tie as tie
 
@@ -38,8 +38,8 @@ returns c =
       is = stretch-is K _ _ _ _ _ _ _ _ _ _
           (c .before .before .before .before .before .before .before .mul .ensures .is)
           (c .before .before .before .before .before .before .dot .ensures .is)
-          (c .before .before .before .before .add .ensures .is ∙ ap₂ (K .add) (c .before .before .before .before .before .dot2 .ensures .is) refl)
-          (c .before .add3 .ensures .is ∙ ap₂ (K .add) (c .before .before .add2 .ensures .is ∙ ap₂ (K .add) (c .before .before .before .mul2 .ensures .is) refl) refl)
+          (plus-first K _ _ _ _ (c .before .before .before .before .before .dot2 .ensures .is) (c .before .before .before .before .add .ensures .is))
+          (plus-first K _ _ _ _ (plus-first K _ _ _ _ (c .before .before .before .mul2 .ensures .is) (c .before .before .add2 .ensures .is)) (c .before .add3 .ensures .is))
           (c .add4 .ensures .is);
     }
 
