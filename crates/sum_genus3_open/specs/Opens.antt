@@ -15,7 +15,7 @@ use Rattle.rules.specs.Pair.{Valid}
 use Rattle.sum_formulas.specs.Conditions.{Coprime}
 use Rattle.field.specs.declared.Modulus.{Modulus}
 use Rattle.field.specs.declared.Residue.{Residue}
-use Rattle.field.specs.Residues.{el, Kept, Settled}
+use Rattle.field.specs.Residues.{el, Kept, Settled, Stands, Settles}
 use Rattle.divisor.specs.declared.Cubic.{Cubic}
 use Rattle.divisor.specs.declared.Divisor.the-variants.{Three}
 use Rattle.divisor.specs.Divisors.{pair}
@@ -27,7 +27,7 @@ module _ (m : Modulus) where
   abbrev pub K : CRing
   K = zmod (m .p)
 
-  open CRing K using (El as A, add as _+_, mul as _*_, zer as 𝟘)
+  open CRing K using (El as A, add as _+_, mul as _*_, neg, zer as 𝟘)
   open CRing (poly K) using (El as P, add as _⊕_, mul as _⊗_, neg as negP)
 
   infixl 65 _+_
@@ -75,6 +75,12 @@ module _ (m : Modulus) where
     pub i0 : Kept m (x .i0)
     pub low : el m (x .i0) ≡ el m (b .u1) * el m (x .e2) + el m (b .u2) * el m (x .e1) + el m (x .e0)
 
+  -- k is i·v modulo u at 0
+  abbrev pub ProductV : Cubic → Residue → Residue → Residue → Residue → Type 0
+  ProductV a e1 e2 i0 r =
+      let k : A = el m (a .v0) * el m i0 + neg (el m (a .u0) * (el m e2 * el m (a .v1) + el m e1 * el m (a .v2))) in
+      Settles m r (k + k)
+
   -- i·h = r modulo u; r is 0 only where h isn't coprime to u
   pub record Inverts (h : P) (b : Cubic) (x : Bezout) : Type 0 where
     pub inner-is : Inner b x
@@ -86,6 +92,13 @@ module _ (m : Modulus) where
   pub record Gap (a b : Cubic) (c : Trio) : Type 0 where
     pub kept : KeptTrio c
     pub is : triOf c ≡ vOf b ⊖ vOf a
+
+  -- coefficients 1 and 0 of (f - v²)/u modulo u; t1, t2, t3 are 2·u0, 2·u1, u2², t5 is f5 + t3 - t2 - u2·f6
+  abbrev pub Right1 : Cubic → Residue → Residue → Residue → Residue → Residue → Residue → Type 0
+  Right1 a t1 t2 t5 f4 f6 k1 = Stands m k1 (el m (a .u2) * (el m t2 + neg (el m t5)) + neg (el m t2 * el m f6) + (el m f4 + neg (el m t1 + el m (a .v2) * el m (a .v2))))
+
+  abbrev pub Right0 : Cubic → Residue → Residue → Residue → Residue → Residue → Residue → Residue → Type 0
+  Right0 a t1 t3 k1 f3 f5 f6 k0 = Stands m k0 (el m (a .u2) * (el m t1 + neg (el m k1)) + el m (a .u1) * (el m t3 + el m (a .u1) + neg (el m f5)) + el m f3 + neg ((el m (a .v2) + el m (a .v2)) * el m (a .v1) + el m t1 * el m f6))
 
   -- (f - v²)/u modulo u
   pub record Right (a : Cubic) (f3 f4 f5 f6 : Residue) (c : Trio) : Type 0 where

@@ -6,7 +6,7 @@
 // The tables have f_6 = 0; here it is any. Only a double looks at it before the division, where (f - v²) / u is (x + f_6 - 2 u2) · u and a rest.
 ghost use Rattle.field.specs.Residues.{Kept};
 ghost use Rattle.divisor.specs.Divisors.{Held};
-ghost use Rattle.sum_genus3_open.specs.Opens.{KeptTrio, Inner, uOf, twice, Inverts, Gap, Right, Times, Opens, OpensTwice};
+ghost use Rattle.sum_genus3_open.specs.Opens.{KeptTrio, Inner, uOf, twice, ProductV, Inverts, Gap, Right1, Right0, Right, Times, Opens, OpensTwice};
 use divisor::Cubic;
 use divisor::Divisor;
 use divisor::Trio;
@@ -88,6 +88,15 @@ fn times(c: Trio, x: Bezout, b: Cubic, m: Modulus) -> Trio
     }
 }
 
+// r of i and 2v: twice what i · v leaves modulo u at 0.
+fn product_v(a: Cubic, e1: Residue, e2: Residue, i0: Residue, m: Modulus) -> Residue
+    requires { ⌜ Held m (Divisor.Three a) × (Kept m e1 × (Kept m e2 × Kept m i0)) ⌝ }
+    ensures { λ r. ⌜ ProductV m a e1 e2 i0 r ⌝ }
+{
+    let k = a.v0.cross(i0, a.u0, e2.dot(a.v1, e1, a.v2, m), m);
+    k.dbl(m).settle(m)
+}
+
 // i · 2v is r modulo u.
 fn invert_twice_v(a: Cubic, m: Modulus) -> Bezout
     requires { ⌜ Held m (Divisor.Three a) ⌝ }
@@ -100,8 +109,7 @@ fn invert_twice_v(a: Cubic, m: Modulus) -> Bezout
     let e1 = a.v2.cross(t2, a.v1, a.v0, m);
     let e0 = a.v0.cross(a.v0, a.v2, t1, m);
     let i0 = a.u1.dot(e2, a.u2, e1, m).add(e0, m);
-    let k = a.v0.cross(i0, a.u0, e2.dot(a.v1, e1, a.v2, m), m);
-    let r = k.dbl(m).settle(m);
+    let r = product_v(a, e1, e2, i0, m);
     Bezout {
         e0: e0,
         e1: e1,
@@ -111,23 +119,56 @@ fn invert_twice_v(a: Cubic, m: Modulus) -> Bezout
     }
 }
 
+// The cofactor's coefficient 1, from t1 = 2 u0, t2 = 2 u1 and t5, what its coefficient 2 is made of.
+fn cofactor_1(
+    a: Cubic,
+    t1: Residue,
+    t2: Residue,
+    t5: Residue,
+    f4: Residue,
+    f6: Residue,
+    m: Modulus,
+) -> Residue
+    requires { ⌜ Held m (Divisor.Three a) × (Kept m t1 × (Kept m t2 × (Kept m t5 × (Kept m f4 × Kept m f6)))) ⌝ }
+    ensures { λ k1. ⌜ Right1 m a t1 t2 t5 f4 f6 k1 ⌝ }
+{
+    let t4 = f4.sub(t1.add(a.v2.sqr(m), m), m);
+    a.u2.cross(t2.sub(t5, m), t2, f6, m).add(t4, m)
+}
+
+// Its coefficient 0, from k1 and t3 = u2².
+fn cofactor_0(
+    a: Cubic,
+    t1: Residue,
+    t3: Residue,
+    k1: Residue,
+    f3: Residue,
+    f5: Residue,
+    f6: Residue,
+    m: Modulus,
+) -> Residue
+    requires { ⌜ Held m (Divisor.Three a) × (Kept m t1 × (Kept m t3 × (Kept m k1 × (Kept m f3 × (Kept m f5 × Kept m f6))))) ⌝ }
+    ensures { λ k0. ⌜ Right0 m a t1 t3 k1 f3 f5 f6 k0 ⌝ }
+{
+    a.u2
+        .dot(t1.sub(k1, m), a.u1, t3.add(a.u1, m).sub(f5, m), m)
+        .add(f3, m)
+        .sub(a.v2.dbl(m).dot(a.v1, t1, f6, m), m)
+}
+
 // (f - v²) / u modulo u: f0, f1, f2 do not enter.
 fn cofactor_mod_u(a: Cubic, f3: Residue, f4: Residue, f5: Residue, f6: Residue, m: Modulus) -> Trio
     requires { ⌜ Held m (Divisor.Three a) × (Kept m f3 × (Kept m f4 × (Kept m f5 × Kept m f6))) ⌝ }
     ensures { λ c. ⌜ Right m a f3 f4 f5 f6 c ⌝ }
 {
-    let t1 = a.u0.dbl(m);
     let t2 = a.u1.dbl(m);
     let t3 = a.u2.sqr(m);
-    let t4 = f4.sub(t1.add(a.v2.sqr(m), m), m);
     let p = a.u2.mul(f6, m);
     let t5 = f5.add(t3, m).sub(t2, m).sub(p, m);
     let k2 = t5.add(t3.dbl(m), m).sub(p, m);
-    let k1 = a.u2.cross(t2.sub(t5, m), t2, f6, m).add(t4, m);
-    let k0 = a.u2
-        .dot(t1.sub(k1, m), a.u1, t3.add(a.u1, m).sub(f5, m), m)
-        .add(f3, m)
-        .sub(a.v2.dbl(m).dot(a.v1, t1, f6, m), m);
+    let t1 = a.u0.dbl(m);
+    let k1 = cofactor_1(a, t1, t2, t5, f4, f6, m);
+    let k0 = cofactor_0(a, t1, t3, k1, f3, f5, f6, m);
     Trio {
         c0: k0,
         c1: k1,

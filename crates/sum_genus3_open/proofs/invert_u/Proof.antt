@@ -1,13 +1,12 @@
 use mathlib.Core.Path.{refl, ap₂, _∙_}
 use Rattle.algebra.proofs.zmod.Zmod.{zmod}
-use Rattle.field.proofs.Laws.{residue-field, settled-kept}
-use Rattle.sum_formulas.proofs.Coprime3.{square-none, r3-none}
-use Rattle.sum_formulas.proofs.Open3.{invert-is}
+use Rattle.field.proofs.Laws.{settled-kept}
+use Rattle.sum_genus3_open.proofs.Inverted.{inverted}
 use Rattle.sum_genus3_open.proofs.invert_u.Statement.{statement}
 use Rattle.sum_genus3_open.proofs.invert_u.Tie as tie
 
 cross-requires : tie.Need-cross-requires
-cross-requires c κs = (settled-kept (c .args .m) (c .pre .0 .u .1 .0), settled-kept (c .args .m) (c .pre .1 .u .0), settled-kept (c .args .m) (c .pre .0 .u .0), settled-kept (c .args .m) (c .pre .1 .u .1 .0))
+cross-requires c κs = let s = c in (settled-kept (s .args .m) (s .pre .0 .u .1 .0), settled-kept (s .args .m) (s .pre .1 .u .0), settled-kept (s .args .m) (s .pre .0 .u .0), settled-kept (s .args .m) (s .pre .1 .u .1 .0))
 
 cross-requires-2 : tie.Need-cross-requires-2
 cross-requires-2 c κs = let s = c .before in (settled-kept (s .args .m) (s .pre .0 .u .1 .1 .0), settled-kept (s .args .m) (s .pre .1 .u .0), settled-kept (s .args .m) (s .pre .0 .u .0), settled-kept (s .args .m) (s .pre .1 .u .1 .1 .0))
@@ -55,25 +54,19 @@ returns : tie.Need-returns
 returns c =
     let s = c .before .before .before .before .before .before .before .before .before .before .before .before .before .before .before in
     let K = zmod (s .args .m .p) in
-    let h1 = c .before .before .before .before .before .before .before .before .before .before .before .before .before .before .cross .ensures .is in
-    let h2 = c .before .before .before .before .before .before .before .before .before .before .before .before .before .cross2 .ensures .is in
-    let h3 = c .before .before .before .before .before .before .before .before .before .before .before .before .sub .ensures .is in
-    let h4 = c .before .before .before .before .before .before .before .before .before .before .before .sub2 .ensures .is in
-    let h5 = c .before .before .before .before .before .before .before .before .before .before .sub3 .ensures .is in
-    let h6 = c .before .before .before .before .before .before .before .before .add .ensures .is ∙ ap₂ (K .add) (c .before .before .before .before .before .before .before .before .before .cross3 .ensures .is) refl in
-    let h7 = c .before .before .before .before .before .before .before .cross4 .ensures .is in
-    let h8 = c .before .before .before .before .before .before .cross5 .ensures .is in
-    let h9 = c .before .before .before .before .before .cross6 .ensures .is in
-    let h10 = c .before .before .before .add2 .ensures .is ∙ ap₂ (K .add) (c .before .before .before .before .dot .ensures .is) refl in
-    let h11 = c .settle .ensures .is ∙ (c .before .cross7 .ensures .is ∙ ap₂ (λ s t. K .add s (K .neg t)) (ap₂ (K .mul) refl (c .before .before .dot2 .ensures .is)) refl) in
-    let is = invert-is K _ _ _ _ _ _ _ _ _ _ _ _ _ _ _ _ _ h1 h2 h3 h4 h5 h6 h7 h8 h9 h10 h11 in
-    record {
-      inner-is = record { e0 = c .before .before .before .before .before .cross6 .ensures .kept; e1 = c .before .before .before .before .before .before .cross5 .ensures .kept; e2 = c .before .before .before .before .before .before .before .cross4 .ensures .kept; i0 = c .before .before .before .add2 .ensures .kept; low = (c .before .before .before .add2 .ensures .is ∙ ap₂ (K .add) (c .before .before .before .before .dot .ensures .is) refl) };
-      settled = c .settle .ensures .settled;
-      j = _;
-      is = is;
-      none = λ z. r3-none K (residue-field (s .args .m) (s .pre .0 .good) .one-ne) (square-none (residue-field (s .args .m) (s .pre .0 .good))) _ _ _ _ _ _ _ _ _ _ _ _ _ _ _ _ _ _ h1 h2 h3 h4 h5 h6 h7 h8 h9 h10 is z;
-    }
+    inverted (s .args .m) (s .pre .0 .good) (s .args .a) (s .args .b) _ _ _ _ _ _ _
+    (record { e0 = c .before .before .before .before .before .cross6 .ensures .kept; e1 = c .before .before .before .before .before .before .cross5 .ensures .kept; e2 = c .before .before .before .before .before .before .before .cross4 .ensures .kept; i0 = c .before .before .before .add2 .ensures .kept; low = (c .before .before .before .add2 .ensures .is ∙ ap₂ (K .add) (c .before .before .before .before .dot .ensures .is) refl) })
+    (c .settle .ensures .settled)
+    (c .before .before .before .before .before .before .before .before .before .before .before .before .before .before .cross .ensures .is)
+    (c .before .before .before .before .before .before .before .before .before .before .before .before .before .cross2 .ensures .is)
+    (c .before .before .before .before .before .before .before .before .before .before .before .before .sub .ensures .is)
+    (c .before .before .before .before .before .before .before .before .before .before .before .sub2 .ensures .is)
+    (c .before .before .before .before .before .before .before .before .before .before .sub3 .ensures .is)
+    (c .before .before .before .before .before .before .before .before .add .ensures .is ∙ ap₂ (K .add) (c .before .before .before .before .before .before .before .before .before .cross3 .ensures .is) refl)
+    (c .before .before .before .before .before .before .before .cross4 .ensures .is)
+    (c .before .before .before .before .before .before .cross5 .ensures .is)
+    (c .before .before .before .before .before .cross6 .ensures .is)
+    (c .settle .ensures .is ∙ (c .before .cross7 .ensures .is ∙ ap₂ (λ s t. K .add s (K .neg t)) (ap₂ (K .mul) refl (c .before .before .dot2 .ensures .is)) refl))
 
 pub invert-u-spec : {M : Type 1} → statement M
 invert-u-spec =
