@@ -1,8 +1,5 @@
-use mathlib.Core.Path.{refl}
-use Rattle.algebra.proofs.zmod.Zmod.{zmod}
 use Rattle.field.proofs.Laws.{settled-kept}
-use Rattle.sum_formulas.proofs.Close3.{quotient-is}
-use Rattle.sum_genus3.proofs.Chains.{less-first, plus-first}
+use Rattle.sum_genus3.proofs.Made.{quotients}
 use Rattle.sum_genus3.proofs.new_u.Statement.{statement}
 use Rattle.sum_genus3.proofs.new_u.Tie as tie
 
@@ -36,18 +33,17 @@ quotient-0-requires c κs = let s = c .before .before .before .before .before .b
 returns : tie.Need-returns
 returns c =
     let s = c .before .before .before .before .before .before .before .before .before in
-    let K = zmod (s .args .m .p) in
-    record {
-      kept = record { c0 = c .quotient-0 .ensures .kept; c1 = c .before .quotient-1 .ensures .kept; c2 = c .before .before .before .sub2 .ensures .kept; c3 = c .before .before .before .before .before .before .before .sub .ensures .kept };
-      tops = quotient-is K _ _ _ _ _ _ _ _ _ _ _ _ _ _ _ _ _ _ _ _ _ _ _
-          (less-first K _ _ _ _ (c .before .before .before .before .before .before .before .before .add .ensures .is) (c .before .before .before .before .before .before .before .sub .ensures .is))
-          (c .before .before .before .before .before .before .cross .ensures .is)
-          (less-first K _ _ _ _ (plus-first K _ _ _ _ (c .before .before .before .before .before .add2 .ensures .is) (c .before .before .before .before .add3 .ensures .is)) (c .before .before .before .sub2 .ensures .is))
-          (c .before .before .dbl .ensures .is)
-          (c .before .quotient-1 .ensures .is)
-          refl
-          (c .quotient-0 .ensures .is);
-    }
+    quotients (s .args .m) (s .args .a) (s .args .x) (s .args .z) _ (s .args .f6) (s .args .b) _ _ _ _ _
+    (record { c0 = c .quotient-0 .ensures .kept; c1 = c .before .quotient-1 .ensures .kept; c2 = c .before .before .before .sub2 .ensures .kept; c3 = c .before .before .before .before .before .before .before .sub .ensures .kept })
+    (c .before .before .before .before .before .before .before .before .add .ensures .is)
+    (c .before .before .before .before .before .before .before .sub .ensures .is)
+    (c .before .before .before .before .before .before .cross .ensures .is)
+    (c .before .before .before .before .before .add2 .ensures .is)
+    (c .before .before .before .before .add3 .ensures .is)
+    (c .before .before .before .sub2 .ensures .is)
+    (c .before .before .dbl .ensures .is)
+    (c .before .quotient-1 .ensures)
+    (c .quotient-0 .ensures)
 
 pub new-u-spec : {M : Type 1} → statement M
 new-u-spec =

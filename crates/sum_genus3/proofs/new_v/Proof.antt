@@ -1,7 +1,5 @@
-use Rattle.algebra.proofs.zmod.Zmod.{zmod}
 use Rattle.field.proofs.Laws.{settled-kept}
-use Rattle.sum_formulas.proofs.Close3.{rest-is}
-use Rattle.sum_genus3.proofs.Chains.{dot-last, plus-first}
+use Rattle.sum_genus3.proofs.Made.{rests}
 use Rattle.sum_genus3.proofs.new_v.Statement.{statement}
 use Rattle.sum_genus3.proofs.new_v.Tie as tie
 
@@ -41,18 +39,20 @@ dot-requires-4 c κs = let s = c .before .before .before .before .before .before
 returns : tie.Need-returns
 returns c =
     let s = c .before .before .before .before .before .before .before .before .before .before .before in
-    let K = zmod (s .args .m .p) in
     let y = c .before .before .before .before .before .before .before .before .before .before .mul-diff in
-    record {
-      kept = record { c0 = c .before .before .before .before .before .before .before .before .add .ensures .kept; c1 = c .before .before .before .before .before .add2 .ensures .kept; c2 = c .before .before .add3 .ensures .kept; c3 = c .dot4 .ensures .kept };
-      q = _;
-      is = rest-is K _ _ _ _ _ _ _ _ _ _ _ _ _ _ _ _ _ _
-          (y .ensures .is)
-          (plus-first K _ _ _ _ (c .before .before .before .before .before .before .before .before .before .dot .ensures .is) (c .before .before .before .before .before .before .before .before .add .ensures .is))
-          (plus-first K _ _ _ _ (dot-last K _ _ _ _ _ _ (c .before .before .before .before .before .before .before .sub .ensures .is) (c .before .before .before .before .before .before .dot2 .ensures .is)) (c .before .before .before .before .before .add2 .ensures .is))
-          (plus-first K _ _ _ _ (dot-last K _ _ _ _ _ _ (c .before .before .before .before .sub2 .ensures .is) (c .before .before .before .dot3 .ensures .is)) (c .before .before .add3 .ensures .is))
-          (dot-last K _ _ _ _ _ _ (c .before .sub3 .ensures .is) (c .dot4 .ensures .is));
-    }
+    rests (s .args .m) (s .args .a) (s .args .x) (s .args .z) (s .args .n) _ _ _ _ _ _ _ _
+    (record { c0 = c .before .before .before .before .before .before .before .before .add .ensures .kept; c1 = c .before .before .before .before .before .add2 .ensures .kept; c2 = c .before .before .add3 .ensures .kept; c3 = c .dot4 .ensures .kept })
+    (y .ensures .is)
+    (c .before .before .before .before .before .before .before .before .before .dot .ensures .is)
+    (c .before .before .before .before .before .before .before .before .add .ensures .is)
+    (c .before .before .before .before .before .before .before .sub .ensures .is)
+    (c .before .before .before .before .before .before .dot2 .ensures .is)
+    (c .before .before .before .before .before .add2 .ensures .is)
+    (c .before .before .before .before .sub2 .ensures .is)
+    (c .before .before .before .dot3 .ensures .is)
+    (c .before .before .add3 .ensures .is)
+    (c .before .sub3 .ensures .is)
+    (c .dot4 .ensures .is)
 
 pub new-v-spec : {M : Type 1} → statement M
 new-v-spec =

@@ -1,10 +1,5 @@
-use mathlib.Core.Path.{sym, subst}
-use Rattle.algebra.proofs.zmod.Zmod.{zmod}
 use Rattle.field.proofs.Laws.{settled-kept}
-use Rattle.algebra.proofs.poly.Poly.{poly}
-use Rattle.sum_formulas.proofs.Close3.{second-tops}
-use Rattle.sum_genus3.specs.Steps.{SecondTops}
-use Rattle.sum_genus3.proofs.Chains.{less, less-last, plus-last, same}
+use Rattle.sum_genus3.proofs.Made.{seconds}
 use Rattle.sum_genus3.proofs.second.Statement.{statement}
 use Rattle.sum_genus3.proofs.second.Tie as tie
 
@@ -44,18 +39,19 @@ second-v-requires c κs = let s = c .before .before .before .before .before .bef
 returns : tie.Need-returns
 returns c =
     let s = c .before .before .before .before .before .before .before .before .before .before .before in
-    let K = zmod (s .args .m .p) in
     let t1 = c .before .before .before .before .before .before .before .before .before .before .dbl in
-    record {
-      held = c .second-v .ensures .held;
-      tops = subst (λ (p : poly K .El). SecondTops (s .args .m) (s .args .n) (s .args .t) (s .args .f4) (s .args .f5) (s .args .f6) p) (sym (c .second-v .ensures .u)) (λ g0 g1 g2 g3. second-tops K _ _ _ _ _ _ _ _ _ _ _ _ _ _ _ _ _ _ _
-          (t1 .ensures .is)
-          (same K _ _ _ (less-last K _ _ _ _ (plus-last K _ _ _ _ (c .before .before .before .before .before .before .before .before .before .sqr .ensures .is) (c .before .before .before .before .before .before .before .before .add .ensures .is)) (c .before .before .before .before .before .before .before .sub .ensures .is)) (c .before .before .before .before .before .before .settle .ensures .is))
-          (same K _ _ _ (less K _ _ _ _ _ (c .before .before .before .before .before .sub2 .ensures .is) (c .before .before .before .before .dot .ensures .is) (c .before .before .before .sub3 .ensures .is)) (c .before .before .settle2 .ensures .is))
-          (c .before .second-u0 .ensures .is));
-      q = c .second-v .ensures .q;
-      is = c .second-v .ensures .is;
-    }
+    seconds (s .args .m) (s .args .n) (s .args .t) (s .args .f4) (s .args .f5) (s .args .f6) _ _ _ _ _ _ _ _ _ _ _
+    (t1 .ensures .is)
+    (c .before .before .before .before .before .before .before .before .before .sqr .ensures .is)
+    (c .before .before .before .before .before .before .before .before .add .ensures .is)
+    (c .before .before .before .before .before .before .before .sub .ensures .is)
+    (c .before .before .before .before .before .before .settle .ensures .is)
+    (c .before .before .before .before .before .sub2 .ensures .is)
+    (c .before .before .before .before .dot .ensures .is)
+    (c .before .before .before .sub3 .ensures .is)
+    (c .before .before .settle2 .ensures .is)
+    (c .before .second-u0 .ensures)
+    (c .second-v .ensures)
 
 pub second-spec : {M : Type 1} → statement M
 second-spec =
