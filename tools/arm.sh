@@ -56,7 +56,7 @@ made "$arm/module.bc" tablet catch_module
 cmp "$room/before.a" "$YUBI_LIB_DIR/libtablet.a" || fail "the library isn't the same with the module caught"
 
 say "the module, for x86-64 and for Arm"
-"$clang" --no-default-config -S -emit-llvm -Xclang -disable-llvm-passes -x ir "$arm/module.bc" -o "$room/x86.ll"
+"$clang" --target=x86_64-unknown-linux-gnu --no-default-config -S -emit-llvm -Xclang -disable-llvm-passes -x ir "$arm/module.bc" -o "$room/x86.ll"
 
 # options TARGET FILE: clang's arguments as they were caught, for this target, file and output; a processor is named for x86-64 alone.
 options() {
