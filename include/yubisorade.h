@@ -19,8 +19,9 @@
  *             whoever proposed it: 1 <= a < p; the primes are below 2^31, rise, and are just those that divide p - 1;
  *             a^(p-1) is 1 modulo p, and no a^((p-1)/q) is, q a listed prime. One for p = 2^61 - 1 is a = 37, k = 12 and 2, 3,
  *             5, 7, 11, 13, 31, 41, 61, 151, 331, 1321. A prime p can't be shown so where p - 1 has a prime of 2^31 or more.
- *             Every call takes both versions. Version 1's p is tested by trial division, at each call: at p near 2^31 a check, a sum
- *             or a scan takes less than a fifth of the instructions with a record of version 2, and every p of version 1 can have one.
+ *             Every call takes both versions. Version 1's p is tested by trial division, at each call: at p near 2^31 a curve's
+ *             check, most of a sum's or a scan's work, takes less than a sixth of the instructions with a record of version 2, and
+ *             every p of version 1 can have one.
  *   divisor   weight w in 1 byte, u_0 to u_(w-1), v_0 to v_(w-1) in 8 bytes each: 1 + 16w bytes, w <= g. u is monic of
  *             degree w, v has a smaller degree, and u divides f - v^2. The single byte 00 is the neutral divisor.
  *   scalar    0 to 32 bytes, unsigned. No bytes mean 0; leading zeros are allowed.
