@@ -1,4 +1,5 @@
 pub mod Curves
+pub mod Quotient
 pub mod Record
 pub mod Rests
 pub mod division

@@ -8,6 +8,7 @@ ghost use Rattle.divisor.specs.Divisors.{Held, weightOf};
 ghost use Rattle.curve.specs.Curves.{Sound, Divided};
 ghost use Rattle.curve.specs.division.Turns.{two, three};
 ghost use Rattle.curve.specs.Rests.{TopOne, TopTwo, Rests};
+ghost use Rattle.curve.specs.Quotient.{Quotient};
 use divisor::Cubic;
 use divisor::Divisor;
 use divisor::Duo;
@@ -129,13 +130,12 @@ fn rest_two(c: Curve, d: Quadratic) -> Duo
     turns_two(c, d)
 }
 
-// By the quotient, whose coefficients are q3 down to q0 below its leading 1.
-fn rest_three(c: Curve, d: Cubic) -> Trio
+// In genus 3 the quotient's coefficients below its leading 1 and q3: q2, q1 and q0.
+fn quotient_three(c: Curve, d: Cubic) -> Trio
     requires { ⌜ Sound c × ((c .g ≡ 3) × Held (c .m) (Divisor.Three d)) ⌝ }
-    ensures { λ r. ⌜ Rests c (Divisor.Three d) (three r) ⌝ }
+    ensures { λ r. ⌜ Quotient c d r ⌝ }
 {
     let m = c.m;
-    let w0 = d.v0.dbl(m);
     let w2 = d.v2.dbl(m);
     let q3 = c.f6.sub(d.u2, m);
     let q2 = c.f5.sub(d.u1, m).sub(q3.mul(d.u2, m), m);
@@ -146,14 +146,28 @@ fn rest_three(c: Curve, d: Cubic) -> Trio
     let q0 = c.f3
         .sub(d.v1.dot(w2, q3, d.u0, m), m)
         .sub(q2.dot(d.u1, q1, d.u2, m), m);
+    Trio {
+        c0: q0,
+        c1: q1,
+        c2: q2,
+    }
+}
+
+fn rest_three(c: Curve, d: Cubic) -> Trio
+    requires { ⌜ Sound c × ((c .g ≡ 3) × Held (c .m) (Divisor.Three d)) ⌝ }
+    ensures { λ r. ⌜ Rests c (Divisor.Three d) (three r) ⌝ }
+{
+    let m = c.m;
+    let q = quotient_three(c, d);
+    let w0 = d.v0.dbl(m);
     let r2 = c.f2
-        .sub(d.v0.dot(w2, d.v1, d.v1, m), m)
-        .sub(q2.dot(d.u0, q1, d.u1, m), m)
-        .sub(q0.mul(d.u2, m), m);
+        .sub(w0.dot(d.v2, d.v1, d.v1, m), m)
+        .sub(q.c2.dot(d.u0, q.c1, d.u1, m), m)
+        .sub(q.c0.mul(d.u2, m), m);
     let r1 = c.f1
-        .sub(w0.dot(d.v1, q1, d.u0, m), m)
-        .sub(q0.mul(d.u1, m), m);
-    let r0 = c.f0.sub(d.v0.dot(d.v0, q0, d.u0, m), m);
+        .sub(w0.dot(d.v1, q.c1, d.u0, m), m)
+        .sub(q.c0.mul(d.u1, m), m);
+    let r0 = c.f0.sub(d.v0.dot(d.v0, q.c0, d.u0, m), m);
     Trio {
         c0: r0,
         c1: r1,

@@ -56,7 +56,12 @@ least-requires-2 : tie.Need-least-requires-2
 least-requires-2 c κs = search needs
 
 returns-4 : tie.Need-returns-4
-returns-4 c = ends-second (c .before .before .before .before .before .before .before .before .before .before .args .s .now) (c .before .before .before .before .before .before .wide .ensures .0) (c .before .before .before .before .before .read16 .ensures) (c .before .before .before .before .if2 .left) (c .before .wide2 .ensures .0) (c .least2 .ensures)
+returns-4 c =
+    let at-if2 = c .before .before .before .before in
+    let at-read16 = at-if2 .before in
+    let at-wide = at-read16 .before in
+    let start = at-wide .before .before .before .before in
+    ends-second (start .args .s .now) (at-wide .wide .ensures .0) (at-read16 .read16 .ensures) (at-if2 .if2 .left) (c .before .wide2 .ensures .0) (c .least2 .ensures)
 
 pub curve-end-spec : {M : Type 1} → statement M
 curve-end-spec =

@@ -40,7 +40,14 @@ same-length : tie.Need-same-length
 same-length c = search needs
 
 returns-4 : tie.Need-returns-4
-returns-4 c = let s = c .before .before .before .before .before .before .before .before .before .before .before .before .before .args in head-done (s .file .now) (s .out .now) (omega arith) (sym (c .before .before .before .before .before .before .before .before .before .marked .ensures) ∙ not-false _ (c .before .before .before .before .before .before .before .before .if2 .left)) (sym (c .before .before .before .before .before .before .before .read16 .ensures) ∙ c .before .before .before .before .before .before .if3 .left) (c .before .before .before .before .before .read32 .ensures .1) (c .before .before .read-rest .ensures)
+returns-4 c =
+    let at-read32 = c .before .before .before .before .before in
+    let at-if3 = at-read32 .before in
+    let at-read16 = at-if3 .before in
+    let at-if2 = at-read16 .before in
+    let at-marked = at-if2 .before in
+    let start = at-marked .before .before .before .before in
+    let s = start .args in head-done (s .file .now) (s .out .now) (omega arith) (sym (at-marked .marked .ensures) ∙ not-false _ (at-if2 .if2 .left)) (sym (at-read16 .read16 .ensures) ∙ at-if3 .if3 .left) (at-read32 .read32 .ensures .1) (c .before .before .read-rest .ensures)
 
 pub read-pole-file-spec : {M : Type 1} → statement M
 read-pole-file-spec =

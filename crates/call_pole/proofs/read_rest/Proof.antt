@@ -29,7 +29,10 @@ enum-known--k : tie.Need-enum-known--k
 enum-known--k c = search needs
 
 slice-aggregate-write-both : tie.Need-slice-aggregate-write-both
-slice-aggregate-write-both c = sym (length-take-le (c .before .before .before .before .before .before .before .curve-end .result) (c .before .before .before .before .before .before .before .before .before .before .args .s .now) (c .before .before .before .before .before .before .before .curve-end .ensures .inside))
+slice-aggregate-write-both c =
+    let at-curve-end = c .before .before .before .before .before .before .before in
+    let start = at-curve-end .before .before .before in
+    sym (length-take-le (at-curve-end .curve-end .result) (start .args .s .now) (at-curve-end .curve-end .ensures .inside))
 
 add-write-both : tie.Need-add-write-both
 add-write-both c = search needs
@@ -53,7 +56,12 @@ same-length : tie.Need-same-length
 same-length c = search needs
 
 returns : tie.Need-returns
-returns c = let s = c .before .before .before .before .before .before .before .before .before .before .before .before .before .before .before .args in parts-go (s .pole) (s .s .now) (s .out .now) (c .before .before .before .before .before .before .before .before .before .before .before .before .curve-end .ensures) (c .before .before .before .before .before .before .before .before .before .check-parts .result) (c .before .before .before .before .before .before .before .before .before .check-parts .ensures) (c .before .before .before .before .before .before .before .-k .given .1) (c .before .before .write-both .ensures)
+returns c =
+    let at--k = c .before .before .before .before .before .before .before in
+    let at-check-parts = at--k .before .before in
+    let at-curve-end = at-check-parts .before .before .before in
+    let start = at-curve-end .before .before .before in
+    let s = start .args in parts-go (s .pole) (s .s .now) (s .out .now) (at-curve-end .curve-end .ensures) (at-check-parts .check-parts .result) (at-check-parts .check-parts .ensures) (at--k .-k .given .1) (c .before .before .write-both .ensures)
 
 returns-2 : tie.Need-returns-2
 returns-2 c = let s = c .before .before .before .before .before .before .before .before .before .args in parts-stop (s .pole) (s .s .now) (s .out .now) (c .before .before .before .before .before .before .curve-end .ensures) (c .before .before .before .check-parts .result) (c .before .before .before .check-parts .ensures) (c .before .n .given .1)

@@ -28,8 +28,11 @@ same-length : tie.Need-same-length
 same-length c = search needs
 
 returns-3 : tie.Need-returns-3
-returns-3 c = let s = c .before .before .before .before .before .before .before .before .before .before .before .before .before .args in both-put (s .pole) (s .a .now) (s .b .now) (s .out .now) (omega arith) (omega arith)
-    (c .before .before .write-bytes2 .ensures ∙ ap (λ (l : List ℕ). sets l (length (s .a .now)) (s .b .now)) (c .before .before .before .before .before .before .write-bytes .ensures))
+returns-3 c =
+    let at-write-bytes = c .before .before .before .before .before .before in
+    let start = at-write-bytes .before .before .before .before .before .before .before in
+    let s = start .args in both-put (s .pole) (s .a .now) (s .b .now) (s .out .now) (omega arith) (omega arith)
+    (c .before .before .write-bytes2 .ensures ∙ ap (λ (l : List ℕ). sets l (length (s .a .now)) (s .b .now)) (at-write-bytes .write-bytes .ensures))
 
 pub write-both-spec : {M : Type 1} → statement M
 write-both-spec =

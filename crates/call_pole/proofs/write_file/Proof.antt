@@ -50,10 +50,15 @@ same-length : tie.Need-same-length
 same-length c = search needs
 
 returns-4 : tie.Need-returns-4
-returns-4 c = let s = c .before .before .before .before .before .before .before .before .before .before .before .before .before .before .before .before .before .before .before .before .before .before .args in file-put (s .pole) (s .curve .now) (s .count) (s .batch .now) (s .out .now) (omega arith) (omega arith)
-    (c .before .before .write-bytes2 .ensures ∙ ap (λ (l : List ℕ). sets l (11 + length (s .curve .now)) (s .batch .now)) (c .before .before .before .before .before .before .put16 .ensures
-    ∙ ap (λ (l : List ℕ). sets l (9 + length (s .curve .now)) (bytes16 (s .count))) (c .before .before .before .before .before .before .before .before .before .before .write-bytes .ensures
-    ∙ ap (λ (l : List ℕ). sets l 9 (s .curve .now)) (c .before .before .before .before .before .before .before .before .before .before .before .before .before .before .put-head .ensures))))
+returns-4 c =
+    let at-put16 = c .before .before .before .before .before .before in
+    let at-write-bytes = at-put16 .before .before .before .before in
+    let at-put-head = at-write-bytes .before .before .before .before in
+    let start = at-put-head .before .before .before .before .before .before .before .before in
+    let s = start .args in file-put (s .pole) (s .curve .now) (s .count) (s .batch .now) (s .out .now) (omega arith) (omega arith)
+    (c .before .before .write-bytes2 .ensures ∙ ap (λ (l : List ℕ). sets l (11 + length (s .curve .now)) (s .batch .now)) (at-put16 .put16 .ensures
+    ∙ ap (λ (l : List ℕ). sets l (9 + length (s .curve .now)) (bytes16 (s .count))) (at-write-bytes .write-bytes .ensures
+    ∙ ap (λ (l : List ℕ). sets l 9 (s .curve .now)) (at-put-head .put-head .ensures))))
 
 pub write-file-spec : {M : Type 1} → statement M
 write-file-spec =

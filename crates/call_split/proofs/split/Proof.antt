@@ -31,7 +31,13 @@ same-length : tie.Need-same-length
 same-length c = search needs
 
 returns : tie.Need-returns
-returns c = let s = c .before .before .before .before .before .before .before .before .before .before .before .before .before .before .before .args in split-done (s .curve .now) (s .a .now) (s .out .now) _ _ (subst (OneIs (s .curve .now) (s .a .now)) (c .before .before .before .before .before .before .before .before .before .c .given .1) (c .before .before .before .before .before .before .before .before .before .before .before .read-curve-and-divisor .ensures)) (subst (SplitIs (c .before .before .before .before .before .before .before .before .before .c .given .0 .0 .m) (c .before .before .before .before .before .before .before .before .before .c .given .0 .1 .0)) (c .before .before .before .before .before .y .given .1) (c .before .before .before .before .before .before .before .split .ensures)) (c .before .before .write-both .ensures)
+returns c =
+    let at-y = c .before .before .before .before .before in
+    let at-split = at-y .before .before in
+    let at-c = at-split .before .before in
+    let at-read-curve-and-divisor = at-c .before .before in
+    let start = at-read-curve-and-divisor .before .before .before .before in
+    let s = start .args in split-done (s .curve .now) (s .a .now) (s .out .now) _ _ (subst (OneIs (s .curve .now) (s .a .now)) (at-c .c .given .1) (at-read-curve-and-divisor .read-curve-and-divisor .ensures)) (subst (SplitIs (at-c .c .given .0 .0 .m) (at-c .c .given .0 .1 .0)) (at-y .y .given .1) (at-split .split .ensures)) (c .before .before .write-both .ensures)
 
 returns-2 : tie.Need-returns-2
 returns-2 c = let s = c .before .before .before .before .before .before .before .before .before .before .args in split-nowhere (s .curve .now) (s .a .now) (s .out .now) _ _ (subst (OneIs (s .curve .now) (s .a .now)) (c .before .before .before .before .c .given .1) (c .before .before .before .before .before .before .read-curve-and-divisor .ensures)) (subst (SplitIs (c .before .before .before .before .c .given .0 .0 .m) (c .before .before .before .before .c .given .0 .1 .0)) (c .enum-told .given .1) (c .before .before .split .ensures))

@@ -66,7 +66,9 @@ under-requires c κs = (c .before .before .before .before .before .before .befor
 
 -- src/lib.rt:49:17
 mul-next : tie.Need-mul-next Inv-loop2 μ-loop2 Inv-loop μ-loop
-mul-next c = waiting-fits (c .before .before .before .before .before .before .before .before .before .loop .inv .total .row .few)
+mul-next c =
+    let at-loop = c .before .before .before .before .before .before .before .before .before in
+    waiting-fits (at-loop .loop .inv .total .row .few)
 
 -- src/lib.rt:49:17
 array-set-from-next : tie.Need-array-set-from-next Inv-loop2 μ-loop2 Inv-loop μ-loop
@@ -74,7 +76,9 @@ array-set-from-next c = c .before .before .before .before .before .before .befor
 
 -- src/lib.rt:50:17
 mul-requires : tie.Need-mul-requires Inv-loop2 μ-loop2 Inv-loop μ-loop
-mul-requires c κs = (c .before .before .before .before .before .before .before .before .before .loop .inv .unit .kept, c .under .ensures .unit .kept)
+mul-requires c κs =
+    let at-loop = c .before .before .before .before .before .before .before .before .before in
+    (at-loop .loop .inv .unit .kept, c .under .ensures .unit .kept)
 
 -- src/lib.rt:52:34
 enum-known-e : tie.Need-enum-known-e Inv-loop2 μ-loop2 Inv-loop μ-loop
@@ -90,7 +94,10 @@ returns-2 c = let i = c .before .before .before .before .before .before .loop in
 
 -- src/lib.rt:56:13
 add-a : tie.Need-add-a Inv-loop2 μ-loop2 Inv-loop μ-loop
-add-a c = next-fits (c .before .before .before .before .before .before .before .before .before .loop-test .taken) (c .before .before .before .before .before .before .before .before .before .before .before .before .before .before .before .before .good .1 .0 .1)
+add-a c =
+    let at-loop-test = c .before .before .before .before .before .before .before .before .before in
+    let start = at-loop-test .before .before .before .before .before .before .before in
+    next-fits (at-loop-test .loop-test .taken) (start .good .1 .0 .1)
 
 -- src/lib.rt:56:44
 shared-slice-read-wide : tie.Need-shared-slice-read-wide Inv-loop2 μ-loop2 Inv-loop μ-loop
@@ -106,23 +113,48 @@ mul-a c = search needs
 
 -- src/lib.rt:56:13
 add-a-2 : tie.Need-add-a-2 Inv-loop2 μ-loop2 Inv-loop μ-loop
-add-a-2 c = record-fits (c .before .before .before .before .before .before .before .before .before .before .before .loop-test .taken) (c .before .before .before .before .before .before .before .before .before .before .before .before .before .before .before .before .before .before .good .1 .0 .1) (c .wide .ensures .1)
+add-a-2 c =
+    let at-loop-test = c .before .before .before .before .before .before .before .before .before .before .before in
+    let start = at-loop-test .before .before .before .before .before .before .before in
+    record-fits (at-loop-test .loop-test .taken) (start .good .1 .0 .1) (c .wide .ensures .1)
 
 -- src/lib.rt:57:9
 add-k : tie.Need-add-k Inv-loop2 μ-loop2 Inv-loop μ-loop
-add-k c = count-fits (c .before .before .before .before .before .before .before .before .before .before .before .before .loop .inv .total .going .room)
+add-k c =
+    let at-loop = c .before .before .before .before .before .before .before .before .before .before .before .before in
+    count-fits (at-loop .loop .inv .total .going .room)
 
 -- src/lib.rt:58:9
 add-n : tie.Need-add-n Inv-loop2 μ-loop2 Inv-loop μ-loop
-add-n c = lane-fits (c .before .before .before .before .before .before .before .before .before .before .before .before .loop .inv .total .row .few)
+add-n c =
+    let at-loop = c .before .before .before .before .before .before .before .before .before .before .before .before in
+    lane-fits (at-loop .loop .inv .total .row .few)
 
 -- src/lib.rt:60:17
 inverse-requires : tie.Need-inverse-requires Inv-loop2 μ-loop2 Inv-loop μ-loop
-inverse-requires c κs = let i = c .before .before .before .before .before .before .before .before .before .before .before .before .before .loop in turned-unit _ _ (i .inv .sound) _ _ _ _ _ _ _ (i .inv) _ (c .before .before .before .before .before .before .before .before .before .before .before .before .loop-test .taken) (c .before .before .before .before .before .before .before .before .before .before .before .if1 .left) (c .before .before .before .before .before .before .before .before .before .before .divisor-at .ensures) (c .before .before .before .before .before .before .before .before .d .given .1) _ (c .before .before .before .before .before .«open» .ensures) _ (c .before .before .before .before .under .ensures) _ (c .before .before .before .mul .ensures) (c .before .wide .ensures .0)
+inverse-requires c κs =
+    let at-mul = c .before .before .before in
+    let at-under = at-mul .before in
+    let then = at-under .before in
+    let at-d = then .before .before .before in
+    let at-divisor-at = at-d .before .before in
+    let at-if1 = at-divisor-at .before in
+    let at-loop-test = at-if1 .before in
+    let at-loop = at-loop-test .before in
+    let i = at-loop .loop in turned-unit _ _ (i .inv .sound) _ _ _ _ _ _ _ (i .inv) _ (at-loop-test .loop-test .taken) (at-if1 .if1 .left) (at-divisor-at .divisor-at .ensures) (at-d .d .given .1) _ (then .«open» .ensures) _ (at-under .under .ensures) _ (at-mul .mul .ensures) (c .before .wide .ensures .0)
 
 -- src/lib.rt:61:13
 loop2-holds : tie.Need-loop2-holds Inv-loop2 μ-loop2 Inv-loop μ-loop
-loop2-holds c = let i = c .before .before .before .before .before .before .before .before .before .before .before .before .before .before .loop in shut-begin _ _ (i .inv .sound) _ _ _ _ _ _ _ (i .inv) _ (c .before .before .before .before .before .before .before .before .before .before .before .before .before .loop-test .taken) (c .before .before .before .before .before .before .before .before .before .before .before .before .if1 .left) (c .before .before .before .before .before .before .before .before .before .before .before .divisor-at .ensures) (c .before .before .before .before .before .before .before .before .before .d .given .1) _ (c .before .before .before .before .before .before .«open» .ensures) _ (c .before .before .before .before .before .under .ensures) _ (c .before .before .before .before .mul .ensures) (c .before .before .wide .ensures .0) _ (c .inverse .ensures)
+loop2-holds c =
+    let at-mul = c .before .before .before .before in
+    let at-under = at-mul .before in
+    let then = at-under .before in
+    let at-d = then .before .before .before in
+    let at-divisor-at = at-d .before .before in
+    let at-if1 = at-divisor-at .before in
+    let at-loop-test = at-if1 .before in
+    let at-loop = at-loop-test .before in
+    let i = at-loop .loop in shut-begin _ _ (i .inv .sound) _ _ _ _ _ _ _ (i .inv) _ (at-loop-test .loop-test .taken) (at-if1 .if1 .left) (at-divisor-at .divisor-at .ensures) (at-d .d .given .1) _ (then .«open» .ensures) _ (at-under .under .ensures) _ (at-mul .mul .ensures) (c .before .before .wide .ensures .0) _ (c .inverse .ensures)
 
 -- src/lib.rt:62:17
 sub-n : tie.Need-sub-n Inv-loop2 μ-loop2 Inv-loop μ-loop
@@ -177,7 +209,10 @@ loop2-again c = let i = c .before .before .before .before .before .before .loop2
 
 -- src/lib.rt:35:5
 loop-less : tie.Need-loop-less Inv-loop2 μ-loop2 Inv-loop μ-loop
-loop-less c = less-left (c .before .before .before .before .before .before .before .before .before .before .before .before .before .before .before .loop-test .taken) _
+loop-less c =
+    let later = c .before .before .before .before .before .before .before in
+    let at-loop-test = later .before .before .before .before .before .before .before .before in
+    less-left (at-loop-test .loop-test .taken) _
 
 -- src/lib.rt:35:5
 loop-again : tie.Need-loop-again Inv-loop2 μ-loop2 Inv-loop μ-loop
@@ -185,11 +220,22 @@ loop-again c = let i = c .before .loop2 in shut-ends _ _ (i .inv .sound) _ _ _ _
 
 -- src/lib.rt:35:5
 loop-less-2 : tie.Need-loop-less-2 Inv-loop2 μ-loop2 Inv-loop μ-loop
-loop-less-2 c = less-left (c .before .before .before .before .before .before .before .before .before .before .before .before .loop-test .taken) _
+loop-less-2 c =
+    let at-loop-test = c .before .before .before .before .before .before .before .before .before .before .before .before in
+    less-left (at-loop-test .loop-test .taken) _
 
 -- src/lib.rt:35:5
 loop-again-2 : tie.Need-loop-again-2 Inv-loop2 μ-loop2 Inv-loop μ-loop
-loop-again-2 c = let i = c .before .before .before .before .before .before .before .before .before .before .before .before .before .loop in total-turn _ _ (i .inv .sound) _ _ _ _ _ _ _ (i .inv) _ (c .before .before .before .before .before .before .before .before .before .before .before .before .loop-test .taken) (c .before .before .before .before .before .before .before .before .before .before .before .if1 .left) (c .before .before .before .before .before .before .before .before .before .before .divisor-at .ensures) (c .before .before .before .before .before .before .before .before .d .given .1) _ (c .before .before .before .before .before .«open» .ensures) _ (c .before .before .before .before .under .ensures) _ (c .before .before .before .mul .ensures) (c .before .wide .ensures .0) (c .if2 .left)
+loop-again-2 c =
+    let at-mul = c .before .before .before in
+    let at-under = at-mul .before in
+    let then = at-under .before in
+    let at-d = then .before .before .before in
+    let at-divisor-at = at-d .before .before in
+    let at-if1 = at-divisor-at .before in
+    let at-loop-test = at-if1 .before in
+    let at-loop = at-loop-test .before in
+    let i = at-loop .loop in total-turn _ _ (i .inv .sound) _ _ _ _ _ _ _ (i .inv) _ (at-loop-test .loop-test .taken) (at-if1 .if1 .left) (at-divisor-at .divisor-at .ensures) (at-d .d .given .1) _ (then .«open» .ensures) _ (at-under .under .ensures) _ (at-mul .mul .ensures) (c .before .wide .ensures .0) (c .if2 .left)
 
 -- src/lib.rt:73:9
 waiting-total-requires : tie.Need-waiting-total-requires Inv-loop2 μ-loop2 Inv-loop μ-loop

@@ -45,21 +45,39 @@ sub-requires-7 : tie.Need-sub-requires-7
 sub-requires-7 c κs = (c .before .sub6 .ensures .kept, c .mul3 .ensures .kept)
 
 dot-requires-3 : tie.Need-dot-requires-3
-dot-requires-3 c κs = let s = c .before .before .before .before .before .before .before .before .before .before .before .before .before .before in (settled-kept (s .args .c .m) (s .pre .1 .1 .v .0), settled-kept (s .args .c .m) (s .pre .1 .1 .v .0), c .before .before .before .before .sub5 .ensures .kept, settled-kept (s .args .c .m) (s .pre .1 .1 .u .0))
+dot-requires-3 c κs =
+    let at-sub5 = c .before .before .before .before in
+    let s = at-sub5 .before .before .before .before .before .before .before .before .before .before in
+    (settled-kept (s .args .c .m) (s .pre .1 .1 .v .0), settled-kept (s .args .c .m) (s .pre .1 .1 .v .0), at-sub5 .sub5 .ensures .kept, settled-kept (s .args .c .m) (s .pre .1 .1 .u .0))
 
 sub-requires-8 : tie.Need-sub-requires-8
-sub-requires-8 c κs = let s = c .before .before .before .before .before .before .before .before .before .before .before .before .before .before .before in (settled-kept (s .args .c .m) (s .pre .0 .settled .0), c .dot3 .ensures .kept)
+sub-requires-8 c κs =
+    let later = c .before .before .before .before .before .before .before in
+    let s = later .before .before .before .before .before .before .before .before in
+    (settled-kept (s .args .c .m) (s .pre .0 .settled .0), c .dot3 .ensures .kept)
 
 returns : tie.Need-returns
 returns c =
-    let s = c .before .before .before .before .before .before .before .before .before .before .before .before .before .before .before .before in
+    let at-mul3 = c .before .before .before in
+    let at-sub6 = at-mul3 .before in
+    let at-dot2 = at-sub6 .before in
+    let at-sub5 = at-dot2 .before in
+    let at-mul2 = at-sub5 .before in
+    let at-sub4 = at-mul2 .before in
+    let at-dot = at-sub4 .before in
+    let at-sub3 = at-dot .before in
+    let at-mul = at-sub3 .before in
+    let at-sub2 = at-mul .before in
+    let at-sub = at-sub2 .before in
+    let at-dbl = at-sub .before in
+    let s = at-dbl .before .before in
     let K = zmod (s .args .c .m .p) in
     quotients-two (s .args .c) (s .pre .0) (s .args .d) _ (s .pre .1 .0) (c .sub8 .ensures .kept, (c .before .before .sub7 .ensures .kept, tt)) (left-two K _ _ _ _ _ _ _ _ _ _ _ _ _ _ _
-    (c .before .before .before .before .before .before .before .before .before .before .before .before .before .before .dbl .ensures .is)
-    (c .before .before .before .before .before .before .before .before .before .before .before .before .before .sub .ensures .is)
-    (c .before .before .before .before .before .before .before .before .before .before .sub3 .ensures .is ∙ ap₂ (λ s t. K .add s (K .neg t)) (c .before .before .before .before .before .before .before .before .before .before .before .before .sub2 .ensures .is) (c .before .before .before .before .before .before .before .before .before .before .before .mul .ensures .is))
-    (c .before .before .before .before .before .before .sub5 .ensures .is ∙ ap₂ (λ s t. K .add s (K .neg t)) (c .before .before .before .before .before .before .before .before .sub4 .ensures .is ∙ ap₂ (λ s t. K .add s (K .neg t)) refl (c .before .before .before .before .before .before .before .before .before .dot .ensures .is)) (c .before .before .before .before .before .before .before .mul2 .ensures .is))
-    (c .before .before .sub7 .ensures .is ∙ ap₂ (λ s t. K .add s (K .neg t)) (c .before .before .before .before .sub6 .ensures .is ∙ ap₂ (λ s t. K .add s (K .neg t)) refl (c .before .before .before .before .before .dot2 .ensures .is)) (c .before .before .before .mul3 .ensures .is))
+    (at-dbl .dbl .ensures .is)
+    (at-sub .sub .ensures .is)
+    (at-sub3 .sub3 .ensures .is ∙ ap₂ (λ s t. K .add s (K .neg t)) (at-sub2 .sub2 .ensures .is) (at-mul .mul .ensures .is))
+    (at-sub5 .sub5 .ensures .is ∙ ap₂ (λ s t. K .add s (K .neg t)) (at-sub4 .sub4 .ensures .is ∙ ap₂ (λ s t. K .add s (K .neg t)) refl (at-dot .dot .ensures .is)) (at-mul2 .mul2 .ensures .is))
+    (c .before .before .sub7 .ensures .is ∙ ap₂ (λ s t. K .add s (K .neg t)) (at-sub6 .sub6 .ensures .is ∙ ap₂ (λ s t. K .add s (K .neg t)) refl (at-dot2 .dot2 .ensures .is)) (at-mul3 .mul3 .ensures .is))
     (c .sub8 .ensures .is ∙ ap₂ (λ s t. K .add s (K .neg t)) refl (c .before .dot3 .ensures .is)))
 
 pub quotient-two-spec : {M : Type 1} → statement M

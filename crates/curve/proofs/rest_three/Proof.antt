@@ -1,106 +1,142 @@
-use mathlib.Core.Path.{refl, sym, ap₂, _∙_}
+use mathlib.Core.Path.{refl, _∙_}
 use Rattle.algebra.proofs.zmod.Zmod.{zmod}
 use Rattle.field.proofs.Laws.{settled-kept}
-use Rattle.curve.proofs.Quotients.{left-three, quotients-three}
+use Rattle.curve.proofs.Quotients.{less, left-three, quotients-three}
 use Rattle.curve.proofs.rest_three.Statement.{statement}
 use Rattle.curve.proofs.rest_three.Tie as tie
 
-dbl-requires : tie.Need-dbl-requires
-dbl-requires c κs = let s = c .before in settled-kept (s .args .c .m) (s .pre .1 .1 .v .0)
+quotient-three-requires : tie.Need-quotient-three-requires
+quotient-three-requires c κs = c .before .pre
 
-dbl-requires-2 : tie.Need-dbl-requires-2
-dbl-requires-2 c κs = let s = c .before .before in settled-kept (s .args .c .m) (s .pre .1 .1 .v .1 .1 .0)
+dbl-requires : tie.Need-dbl-requires
+dbl-requires c κs =
+    let start = c .before .before in
+    let v = start .pre .1 .1 .v in
+    let m = start .args .c .m in
+    settled-kept m (v .0)
+
+dot-requires : tie.Need-dot-requires
+dot-requires c κs =
+    let start = c .before .before .before in
+    let v = start .pre .1 .1 .v in
+    let m = start .args .c .m in
+    (c .dbl .ensures .kept, settled-kept m (v .1 .1 .0), settled-kept m (v .1 .0), settled-kept m (v .1 .0))
 
 sub-requires : tie.Need-sub-requires
-sub-requires c κs = let s = c .before .before .before in (settled-kept (s .args .c .m) (s .pre .0 .settled .1 .1 .1 .1 .1 .1 .0), settled-kept (s .args .c .m) (s .pre .1 .1 .u .1 .1 .0))
+sub-requires c κs =
+    let start = c .before .before .before .before in
+    let f = start .pre .0 .settled in
+    let m = start .args .c .m in
+    (settled-kept m (f .1 .1 .0), c .dot .ensures .kept)
+
+dot-requires-2 : tie.Need-dot-requires-2
+dot-requires-2 c κs =
+    let at-quotient-three = c .before .before .before in
+    let start = at-quotient-three .before .before in
+    let u = start .pre .1 .1 .u in
+    let m = start .args .c .m in
+    (at-quotient-three .quotient-three .ensures .kept .1 .1 .0, settled-kept m (u .0), at-quotient-three .quotient-three .ensures .kept .1 .0, settled-kept m (u .1 .0))
 
 sub-requires-2 : tie.Need-sub-requires-2
-sub-requires-2 c κs = let s = c .before .before .before .before in (settled-kept (s .args .c .m) (s .pre .0 .settled .1 .1 .1 .1 .1 .0), settled-kept (s .args .c .m) (s .pre .1 .1 .u .1 .0))
+sub-requires-2 c κs = (c .before .sub .ensures .kept, c .dot2 .ensures .kept)
 
 mul-requires : tie.Need-mul-requires
-mul-requires c κs = let s = c .before .before .before .before .before in (c .before .sub .ensures .kept, settled-kept (s .args .c .m) (s .pre .1 .1 .u .1 .1 .0))
+mul-requires c κs =
+    let at-quotient-three = c .before .before .before .before .before in
+    let start = at-quotient-three .before .before in
+    let u = start .pre .1 .1 .u in
+    let m = start .args .c .m in
+    (at-quotient-three .quotient-three .ensures .kept .0, settled-kept m (u .1 .1 .0))
 
 sub-requires-3 : tie.Need-sub-requires-3
 sub-requires-3 c κs = (c .before .sub2 .ensures .kept, c .mul .ensures .kept)
 
+dot-requires-3 : tie.Need-dot-requires-3
+dot-requires-3 c κs =
+    let at-dbl = c .before .before .before .before .before .before in
+    let at-quotient-three = at-dbl .before in
+    let start = at-quotient-three .before .before in
+    let u = start .pre .1 .1 .u in
+    let v = start .pre .1 .1 .v in
+    let m = start .args .c .m in
+    (at-dbl .dbl .ensures .kept, settled-kept m (v .1 .0), at-quotient-three .quotient-three .ensures .kept .1 .0, settled-kept m (u .0))
+
 sub-requires-4 : tie.Need-sub-requires-4
-sub-requires-4 c κs = let s = c .before .before .before .before .before .before .before in (settled-kept (s .args .c .m) (s .pre .0 .settled .1 .1 .1 .1 .0), settled-kept (s .args .c .m) (s .pre .1 .1 .u .0))
-
-dot-requires : tie.Need-dot-requires
-dot-requires c κs = let s = c .before .before .before .before .before .before .before .before in (settled-kept (s .args .c .m) (s .pre .1 .1 .v .1 .1 .0), settled-kept (s .args .c .m) (s .pre .1 .1 .v .1 .1 .0), c .before .before .before .before .sub .ensures .kept, settled-kept (s .args .c .m) (s .pre .1 .1 .u .1 .0))
-
-sub-requires-5 : tie.Need-sub-requires-5
-sub-requires-5 c κs = (c .before .sub4 .ensures .kept, c .dot .ensures .kept)
+sub-requires-4 c κs =
+    let start = c .before .before .before .before .before .before .before .before .before .before in
+    let f = start .pre .0 .settled in
+    let m = start .args .c .m in
+    (settled-kept m (f .1 .0), c .dot3 .ensures .kept)
 
 mul-requires-2 : tie.Need-mul-requires-2
-mul-requires-2 c κs = let s = c .before .before .before .before .before .before .before .before .before .before in (c .before .before .before .sub3 .ensures .kept, settled-kept (s .args .c .m) (s .pre .1 .1 .u .1 .1 .0))
+mul-requires-2 c κs =
+    let at-quotient-three = c .before .before .before .before .before .before .before .before .before in
+    let start = at-quotient-three .before .before in
+    let u = start .pre .1 .1 .u in
+    let m = start .args .c .m in
+    (at-quotient-three .quotient-three .ensures .kept .0, settled-kept m (u .1 .0))
 
-sub-requires-6 : tie.Need-sub-requires-6
-sub-requires-6 c κs = (c .before .sub5 .ensures .kept, c .mul2 .ensures .kept)
-
-dot-requires-2 : tie.Need-dot-requires-2
-dot-requires-2 c κs = let s = c .before .before .before .before .before .before .before .before .before .before .before .before in (settled-kept (s .args .c .m) (s .pre .1 .1 .v .1 .0), c .before .before .before .before .before .before .before .before .before .dbl2 .ensures .kept, c .before .before .before .before .before .before .before .before .sub .ensures .kept, settled-kept (s .args .c .m) (s .pre .1 .1 .u .0))
-
-sub-requires-7 : tie.Need-sub-requires-7
-sub-requires-7 c κs = let s = c .before .before .before .before .before .before .before .before .before .before .before .before .before in (settled-kept (s .args .c .m) (s .pre .0 .settled .1 .1 .1 .0), c .dot2 .ensures .kept)
-
-dot-requires-3 : tie.Need-dot-requires-3
-dot-requires-3 c κs = let s = c .before .before .before .before .before .before .before .before .before .before .before .before .before .before in (c .before .before .before .before .before .before .before .sub3 .ensures .kept, settled-kept (s .args .c .m) (s .pre .1 .1 .u .1 .0), c .before .before .sub6 .ensures .kept, settled-kept (s .args .c .m) (s .pre .1 .1 .u .1 .1 .0))
-
-sub-requires-8 : tie.Need-sub-requires-8
-sub-requires-8 c κs = (c .before .sub7 .ensures .kept, c .dot3 .ensures .kept)
+sub-requires-5 : tie.Need-sub-requires-5
+sub-requires-5 c κs = (c .before .sub4 .ensures .kept, c .mul2 .ensures .kept)
 
 dot-requires-4 : tie.Need-dot-requires-4
-dot-requires-4 c κs = let s = c .before .before .before .before .before .before .before .before .before .before .before .before .before .before .before .before in (settled-kept (s .args .c .m) (s .pre .1 .1 .v .0), c .before .before .before .before .before .before .before .before .before .before .before .before .before .dbl2 .ensures .kept, settled-kept (s .args .c .m) (s .pre .1 .1 .v .1 .0), settled-kept (s .args .c .m) (s .pre .1 .1 .v .1 .0))
+dot-requires-4 c κs =
+    let at-quotient-three = c .before .before .before .before .before .before .before .before .before .before .before in
+    let start = at-quotient-three .before .before in
+    let u = start .pre .1 .1 .u in
+    let v = start .pre .1 .1 .v in
+    let m = start .args .c .m in
+    (settled-kept m (v .0), settled-kept m (v .0), at-quotient-three .quotient-three .ensures .kept .0, settled-kept m (u .0))
 
-sub-requires-9 : tie.Need-sub-requires-9
-sub-requires-9 c κs = let s = c .before .before .before .before .before .before .before .before .before .before .before .before .before .before .before .before .before in (settled-kept (s .args .c .m) (s .pre .0 .settled .1 .1 .0), c .dot4 .ensures .kept)
-
-dot-requires-5 : tie.Need-dot-requires-5
-dot-requires-5 c κs = let s = c .before .before .before .before .before .before .before .before .before .before .before .before .before .before .before .before .before .before in (c .before .before .before .before .before .before .before .before .before .before .before .sub3 .ensures .kept, settled-kept (s .args .c .m) (s .pre .1 .1 .u .0), c .before .before .before .before .before .before .sub6 .ensures .kept, settled-kept (s .args .c .m) (s .pre .1 .1 .u .1 .0))
-
-sub-requires-10 : tie.Need-sub-requires-10
-sub-requires-10 c κs = (c .before .sub9 .ensures .kept, c .dot5 .ensures .kept)
-
-mul-requires-3 : tie.Need-mul-requires-3
-mul-requires-3 c κs = let s = c .before .before .before .before .before .before .before .before .before .before .before .before .before .before .before .before .before .before .before .before in (c .before .before .before .before .sub8 .ensures .kept, settled-kept (s .args .c .m) (s .pre .1 .1 .u .1 .1 .0))
-
-sub-requires-11 : tie.Need-sub-requires-11
-sub-requires-11 c κs = (c .before .sub10 .ensures .kept, c .mul3 .ensures .kept)
-
-dot-requires-6 : tie.Need-dot-requires-6
-dot-requires-6 c κs = let s = c .before .before .before .before .before .before .before .before .before .before .before .before .before .before .before .before .before .before .before .before .before .before in (c .before .before .before .before .before .before .before .before .before .before .before .before .before .before .before .before .before .before .before .before .dbl .ensures .kept, settled-kept (s .args .c .m) (s .pre .1 .1 .v .1 .0), c .before .before .before .before .before .before .before .before .before .before .sub6 .ensures .kept, settled-kept (s .args .c .m) (s .pre .1 .1 .u .0))
-
-sub-requires-12 : tie.Need-sub-requires-12
-sub-requires-12 c κs = let s = c .before .before .before .before .before .before .before .before .before .before .before .before .before .before .before .before .before .before .before .before .before .before .before in (settled-kept (s .args .c .m) (s .pre .0 .settled .1 .0), c .dot6 .ensures .kept)
-
-mul-requires-4 : tie.Need-mul-requires-4
-mul-requires-4 c κs = let s = c .before .before .before .before .before .before .before .before .before .before .before .before .before .before .before .before .before .before .before .before .before .before .before .before in (c .before .before .before .before .before .before .before .before .sub8 .ensures .kept, settled-kept (s .args .c .m) (s .pre .1 .1 .u .1 .0))
-
-sub-requires-13 : tie.Need-sub-requires-13
-sub-requires-13 c κs = (c .before .sub12 .ensures .kept, c .mul4 .ensures .kept)
-
-dot-requires-7 : tie.Need-dot-requires-7
-dot-requires-7 c κs = let s = c .before .before .before .before .before .before .before .before .before .before .before .before .before .before .before .before .before .before .before .before .before .before .before .before .before .before in (settled-kept (s .args .c .m) (s .pre .1 .1 .v .0), settled-kept (s .args .c .m) (s .pre .1 .1 .v .0), c .before .before .before .before .before .before .before .before .before .before .sub8 .ensures .kept, settled-kept (s .args .c .m) (s .pre .1 .1 .u .0))
-
-sub-requires-14 : tie.Need-sub-requires-14
-sub-requires-14 c κs = let s = c .before .before .before .before .before .before .before .before .before .before .before .before .before .before .before .before .before .before .before .before .before .before .before .before .before .before .before in (settled-kept (s .args .c .m) (s .pre .0 .settled .0), c .dot7 .ensures .kept)
+sub-requires-6 : tie.Need-sub-requires-6
+sub-requires-6 c κs =
+    let start = c .before .before .before .before .before .before .before .before .before .before .before .before .before .before in
+    let f = start .pre .0 .settled in
+    let m = start .args .c .m in
+    (settled-kept m (f .0), c .dot4 .ensures .kept)
 
 returns : tie.Need-returns
 returns c =
-    let s = c .before .before .before .before .before .before .before .before .before .before .before .before .before .before .before .before .before .before .before .before .before .before .before .before .before .before .before .before in
-    let K = zmod (s .args .c .m .p) in
-    quotients-three (s .args .c) (s .pre .0) (s .args .d) _ (s .pre .1 .0) (c .sub14 .ensures .kept, (c .before .before .sub13 .ensures .kept, (c .before .before .before .before .before .before .sub11 .ensures .kept, tt))) (left-three K _ _ _ _ _ _ _ _ _ _ _ _ _ _ _ _ _ _ _ _ _ _
-    (c .before .before .before .before .before .before .before .before .before .before .before .before .before .before .before .before .before .before .before .before .before .before .before .before .before .before .dbl .ensures .is)
-    (c .before .before .before .before .before .before .before .before .before .before .before .before .before .before .before .before .before .before .before .before .before .before .before .before .before .dbl2 .ensures .is)
-    (c .before .before .before .before .before .before .before .before .before .before .before .before .before .before .before .before .before .before .before .before .before .before .before .before .sub .ensures .is)
-    (c .before .before .before .before .before .before .before .before .before .before .before .before .before .before .before .before .before .before .before .before .before .sub3 .ensures .is ∙ ap₂ (λ s t. K .add s (K .neg t)) (c .before .before .before .before .before .before .before .before .before .before .before .before .before .before .before .before .before .before .before .before .before .before .before .sub2 .ensures .is) (c .before .before .before .before .before .before .before .before .before .before .before .before .before .before .before .before .before .before .before .before .before .before .mul .ensures .is))
-    (c .before .before .before .before .before .before .before .before .before .before .before .before .before .before .before .before .sub6 .ensures .is ∙ ap₂ (λ s t. K .add s (K .neg t)) (c .before .before .before .before .before .before .before .before .before .before .before .before .before .before .before .before .before .before .sub5 .ensures .is ∙ ap₂ (λ s t. K .add s (K .neg t)) (c .before .before .before .before .before .before .before .before .before .before .before .before .before .before .before .before .before .before .before .before .sub4 .ensures .is) (c .before .before .before .before .before .before .before .before .before .before .before .before .before .before .before .before .before .before .before .dot .ensures .is)) (c .before .before .before .before .before .before .before .before .before .before .before .before .before .before .before .before .before .mul2 .ensures .is))
-    (c .before .before .before .before .before .before .before .before .before .before .before .before .sub8 .ensures .is ∙ ap₂ (λ s t. K .add s (K .neg t)) (c .before .before .before .before .before .before .before .before .before .before .before .before .before .before .sub7 .ensures .is ∙ ap₂ (λ s t. K .add s (K .neg t)) refl (c .before .before .before .before .before .before .before .before .before .before .before .before .before .before .before .dot2 .ensures .is)) (c .before .before .before .before .before .before .before .before .before .before .before .before .before .dot3 .ensures .is))
-    (c .before .before .before .before .before .before .sub11 .ensures .is ∙ ap₂ (λ s t. K .add s (K .neg t)) (c .before .before .before .before .before .before .before .before .sub10 .ensures .is ∙ ap₂ (λ s t. K .add s (K .neg t)) (c .before .before .before .before .before .before .before .before .before .before .sub9 .ensures .is ∙ ap₂ (λ s t. K .add s (K .neg t)) refl (c .before .before .before .before .before .before .before .before .before .before .before .dot4 .ensures .is)) (c .before .before .before .before .before .before .before .before .before .dot5 .ensures .is)) (c .before .before .before .before .before .before .before .mul3 .ensures .is))
-    (c .before .before .sub13 .ensures .is ∙ ap₂ (λ s t. K .add s (K .neg t)) (c .before .before .before .before .sub12 .ensures .is ∙ ap₂ (λ s t. K .add s (K .neg t)) refl (c .before .before .before .before .before .dot6 .ensures .is)) (c .before .before .before .mul4 .ensures .is))
-    (c .sub14 .ensures .is ∙ ap₂ (λ s t. K .add s (K .neg t)) refl (c .before .dot7 .ensures .is)))
+    let sub6 = c .sub6 .ensures in
+    let at-dot4 = c .before in
+    let dot4 = at-dot4 .dot4 .ensures in
+    let at-sub5 = at-dot4 .before in
+    let sub5 = at-sub5 .sub5 .ensures in
+    let at-mul2 = at-sub5 .before in
+    let mul2 = at-mul2 .mul2 .ensures in
+    let at-sub4 = at-mul2 .before in
+    let sub4 = at-sub4 .sub4 .ensures in
+    let at-dot3 = at-sub4 .before in
+    let dot3 = at-dot3 .dot3 .ensures in
+    let at-sub3 = at-dot3 .before in
+    let sub3 = at-sub3 .sub3 .ensures in
+    let at-mul = at-sub3 .before in
+    let mul = at-mul .mul .ensures in
+    let at-sub2 = at-mul .before in
+    let sub2 = at-sub2 .sub2 .ensures in
+    let at-dot2 = at-sub2 .before in
+    let dot2 = at-dot2 .dot2 .ensures in
+    let at-sub = at-dot2 .before in
+    let sub = at-sub .sub .ensures in
+    let at-dot = at-sub .before in
+    let dot = at-dot .dot .ensures in
+    let at-dbl = at-dot .before in
+    let dbl = at-dbl .dbl .ensures in
+    let at-quotient-three = at-dbl .before in
+    let quotient-three = at-quotient-three .quotient-three .ensures in
+    let start = at-quotient-three .before .before in
+    let K = zmod (start .args .c .m .p) in
+    quotients-three (start .args .c) (start .pre .0) (start .args .d) _ (start .pre .1 .0) (sub6 .kept, (sub5 .kept, (sub3 .kept, tt)))
+    (left-three K _ _ _ _ _ _ _ _ _ _ _ _ _ _ _ _ _ _ _ _ _
+    (dbl .is)
+    refl
+    (quotient-three .q2)
+    (quotient-three .q1)
+    (quotient-three .q0)
+    (sub3 .is ∙ less K (sub2 .is ∙ less K (sub .is ∙ less K refl (dot .is)) (dot2 .is)) (mul .is))
+    (sub5 .is ∙ less K (sub4 .is ∙ less K refl (dot3 .is)) (mul2 .is))
+    (sub6 .is ∙ less K refl (dot4 .is)))
 
 pub rest-three-spec : {M : Type 1} → statement M
 rest-three-spec =
-    tie.close (tie.spec dbl-requires dbl-requires-2 sub-requires sub-requires-2 mul-requires sub-requires-3 sub-requires-4 dot-requires sub-requires-5 mul-requires-2 sub-requires-6 dot-requires-2 sub-requires-7 dot-requires-3 sub-requires-8 dot-requires-4 sub-requires-9 dot-requires-5 sub-requires-10 mul-requires-3 sub-requires-11 dot-requires-6 sub-requires-12 mul-requires-4 sub-requires-13 dot-requires-7 sub-requires-14 returns)
+    tie.close (tie.spec quotient-three-requires dbl-requires dot-requires sub-requires dot-requires-2 sub-requires-2 mul-requires sub-requires-3 dot-requires-3 sub-requires-4 mul-requires-2 sub-requires-5 dot-requires-4 sub-requires-6 returns)

@@ -77,20 +77,30 @@ advance-requires-2 c κs = c .before .before .before .skip .ensures .rowed
 -- src/lib.rt:170:5
 loop-less : tie.Need-loop-less Inv-loop μ-loop
 loop-less c =
-    let s = c .before .before .before .before .before .before .before .before .before .before .before .before .before in
-    let v = c .before .before .before .before .before .before .before .loop in
-    let h = seek-skip (s .args .c) (s .pre .0) _ _ (v .w) (v .row) (v .inv) (c .before .before .before .before .before .skip .result) (c .before .before .before .before .before .skip .ensures) in
-    let no = decided-no {A = Divided (s .args .c) (c .before .before .before .before .of-row .result)} {b = c .before .before .before .contains .result} (c .before .before .if1 .left) (c .before .before .before .contains .ensures) in
-    omega (arith, c .before .before .before .before .before .skip .ensures .fewer, seek-less (s .args .c) (s .pre .0) _ _ (v .w) (c .before .before .before .before .before .skip .result) h (omega (arith, c .before .before .before .before .before .before .loop-test .taken)) (c .before .before .before .before .of-row .result) (c .before .before .before .before .of-row .ensures .0) (c .before .before .before .before .of-row .ensures .1) no (c .before .advance2 .result) (c .before .advance2 .ensures))
+    let at-contains = c .before .before .before in
+    let at-of-row = at-contains .before in
+    let at-skip = at-of-row .before in
+    let at-loop-test = at-skip .before in
+    let at-loop = at-loop-test .before in
+    let s = at-loop .before .before .before .before .before .before in
+    let v = at-loop .loop in
+    let h = seek-skip (s .args .c) (s .pre .0) _ _ (v .w) (v .row) (v .inv) (at-skip .skip .result) (at-skip .skip .ensures) in
+    let no = decided-no {A = Divided (s .args .c) (at-of-row .of-row .result)} {b = at-contains .contains .result} (c .before .before .if1 .left) (at-contains .contains .ensures) in
+    omega (arith, at-skip .skip .ensures .fewer, seek-less (s .args .c) (s .pre .0) _ _ (v .w) (at-skip .skip .result) h (omega (arith, at-loop-test .loop-test .taken)) (at-of-row .of-row .result) (at-of-row .of-row .ensures .0) (at-of-row .of-row .ensures .1) no (c .before .advance2 .result) (c .before .advance2 .ensures))
 
 -- src/lib.rt:170:5
 loop-again : tie.Need-loop-again Inv-loop μ-loop
 loop-again c =
-    let s = c .before .before .before .before .before .before .before .before .before .before .before .before .before in
-    let v = c .before .before .before .before .before .before .before .loop in
-    let h = seek-skip (s .args .c) (s .pre .0) _ _ (v .w) (v .row) (v .inv) (c .before .before .before .before .before .skip .result) (c .before .before .before .before .before .skip .ensures) in
-    let no = decided-no {A = Divided (s .args .c) (c .before .before .before .before .of-row .result)} {b = c .before .before .before .contains .result} (c .before .before .if1 .left) (c .before .before .before .contains .ensures) in
-    seek-turn (s .args .c) (s .pre .0) _ _ (v .w) (c .before .before .before .before .before .skip .result) h (omega (arith, c .before .before .before .before .before .before .loop-test .taken)) (c .before .before .before .before .of-row .result) (c .before .before .before .before .of-row .ensures .0) (c .before .before .before .before .of-row .ensures .1) no (c .before .advance2 .result) (c .before .advance2 .ensures)
+    let at-contains = c .before .before .before in
+    let at-of-row = at-contains .before in
+    let at-skip = at-of-row .before in
+    let at-loop-test = at-skip .before in
+    let at-loop = at-loop-test .before in
+    let s = at-loop .before .before .before .before .before .before in
+    let v = at-loop .loop in
+    let h = seek-skip (s .args .c) (s .pre .0) _ _ (v .w) (v .row) (v .inv) (at-skip .skip .result) (at-skip .skip .ensures) in
+    let no = decided-no {A = Divided (s .args .c) (at-of-row .of-row .result)} {b = at-contains .contains .result} (c .before .before .if1 .left) (at-contains .contains .ensures) in
+    seek-turn (s .args .c) (s .pre .0) _ _ (v .w) (at-skip .skip .result) h (omega (arith, at-loop-test .loop-test .taken)) (at-of-row .of-row .result) (at-of-row .of-row .ensures .0) (at-of-row .of-row .ensures .1) no (c .before .advance2 .result) (c .before .advance2 .ensures)
 
 -- src/lib.rt:65:1
 returns-2 : tie.Need-returns-2 Inv-loop μ-loop

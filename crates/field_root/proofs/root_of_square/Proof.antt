@@ -68,7 +68,12 @@ loop-less : tie.Need-loop-less Inv-loop μ-loop
 loop-less c = omega (arith, c .before .before .before .before .loop-test .taken)
 
 loop-again : tie.Need-loop-again Inv-loop μ-loop
-loop-again c = stays (c .before .before .before .before .before .before .before .before .before .before .before .before .args .m) (c .before .before .before .before .before .before .before .before .before .before .before .before .pre .unit .good) (c .before .before .before .before .before .loop .inv) (c .before .before .before .before .loop-test .taken) _ (c .before .before .before .sqr .ensures) _ (power-is _ (omega (arith, c .before .before .before .before .before .loop .inv .few))) _ (c .before .before .power4 .ensures) (decided-yes {b = c .before .is-one .result} (c .if1 .taken) (c .before .is-one .ensures))
+loop-again c =
+    let at-sqr = c .before .before .before in
+    let at-loop-test = at-sqr .before in
+    let at-loop = at-loop-test .before in
+    let start = at-loop .before .before .before .before .before .before .before in
+    stays (start .args .m) (start .pre .unit .good) (at-loop .loop .inv) (at-loop-test .loop-test .taken) _ (at-sqr .sqr .ensures) _ (power-is _ (omega (arith, at-loop .loop .inv .few))) _ (c .before .before .power4 .ensures) (decided-yes {b = c .before .is-one .result} (c .if1 .taken) (c .before .is-one .ensures))
 
 mul-requires : tie.Need-mul-requires Inv-loop μ-loop
 mul-requires c κs = (c .before .before .before .before .before .loop .inv .kept-x, c .before .before .before .before .before .loop .inv .kept-c)
@@ -80,7 +85,14 @@ loop-less-2 : tie.Need-loop-less-2 Inv-loop μ-loop
 loop-less-2 c = omega (arith, c .before .before .before .before .before .before .loop-test .taken)
 
 loop-again-2 : tie.Need-loop-again-2 Inv-loop μ-loop
-loop-again-2 c = changes (c .before .before .before .before .before .before .before .before .before .before .before .before .before .before .args .m) (c .before .before .before .before .before .before .before .before .before .before .before .before .before .before .pre .unit .good) (c .before .before .before .before .before .before .before .loop .inv) (c .before .before .before .before .before .before .loop-test .taken) _ (c .before .before .before .before .before .sqr .ensures) _ (power-is _ (omega (arith, c .before .before .before .before .before .before .before .loop .inv .few))) _ _ _ (c .before .before .before .before .power4 .ensures) (decided-no {A = el _ _ ≡ _} {b = c .before .before .before .is-one .result} (c .before .before .if1 .left) (c .before .before .before .is-one .ensures)) (c .before .mul .ensures) (c .mul2 .ensures)
+loop-again-2 c =
+    let at-is-one = c .before .before .before in
+    let at-power4 = at-is-one .before in
+    let at-sqr = at-power4 .before in
+    let at-loop-test = at-sqr .before in
+    let at-loop = at-loop-test .before in
+    let start = at-loop .before .before .before .before .before .before .before in
+    changes (start .args .m) (start .pre .unit .good) (at-loop .loop .inv) (at-loop-test .loop-test .taken) _ (at-sqr .sqr .ensures) _ (power-is _ (omega (arith, at-loop .loop .inv .few))) _ _ _ (at-power4 .power4 .ensures) (decided-no {A = el _ _ ≡ _} {b = at-is-one .is-one .result} (c .before .before .if1 .left) (at-is-one .is-one .ensures)) (c .before .mul .ensures) (c .mul2 .ensures)
 
 returns : tie.Need-returns Inv-loop μ-loop
 returns c = let s = c .before .before .before .before .before .before .before .before in descended (s .args .m) (s .pre .unit .good) (s .args .a) (c .before .loop .inv) (first-level (s .args .m) (s .pre .unit .good) (s .args .a) _ (ap (λ (n : ℕ). (n - 1) / 2) (c .before .before .before .before .before .before .before .number .ensures)) _ _ _ _ _ (c .before .before .before .before .before .before .twos .ensures) (s .pre) (c .before .before .before .least-nonsquare .ensures) (c .before .before .before .before .before .power .ensures) (c .before .before .before .before .power2 .ensures) (c .before .before .power3 .ensures)) (omega (arith, c .loop-test .left))

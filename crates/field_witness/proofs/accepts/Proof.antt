@@ -69,10 +69,18 @@ enum-told c = search needs
 
 -- src/lib.rt:89:1
 returns-3 : tie.Need-returns-3
-returns-3 c = let s = c .before .before .before .before .before .before .before .before .before .before .before in let m = c .before .before .before .before .before .before .before .before .of .result in let h = subst (ResidueIs (c .before .before .before .before .before .before .before .before .of .result) (c .before .before .before .before .before .before .before .before .before .before .before .args .a)) (c .before .before .before .before .before .x .given .1) (c .before .before .before .before .before .before .before .read .ensures) in subst (λ (p : ℕ). Decides (c .is-none-below .result) (Witnessed p (s .args .a) (take (s .args .k) (s .args .q)))) (c .before .before .before .before .before .before .before .before .of .ensures .is)
-    (decided m (s .args .a) (s .args .p - 1) (take (s .args .k) (s .args .q)) _ (h .0) (h .1 .is) (ap (λ (p : ℕ). p - 1) (sym (c .before .before .before .before .before .before .before .before .of .ensures .is))) (omega (arith, s .pre .0 .from))
-    (decided-yes {A = MadeOf _ _} {b = c .before .before .before .before .before .before .before .before .before .before .is-made-of .result} (not-false (c .before .before .before .before .before .before .before .before .before .before .is-made-of .result) (c .before .before .before .before .before .before .before .before .before .if1 .left)) (c .before .before .before .before .before .before .before .before .before .before .is-made-of .ensures))
-    (one-yes m _ _ (c .before .before .before .power .result) (c .before .before .before .power .ensures) (decided-yes {b = c .before .before .is-one .result} (not-false (c .before .before .is-one .result) (c .before .if2 .left)) (c .before .before .is-one .ensures)))
+returns-3 c =
+    let at-power = c .before .before .before in
+    let at-x = at-power .before .before in
+    let at-read = at-x .before .before in
+    let at-of = at-read .before in
+    let at-if1 = at-of .before in
+    let at-is-made-of = at-if1 .before in
+    let s = at-is-made-of .before in
+    let m = at-of .of .result in let h = subst (ResidueIs (at-of .of .result) (s .args .a)) (at-x .x .given .1) (at-read .read .ensures) in subst (λ (p : ℕ). Decides (c .is-none-below .result) (Witnessed p (s .args .a) (take (s .args .k) (s .args .q)))) (at-of .of .ensures .is)
+    (decided m (s .args .a) (s .args .p - 1) (take (s .args .k) (s .args .q)) _ (h .0) (h .1 .is) (ap (λ (p : ℕ). p - 1) (sym (at-of .of .ensures .is))) (omega (arith, s .pre .0 .from))
+    (decided-yes {A = MadeOf _ _} {b = at-is-made-of .is-made-of .result} (not-false (at-is-made-of .is-made-of .result) (at-if1 .if1 .left)) (at-is-made-of .is-made-of .ensures))
+    (one-yes m _ _ (at-power .power .result) (at-power .power .ensures) (decided-yes {b = c .before .before .is-one .result} (not-false (c .before .before .is-one .result) (c .before .if2 .left)) (c .before .before .is-one .ensures)))
     (c .is-none-below .result) (c .is-none-below .ensures .is))
 
 -- src/lib.rt:89:1

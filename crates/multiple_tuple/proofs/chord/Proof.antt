@@ -31,10 +31,21 @@ cross-requires : tie.Need-cross-requires
 cross-requires c κs = ((c .before .before .before .before .before .before .dot .ensures .kept), (c .before .before .before .sub .ensures .kept), (c .before .before .sub2 .ensures .kept), (c .before .before .before .before .before .mul .ensures .kept))
 
 mul-requires-3 : tie.Need-mul-requires-3
-mul-requires-3 c κs = ((c .cross .ensures .kept), (c .before .before .before .before .before .before .before .before .pre .1 .1 .0 .z))
+mul-requires-3 c κs =
+    let start = c .before .before .before .before .before .before .before .before in
+    ((c .cross .ensures .kept), (start .pre .1 .1 .0 .z))
 
 returns : tie.Need-returns
-returns c = record { kept = record { r = (c .before .before .before .before .before .before .dot2 .ensures .kept); s1 = (c .before .before .mul2 .ensures .kept); s0 = (c .mul3 .ensures .kept) }; is = λ a0 a1 c0 c1 b0 b1 d0 d1 ho hw hb. record { r = chord-r (zmod (c .before .before .before .before .before .before .before .before .before .args .m .p)) _ _ _ _ _ _ _ _ _ _ _ _ _ (ho .u1) (ho .u0) (differ-1 (zmod (c .before .before .before .before .before .before .before .before .before .args .m .p)) _ _ _ _ _ _ (hw .u1) (hb .u1) (c .before .before .before .before .before .before .before .before .before .pre .1 .1 .1 .z1)) (differ-2 (zmod (c .before .before .before .before .before .before .before .before .before .args .m .p)) _ _ _ _ _ _ (hw .u0) (hb .u0) (c .before .before .before .before .before .before .before .before .before .pre .1 .1 .1 .z2)) (c .before .before .before .before .before .before .before .before .dot .ensures .is) (c .before .before .before .before .before .before .before .mul .ensures .is) (c .before .before .before .before .before .before .dot2 .ensures .is); s1 = chord-s1 (zmod (c .before .before .before .before .before .before .before .before .before .args .m .p)) _ _ _ _ _ _ _ _ _ _ _ _ _ _ _ _ _ _ _ (differ-1 (zmod (c .before .before .before .before .before .before .before .before .before .args .m .p)) _ _ _ _ _ _ (hw .u1) (hb .u1) (c .before .before .before .before .before .before .before .before .before .pre .1 .1 .1 .z1)) (differ-2 (zmod (c .before .before .before .before .before .before .before .before .before .args .m .p)) _ _ _ _ _ _ (hw .u0) (hb .u0) (c .before .before .before .before .before .before .before .before .before .pre .1 .1 .1 .z2)) (hw .v1) (hw .v0) (hb .v1) (hb .v0) (c .before .before .before .before .before .sub .ensures .is) (c .before .before .before .before .sub2 .ensures .is) (c .before .before .mul2 .ensures .is ∙ ap₂ (zmod (c .before .before .before .before .before .before .before .before .before .args .m .p) .mul) (c .before .before .before .dot3 .ensures .is) (refl)); s0 = chord-s0 (zmod (c .before .before .before .before .before .before .before .before .before .args .m .p)) _ _ _ _ _ _ _ _ _ _ _ _ _ _ _ _ _ _ _ _ _ _ _ (ho .u1) (ho .u0) (differ-1 (zmod (c .before .before .before .before .before .before .before .before .before .args .m .p)) _ _ _ _ _ _ (hw .u1) (hb .u1) (c .before .before .before .before .before .before .before .before .before .pre .1 .1 .1 .z1)) (differ-2 (zmod (c .before .before .before .before .before .before .before .before .before .args .m .p)) _ _ _ _ _ _ (hw .u0) (hb .u0) (c .before .before .before .before .before .before .before .before .before .pre .1 .1 .1 .z2)) (c .before .before .before .before .before .before .before .before .dot .ensures .is) (c .before .before .before .before .before .before .before .mul .ensures .is) (hw .v1) (hw .v0) (hb .v1) (hb .v0) (c .before .before .before .before .before .sub .ensures .is) (c .before .before .before .before .sub2 .ensures .is) (c .mul3 .ensures .is ∙ ap₂ (zmod (c .before .before .before .before .before .before .before .before .before .args .m .p) .mul) (c .before .cross .ensures .is) (refl)) } }
+returns c =
+    let at-dot3 = c .before .before .before in
+    let at-sub2 = at-dot3 .before in
+    let at-sub = at-sub2 .before in
+    let at-dot2 = at-sub .before in
+    let at-mul = at-dot2 .before in
+    let at-dot = at-mul .before in
+    let start = at-dot .before in
+    let K = zmod (start .args .m .p) in
+    record { kept = record { r = (at-dot2 .dot2 .ensures .kept); s1 = (c .before .before .mul2 .ensures .kept); s0 = (c .mul3 .ensures .kept) }; is = λ a0 a1 c0 c1 b0 b1 d0 d1 ho hw hb. record { r = chord-r K _ _ _ _ _ _ _ _ _ _ _ _ _ (ho .u1) (ho .u0) (differ-1 K _ _ _ _ _ _ (hw .u1) (hb .u1) (start .pre .1 .1 .1 .z1)) (differ-2 K _ _ _ _ _ _ (hw .u0) (hb .u0) (start .pre .1 .1 .1 .z2)) (at-dot .dot .ensures .is) (at-mul .mul .ensures .is) (at-dot2 .dot2 .ensures .is); s1 = chord-s1 K _ _ _ _ _ _ _ _ _ _ _ _ _ _ _ _ _ _ _ (differ-1 K _ _ _ _ _ _ (hw .u1) (hb .u1) (start .pre .1 .1 .1 .z1)) (differ-2 K _ _ _ _ _ _ (hw .u0) (hb .u0) (start .pre .1 .1 .1 .z2)) (hw .v1) (hw .v0) (hb .v1) (hb .v0) (at-sub .sub .ensures .is) (at-sub2 .sub2 .ensures .is) (c .before .before .mul2 .ensures .is ∙ ap₂ (K .mul) (at-dot3 .dot3 .ensures .is) (refl)); s0 = chord-s0 K _ _ _ _ _ _ _ _ _ _ _ _ _ _ _ _ _ _ _ _ _ _ _ (ho .u1) (ho .u0) (differ-1 K _ _ _ _ _ _ (hw .u1) (hb .u1) (start .pre .1 .1 .1 .z1)) (differ-2 K _ _ _ _ _ _ (hw .u0) (hb .u0) (start .pre .1 .1 .1 .z2)) (at-dot .dot .ensures .is) (at-mul .mul .ensures .is) (hw .v1) (hw .v0) (hb .v1) (hb .v0) (at-sub .sub .ensures .is) (at-sub2 .sub2 .ensures .is) (c .mul3 .ensures .is ∙ ap₂ (K .mul) (c .before .cross .ensures .is) (refl)) } }
 
 pub chord-spec : {M : Type 1} → statement M
 chord-spec =

@@ -40,10 +40,25 @@ sub-requires-2 : tie.Need-sub-requires-2
 sub-requires-2 c κs = ((c .before .dot2 .ensures .kept), (c .sqr2 .ensures .kept))
 
 cross-requires-2 : tie.Need-cross-requires-2
-cross-requires-2 c κs = ((c .before .before .before .before .before .before .before .before .before .before .before .pre .0 .z), (c .sub2 .ensures .kept), (c .before .before .before .before .before .before .before .before .before .before .before .pre .0 .u1), (c .before .before .before .before .before .dot .ensures .kept))
+cross-requires-2 c κs =
+    let at-dot = c .before .before .before .before .before in
+    let start = at-dot .before .before .before .before .before .before in
+    ((start .pre .0 .z), (c .sub2 .ensures .kept), (start .pre .0 .u1), (at-dot .dot .ensures .kept))
 
 returns : tie.Need-returns
-returns c = record { kept = record { k0 = (c .cross2 .ensures .kept); k1 = (c .before .before .before .before .add2 .ensures .kept); d = (c .before .before .before .before .before .before .before .before .before .add .ensures .kept) }; d-is = λ a0 a1 c0 c1 h. right-d (zmod (c .before .before .before .before .before .before .before .before .before .before .before .before .args .m .p)) _ _ _ _ _ _ (h .u1) (c .before .before .before .before .before .before .before .before .before .before .sub .ensures .is ∙ ap₂ (λ s t. zmod (c .before .before .before .before .before .before .before .before .before .before .before .before .args .m .p) .add s (zmod (c .before .before .before .before .before .before .before .before .before .before .before .before .args .m .p) .neg t)) (refl) (c .before .before .before .before .before .before .before .before .before .before .before .mul .ensures .is)) (c .before .before .before .before .before .before .before .before .before .add .ensures .is); k1-is = λ a0 a1 c0 c1 h. right-k1 (zmod (c .before .before .before .before .before .before .before .before .before .before .before .before .args .m .p)) _ _ _ _ _ _ _ _ _ _ _ _ _ (h .u1) (h .u0) (c .before .before .before .before .before .before .before .before .before .before .sub .ensures .is ∙ ap₂ (λ s t. zmod (c .before .before .before .before .before .before .before .before .before .before .before .before .args .m .p) .add s (zmod (c .before .before .before .before .before .before .before .before .before .before .before .before .args .m .p) .neg t)) (refl) (c .before .before .before .before .before .before .before .before .before .before .before .mul .ensures .is)) (c .before .before .before .before .before .before .before .before .before .add .ensures .is) (c .before .before .before .before .before .before .before .before .dbl .ensures .is) (c .before .before .before .before .before .before .before .sqr .ensures .is) (c .before .before .before .before .before .before .dot .ensures .is) (c .before .before .before .before .add2 .ensures .is ∙ ap₂ (zmod (c .before .before .before .before .before .before .before .before .before .before .before .before .args .m .p) .add) (c .before .before .before .before .before .cross .ensures .is) (refl)); k0-is = λ a0 a1 c0 c1 h. right-k0 (zmod (c .before .before .before .before .before .before .before .before .before .before .before .before .args .m .p)) _ _ _ _ _ _ _ _ _ _ _ _ _ _ _ _ _ (h .u1) (h .u0) (c .before .before .before .before .before .before .before .before .before .before .sub .ensures .is ∙ ap₂ (λ s t. zmod (c .before .before .before .before .before .before .before .before .before .before .before .before .args .m .p) .add s (zmod (c .before .before .before .before .before .before .before .before .before .before .before .before .args .m .p) .neg t)) (refl) (c .before .before .before .before .before .before .before .before .before .before .before .mul .ensures .is)) (c .before .before .before .before .before .before .before .before .before .add .ensures .is) (c .before .before .before .before .before .before .before .before .dbl .ensures .is) (c .before .before .before .before .before .before .before .sqr .ensures .is) (c .before .before .before .before .before .before .dot .ensures .is) (h .v1) (c .before .sub2 .ensures .is ∙ ap₂ (λ s t. zmod (c .before .before .before .before .before .before .before .before .before .before .before .before .args .m .p) .add s (zmod (c .before .before .before .before .before .before .before .before .before .before .before .before .args .m .p) .neg t)) (c .before .before .before .dot2 .ensures .is) (c .before .before .sqr2 .ensures .is)) (c .cross2 .ensures .is) }
+returns c =
+    let at-dot2 = c .before .before .before in
+    let at-add2 = at-dot2 .before in
+    let at-cross = at-add2 .before in
+    let at-dot = at-cross .before in
+    let at-sqr = at-dot .before in
+    let at-dbl = at-sqr .before in
+    let at-add = at-dbl .before in
+    let at-sub = at-add .before in
+    let at-mul = at-sub .before in
+    let start = at-mul .before in
+    let K = zmod (start .args .m .p) in
+    record { kept = record { k0 = (c .cross2 .ensures .kept); k1 = (at-add2 .add2 .ensures .kept); d = (at-add .add .ensures .kept) }; d-is = λ a0 a1 c0 c1 h. right-d K _ _ _ _ _ _ (h .u1) (at-sub .sub .ensures .is ∙ ap₂ (λ s t. K .add s (K .neg t)) (refl) (at-mul .mul .ensures .is)) (at-add .add .ensures .is); k1-is = λ a0 a1 c0 c1 h. right-k1 K _ _ _ _ _ _ _ _ _ _ _ _ _ (h .u1) (h .u0) (at-sub .sub .ensures .is ∙ ap₂ (λ s t. K .add s (K .neg t)) (refl) (at-mul .mul .ensures .is)) (at-add .add .ensures .is) (at-dbl .dbl .ensures .is) (at-sqr .sqr .ensures .is) (at-dot .dot .ensures .is) (at-add2 .add2 .ensures .is ∙ ap₂ (K .add) (at-cross .cross .ensures .is) (refl)); k0-is = λ a0 a1 c0 c1 h. right-k0 K _ _ _ _ _ _ _ _ _ _ _ _ _ _ _ _ _ (h .u1) (h .u0) (at-sub .sub .ensures .is ∙ ap₂ (λ s t. K .add s (K .neg t)) (refl) (at-mul .mul .ensures .is)) (at-add .add .ensures .is) (at-dbl .dbl .ensures .is) (at-sqr .sqr .ensures .is) (at-dot .dot .ensures .is) (h .v1) (c .before .sub2 .ensures .is ∙ ap₂ (λ s t. K .add s (K .neg t)) (at-dot2 .dot2 .ensures .is) (c .before .before .sqr2 .ensures .is)) (c .cross2 .ensures .is) }
 
 pub cofactor-mod-u-spec : {M : Type 1} → statement M
 cofactor-mod-u-spec =

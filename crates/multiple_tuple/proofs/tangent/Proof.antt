@@ -37,7 +37,17 @@ dot-requires-2 : tie.Need-dot-requires-2
 dot-requires-2 c κs = ((c .before .before .before .before .sub .ensures .kept), (c .before .before .before .before .before .before .before .before .before .pre .1 .k0), (c .before .before .mul4 .ensures .kept), (c .before .before .before .before .before .before .before .before .before .pre .1 .k1))
 
 returns : tie.Need-returns
-returns c = record { kept = record { r = (c .before .before .dot .ensures .kept); s1 = (c .before .cross .ensures .kept); s0 = (c .dot2 .ensures .kept) }; is = λ f2 f3 f4 hk a0 a1 c0 c1 h. record { r = tangent-r (zmod (c .before .before .before .before .before .before .before .before .before .before .args .m .p)) _ _ _ _ _ _ _ _ _ _ _ _ _ _ _ (h .u1) (h .u0) (h .v1) (h .v0) (c .before .before .before .before .before .before .before .before .before .dbl .ensures .is) (c .before .before .before .before .before .before .before .before .dbl2 .ensures .is) (c .before .before .before .before .before .before .before .mul .ensures .is) (c .before .before .before .before .before .sub .ensures .is ∙ ap₂ (λ s t. zmod (c .before .before .before .before .before .before .before .before .before .before .args .m .p) .add s (zmod (c .before .before .before .before .before .before .before .before .before .before .args .m .p) .neg t)) (refl) (c .before .before .before .before .before .before .mul2 .ensures .is)) (c .before .before .before .mul4 .ensures .is ∙ ap₂ (zmod (c .before .before .before .before .before .before .before .before .before .before .args .m .p) .mul) (c .before .before .before .before .mul3 .ensures .is) (refl)) (c .before .before .dot .ensures .is); s1 = tangent-s1 (zmod (c .before .before .before .before .before .before .before .before .before .before .args .m .p)) _ _ _ _ _ _ _ _ _ _ _ _ _ _ (h .v1) (h .v0) (c .before .before .before .before .before .before .before .before .before .dbl .ensures .is) (c .before .before .before .before .before .before .before .before .dbl2 .ensures .is) (c .before .before .before .before .before .before .before .mul .ensures .is) (hk .k0-is a0 a1 c0 c1 h) (hk .k1-is a0 a1 c0 c1 h) (c .before .cross .ensures .is); s0 = tangent-s0 (zmod (c .before .before .before .before .before .before .before .before .before .before .args .m .p)) _ _ _ _ _ _ _ _ _ _ _ _ _ _ _ _ _ _ _ (h .u1) (h .u0) (h .v1) (h .v0) (c .before .before .before .before .before .before .before .before .before .dbl .ensures .is) (c .before .before .before .before .before .before .before .before .dbl2 .ensures .is) (c .before .before .before .before .before .before .before .mul .ensures .is) (c .before .before .before .before .before .sub .ensures .is ∙ ap₂ (λ s t. zmod (c .before .before .before .before .before .before .before .before .before .before .args .m .p) .add s (zmod (c .before .before .before .before .before .before .before .before .before .before .args .m .p) .neg t)) (refl) (c .before .before .before .before .before .before .mul2 .ensures .is)) (c .before .before .before .mul4 .ensures .is ∙ ap₂ (zmod (c .before .before .before .before .before .before .before .before .before .before .args .m .p) .mul) (c .before .before .before .before .mul3 .ensures .is) (refl)) (hk .k0-is a0 a1 c0 c1 h) (hk .k1-is a0 a1 c0 c1 h) (c .dot2 .ensures .is) } }
+returns c =
+    let at-mul4 = c .before .before .before in
+    let at-mul3 = at-mul4 .before in
+    let at-sub = at-mul3 .before in
+    let at-mul2 = at-sub .before in
+    let at-mul = at-mul2 .before in
+    let at-dbl2 = at-mul .before in
+    let at-dbl = at-dbl2 .before in
+    let start = at-dbl .before in
+    let K = zmod (start .args .m .p) in
+    record { kept = record { r = (c .before .before .dot .ensures .kept); s1 = (c .before .cross .ensures .kept); s0 = (c .dot2 .ensures .kept) }; is = λ f2 f3 f4 hk a0 a1 c0 c1 h. record { r = tangent-r K _ _ _ _ _ _ _ _ _ _ _ _ _ _ _ (h .u1) (h .u0) (h .v1) (h .v0) (at-dbl .dbl .ensures .is) (at-dbl2 .dbl2 .ensures .is) (at-mul .mul .ensures .is) (at-sub .sub .ensures .is ∙ ap₂ (λ s t. K .add s (K .neg t)) (refl) (at-mul2 .mul2 .ensures .is)) (at-mul4 .mul4 .ensures .is ∙ ap₂ (K .mul) (at-mul3 .mul3 .ensures .is) (refl)) (c .before .before .dot .ensures .is); s1 = tangent-s1 K _ _ _ _ _ _ _ _ _ _ _ _ _ _ (h .v1) (h .v0) (at-dbl .dbl .ensures .is) (at-dbl2 .dbl2 .ensures .is) (at-mul .mul .ensures .is) (hk .k0-is a0 a1 c0 c1 h) (hk .k1-is a0 a1 c0 c1 h) (c .before .cross .ensures .is); s0 = tangent-s0 K _ _ _ _ _ _ _ _ _ _ _ _ _ _ _ _ _ _ _ (h .u1) (h .u0) (h .v1) (h .v0) (at-dbl .dbl .ensures .is) (at-dbl2 .dbl2 .ensures .is) (at-mul .mul .ensures .is) (at-sub .sub .ensures .is ∙ ap₂ (λ s t. K .add s (K .neg t)) (refl) (at-mul2 .mul2 .ensures .is)) (at-mul4 .mul4 .ensures .is ∙ ap₂ (K .mul) (at-mul3 .mul3 .ensures .is) (refl)) (hk .k0-is a0 a1 c0 c1 h) (hk .k1-is a0 a1 c0 c1 h) (c .dot2 .ensures .is) } }
 
 pub tangent-spec : {M : Type 1} → statement M
 tangent-spec =

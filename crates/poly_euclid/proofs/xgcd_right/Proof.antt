@@ -35,7 +35,9 @@ mul-requires c κs =
     record { left = c .before .before .divide .ensures .ok-q; right = v .inv .0 .lines .ok-y .t; fits = half-fits (s .args .m) (s .pre .0) (v .inv .0 .lines) (omega (arith, c .before .before .before .before .before .loop-test .taken, v .inv .1)) (c .before .before .divide .ensures) }
 
 sub-requires : tie.Need-sub-requires Inv-loop μ-loop
-sub-requires c κs = (c .before .before .before .before .before .before .before .loop .inv .0 .lines .ok-x .t, c .mul .ensures .ok)
+sub-requires c κs =
+    let at-loop = c .before .before .before .before .before .before .before in
+    (at-loop .loop .inv .0 .lines .ok-x .t, c .mul .ensures .ok)
 
 loop-less : tie.Need-loop-less Inv-loop μ-loop
 loop-less c = omega (arith, c .before .before .before .before .before .before .before .before .loop .inv .1, c .before .before .before .before .divide .ensures .rest)

@@ -39,7 +39,14 @@ parted-requires : tie.Need-parted-requires
 parted-requires c κs = let s = c .before .before .before .before in all-parted (s .args .m) (s .pre .good) (c .before .before .before .field-part .ensures) (s .pre) (c .before .before .if1 .left) (c .before .if2 .left) (c .if3 .left)
 
 returns-3 : tie.Need-returns-3
-returns-3 c = let s = c .before .before .before .before .before .before .before .before .before .before in parabola-root (s .args .m) (s .pre .good) (c .before .before .before .before .before .before .before .before .before .field-part .ensures) (c .before .before .before .before .before .before .if3 .taken) (c .before .before .before .before .before .get2 .ensures (c .before .before .before .before .before .before .before .before .before .before .args .m) (c .before .before .before .before .before .before .before .before .before .field-part .ensures .ok .fill)) (c .before .before .before .before .get3 .ensures (c .before .before .before .before .before .before .before .before .before .before .args .m) (c .before .before .before .before .before .before .before .before .before .field-part .ensures .ok .fill)) (subst (RootsAre (c .before .before .before .before .before .before .before .before .before .before .args .m) (c .before .before .before .before .before .get2 .result) (c .before .before .before .before .get3 .result)) (c .before .r .given .1) (c .before .before .before .quadratic .ensures))
+returns-3 c =
+    let at-quadratic = c .before .before .before in
+    let at-get3 = at-quadratic .before in
+    let at-get2 = at-get3 .before in
+    let at-if3 = at-get2 .before in
+    let at-field-part = at-if3 .before .before .before in
+    let s = at-field-part .before in
+    parabola-root (s .args .m) (s .pre .good) (at-field-part .field-part .ensures) (at-if3 .if3 .taken) (at-get2 .get2 .ensures (s .args .m) (at-field-part .field-part .ensures .ok .fill)) (at-get3 .get3 .ensures (s .args .m) (at-field-part .field-part .ensures .ok .fill)) (subst (RootsAre (s .args .m) (at-get2 .get2 .result) (at-get3 .get3 .result)) (c .before .r .given .1) (at-quadratic .quadratic .ensures))
 
 returns-4 : tie.Need-returns-4
 returns-4 c = let s = c .before .before .before .before .before .before .before .before .before in parabola-none (s .args .m) (s .pre .good) (c .before .before .before .before .before .before .before .before .field-part .ensures) (c .before .before .before .before .before .if3 .taken) (c .before .before .before .before .get2 .ensures (c .before .before .before .before .before .before .before .before .before .args .m) (c .before .before .before .before .before .before .before .before .field-part .ensures .ok .fill)) (c .before .before .before .get3 .ensures (c .before .before .before .before .before .before .before .before .before .args .m) (c .before .before .before .before .before .before .before .before .field-part .ensures .ok .fill)) (subst (RootsAre (c .before .before .before .before .before .before .before .before .before .args .m) (c .before .before .before .before .get2 .result) (c .before .before .before .get3 .result)) (c .enum-told .given .1) (c .before .before .quadratic .ensures))

@@ -55,7 +55,11 @@ array-copy-out-t31 c = search needs
 
 -- src/lib.rt:37:39
 f-of-requires : tie.Need-f-of-requires
-f-of-requires c κs = let s = c .before .before .before .before .before .before .before .before .before .before .before .before .before .before in shaped (s .args .s .now) (s .args .g) (s .args .m) (s .pre) (c .before .before .before .before .before .before .before .before .before .before .before .before .residues-at .result) (c .before .before .before .before .before .before .before .before .before .before .before .residues-at2 .result) (c .before .before .before .before .before .before .before .before .before .before .before .before .residues-at .ensures) (c .before .before .before .before .before .before .before .before .before .before .before .residues-at2 .ensures) _
+f-of-requires c κs =
+    let at-residues-at2 = c .before .before .before .before .before .before .before .before .before .before .before in
+    let at-residues-at = at-residues-at2 .before in
+    let s = at-residues-at .before .before in
+    shaped (s .args .s .now) (s .args .g) (s .args .m) (s .pre) (at-residues-at .residues-at .result) (at-residues-at2 .residues-at2 .result) (at-residues-at .residues-at .ensures) (at-residues-at2 .residues-at2 .ensures) _
 
 -- src/lib.rt:37:16
 is-square-free-requires : tie.Need-is-square-free-requires
@@ -63,19 +67,39 @@ is-square-free-requires c κs = search needs
 
 -- src/lib.rt:38:17
 returns : tie.Need-returns
-returns c = let s = c .before .before .before .before .before .before .before .before .before .before .before .before .before .before .before .before .before in built-curve (s .args .s .now) (s .args .g) (s .args .m) (s .pre) (c .before .before .before .before .before .before .before .before .before .before .before .before .before .before .before .residues-at .result) (c .before .before .before .before .before .before .before .before .before .before .before .before .before .before .residues-at2 .result) (c .before .before .before .before .before .before .before .before .before .before .before .before .before .before .before .residues-at .ensures) (c .before .before .before .before .before .before .before .before .before .before .before .before .before .before .residues-at2 .ensures) _ (c .before .before .before .before .if1 .taken) (c .before .before .before .if2 .taken) (c .before .before .f-of .result) (c .before .before .f-of .ensures) (decided-yes (c .if3 .taken) (c .before .is-square-free .ensures))
+returns c =
+    let at-if2 = c .before .before .before in
+    let at-if1 = at-if2 .before in
+    let at-residues-at2 = at-if1 .before .before .before .before .before .before .before .before .before .before in
+    let at-residues-at = at-residues-at2 .before in
+    let s = at-residues-at .before .before in
+    built-curve (s .args .s .now) (s .args .g) (s .args .m) (s .pre) (at-residues-at .residues-at .result) (at-residues-at2 .residues-at2 .result) (at-residues-at .residues-at .ensures) (at-residues-at2 .residues-at2 .ensures) _ (at-if1 .if1 .taken) (at-if2 .if2 .taken) (c .before .before .f-of .result) (c .before .before .f-of .ensures) (decided-yes (c .if3 .taken) (c .before .is-square-free .ensures))
 
 -- src/lib.rt:43:13
 returns-2 : tie.Need-returns-2
-returns-2 c = let s = c .before .before .before .before .before .before .before .before .before .before .before .before .before .before .before .before .before in repeated (s .args .s .now) (s .args .g) (s .args .m) (s .pre) (c .before .before .before .before .before .before .before .before .before .before .before .before .before .before .before .residues-at .result) (c .before .before .before .before .before .before .before .before .before .before .before .before .before .before .residues-at2 .result) (c .before .before .before .before .before .before .before .before .before .before .before .before .before .before .before .residues-at .ensures) (c .before .before .before .before .before .before .before .before .before .before .before .before .before .before .residues-at2 .ensures) _ (c .before .before .before .before .if1 .taken) (c .before .before .before .if2 .taken) (c .before .before .f-of .result) (c .before .before .f-of .ensures) (decided-no (c .if3 .left) (c .before .is-square-free .ensures))
+returns-2 c =
+    let at-if2 = c .before .before .before in
+    let at-if1 = at-if2 .before in
+    let at-residues-at2 = at-if1 .before .before .before .before .before .before .before .before .before .before in
+    let at-residues-at = at-residues-at2 .before in
+    let s = at-residues-at .before .before in
+    repeated (s .args .s .now) (s .args .g) (s .args .m) (s .pre) (at-residues-at .residues-at .result) (at-residues-at2 .residues-at2 .result) (at-residues-at .residues-at .ensures) (at-residues-at2 .residues-at2 .ensures) _ (at-if1 .if1 .taken) (at-if2 .if2 .taken) (c .before .before .f-of .result) (c .before .before .f-of .ensures) (decided-no (c .if3 .left) (c .before .is-square-free .ensures))
 
 -- src/lib.rt:16:1
 returns-3 : tie.Need-returns-3
-returns-3 c = let s = c .before .before .before .before .before .before .before .before .before .before .before .before .before .before in high-large (s .args .s .now) (s .args .g) (s .args .m) (s .pre) (c .before .before .before .before .before .before .before .before .before .before .before .before .residues-at .result) (c .before .before .before .before .before .before .before .before .before .before .before .residues-at2 .result) (c .before .before .before .before .before .before .before .before .before .before .before .before .residues-at .ensures) (c .before .before .before .before .before .before .before .before .before .before .before .residues-at2 .ensures) (c .before .if1 .taken) (c .if2 .left)
+returns-3 c =
+    let at-residues-at2 = c .before .before .before .before .before .before .before .before .before .before .before in
+    let at-residues-at = at-residues-at2 .before in
+    let s = at-residues-at .before .before in
+    high-large (s .args .s .now) (s .args .g) (s .args .m) (s .pre) (at-residues-at .residues-at .result) (at-residues-at2 .residues-at2 .result) (at-residues-at .residues-at .ensures) (at-residues-at2 .residues-at2 .ensures) (c .before .if1 .taken) (c .if2 .left)
 
 -- src/lib.rt:16:1
 returns-4 : tie.Need-returns-4
-returns-4 c = let s = c .before .before .before .before .before .before .before .before .before .before .before .before .before in low-large (s .args .s .now) (s .args .g) (s .args .m) (s .pre) (c .before .before .before .before .before .before .before .before .before .before .before .residues-at .result) (c .before .before .before .before .before .before .before .before .before .before .residues-at2 .result) (c .before .before .before .before .before .before .before .before .before .before .before .residues-at .ensures) (c .before .before .before .before .before .before .before .before .before .before .residues-at2 .ensures) (c .if1 .left)
+returns-4 c =
+    let at-residues-at2 = c .before .before .before .before .before .before .before .before .before .before in
+    let at-residues-at = at-residues-at2 .before in
+    let s = at-residues-at .before .before in
+    low-large (s .args .s .now) (s .args .g) (s .args .m) (s .pre) (at-residues-at .residues-at .result) (at-residues-at2 .residues-at2 .result) (at-residues-at .residues-at .ensures) (at-residues-at2 .residues-at2 .ensures) (c .if1 .left)
 
 pub read-coefficients-spec : {M : Type 1} → statement M
 read-coefficients-spec =

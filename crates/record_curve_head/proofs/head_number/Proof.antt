@@ -75,11 +75,28 @@ is-genus-requires c κs = search needs
 
 -- src/lib.rt:88:9
 returns-4 : tie.Need-returns-4
-returns-4 c = other-genus _ (c .before .before .before .before .before .before .before .before .before .before .before .before .if1 .left) (sym (c .before .before .before .before .before .before .before .before .before .before .before .marked .ensures) ∙ not-false _ (c .before .before .before .before .before .before .before .before .before .before .if2 .left)) (ap version? (sym (ap₂ (λ (x y : ℕ). x * 256 + y) (c .before .before .before .before .before .before .before .before .wide .ensures .0) (c .before .before .before .before .before .before .wide2 .ensures .0))) ∙ sym (c .before .before .before .before .before .is-version .ensures) ∙ not-false _ (c .before .before .before .before .if3 .left)) (ap genus? (sym (c .before .before .wide3 .ensures .0)) ∙ sym (c .before .is-genus .ensures) ∙ not-true _ (c .if4 .taken))
+returns-4 c =
+    let at-if3 = c .before .before .before .before in
+    let at-is-version = at-if3 .before in
+    let at-wide2 = at-is-version .before in
+    let at-wide = at-wide2 .before .before in
+    let at-if2 = at-wide .before .before in
+    let at-marked = at-if2 .before in
+    let at-if1 = at-marked .before in
+    other-genus _ (at-if1 .if1 .left) (sym (at-marked .marked .ensures) ∙ not-false _ (at-if2 .if2 .left)) (ap version? (sym (ap₂ (λ (x y : ℕ). x * 256 + y) (at-wide .wide .ensures .0) (at-wide2 .wide2 .ensures .0))) ∙ sym (at-is-version .is-version .ensures) ∙ not-false _ (at-if3 .if3 .left)) (ap genus? (sym (c .before .before .wide3 .ensures .0)) ∙ sym (c .before .is-genus .ensures) ∙ not-true _ (c .if4 .taken))
 
 -- src/lib.rt:91:9
 plain-length-requires : tie.Need-plain-length-requires
-plain-length-requires c κs = (record { six = omega (arith, c .before .before .before .before .before .before .before .before .before .before .before .before .before .if1 .left); mark = sym (c .before .before .before .before .before .before .before .before .before .before .before .before .marked .ensures) ∙ not-false _ (c .before .before .before .before .before .before .before .before .before .before .before .if2 .left); version = ap version? (sym (ap₂ (λ (x y : ℕ). x * 256 + y) (c .before .before .before .before .before .before .before .before .before .wide .ensures .0) (c .before .before .before .before .before .before .before .wide2 .ensures .0))) ∙ sym (c .before .before .before .before .before .before .is-version .ensures) ∙ not-false _ (c .before .before .before .before .before .if3 .left); genus = ap genus? (sym (c .before .before .before .wide3 .ensures .0)) ∙ sym (c .before .before .is-genus .ensures) ∙ not-false _ (c .before .if4 .left) }, omega (arith, c .if5 .taken, c .before .before .before .before .before .before .before .before .before .wide .ensures .0, c .before .before .before .before .before .before .before .wide2 .ensures .0))
+plain-length-requires c κs =
+    let at-wide3 = c .before .before .before in
+    let at-if3 = at-wide3 .before .before in
+    let at-is-version = at-if3 .before in
+    let at-wide2 = at-is-version .before in
+    let at-wide = at-wide2 .before .before in
+    let at-if2 = at-wide .before .before in
+    let at-marked = at-if2 .before in
+    let at-if1 = at-marked .before in
+    (record { six = omega (arith, at-if1 .if1 .left); mark = sym (at-marked .marked .ensures) ∙ not-false _ (at-if2 .if2 .left); version = ap version? (sym (ap₂ (λ (x y : ℕ). x * 256 + y) (at-wide .wide .ensures .0) (at-wide2 .wide2 .ensures .0))) ∙ sym (at-is-version .is-version .ensures) ∙ not-false _ (at-if3 .if3 .left); genus = ap genus? (sym (at-wide3 .wide3 .ensures .0)) ∙ sym (c .before .before .is-genus .ensures) ∙ not-false _ (c .before .if4 .left) }, omega (arith, c .if5 .taken, at-wide .wide .ensures .0, at-wide2 .wide2 .ensures .0))
 
 -- src/lib.rt:91:9
 returns-5 : tie.Need-returns-5
@@ -87,7 +104,16 @@ returns-5 c = search needs
 
 -- src/lib.rt:93:5
 witness-length-requires : tie.Need-witness-length-requires
-witness-length-requires c κs = (record { six = omega (arith, c .before .before .before .before .before .before .before .before .before .before .before .before .before .if1 .left); mark = sym (c .before .before .before .before .before .before .before .before .before .before .before .before .marked .ensures) ∙ not-false _ (c .before .before .before .before .before .before .before .before .before .before .before .if2 .left); version = ap version? (sym (ap₂ (λ (x y : ℕ). x * 256 + y) (c .before .before .before .before .before .before .before .before .before .wide .ensures .0) (c .before .before .before .before .before .before .before .wide2 .ensures .0))) ∙ sym (c .before .before .before .before .before .before .is-version .ensures) ∙ not-false _ (c .before .before .before .before .before .if3 .left); genus = ap genus? (sym (c .before .before .before .wide3 .ensures .0)) ∙ sym (c .before .before .is-genus .ensures) ∙ not-false _ (c .before .if4 .left) }, λ e. c .if5 .left (omega (arith, e, c .before .before .before .before .before .before .before .before .before .wide .ensures .0, c .before .before .before .before .before .before .before .wide2 .ensures .0)))
+witness-length-requires c κs =
+    let at-wide3 = c .before .before .before in
+    let at-if3 = at-wide3 .before .before in
+    let at-is-version = at-if3 .before in
+    let at-wide2 = at-is-version .before in
+    let at-wide = at-wide2 .before .before in
+    let at-if2 = at-wide .before .before in
+    let at-marked = at-if2 .before in
+    let at-if1 = at-marked .before in
+    (record { six = omega (arith, at-if1 .if1 .left); mark = sym (at-marked .marked .ensures) ∙ not-false _ (at-if2 .if2 .left); version = ap version? (sym (ap₂ (λ (x y : ℕ). x * 256 + y) (at-wide .wide .ensures .0) (at-wide2 .wide2 .ensures .0))) ∙ sym (at-is-version .is-version .ensures) ∙ not-false _ (at-if3 .if3 .left); genus = ap genus? (sym (at-wide3 .wide3 .ensures .0)) ∙ sym (c .before .before .is-genus .ensures) ∙ not-false _ (c .before .if4 .left) }, λ e. c .if5 .left (omega (arith, e, at-wide .wide .ensures .0, at-wide2 .wide2 .ensures .0)))
 
 -- src/lib.rt:74:1
 returns-6 : tie.Need-returns-6

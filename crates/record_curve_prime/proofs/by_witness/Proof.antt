@@ -88,7 +88,15 @@ accepts-requires c κs = let s = c .before .before .before .before .before .befo
 
 -- src/lib.rt:76:9
 returns-3 : tie.Need-returns-3
-returns-3 c = let s = c .before .before .before .before .before .before .before .before .before .before .before .before .before in let e = c .before .before .before .before .before .wide2 .ensures .0 ∙ count-at (s .args .s .now) (c .before .before .before .before .before .before .before .wide .result) (c .before .before .before .before .before .before .before .wide .ensures .0) in no-witness (s .args .s .now) (s .pre .0) (s .pre .1) _ (c .before .before .before .before .before .before .before .before .before .before .before .read64 .ensures) (decided-yes {A = Odd _} {b = c .before .before .before .before .before .before .before .before .before .before .is-odd-number .result} (not-false _ (c .before .before .before .before .before .before .before .before .before .if1 .left)) (c .before .before .before .before .before .before .before .before .before .before .is-odd-number .ensures)) _ (c .before .before .before .before .read642 .ensures ∙ base-at (s .args .s .now) _ (c .before .before .before .before .before .before .before .wide .ensures .0)) _ (c .before .before .listed .ensures ∙ primes-at (s .args .s .now) _ (c .before .before .before .before .before .before .before .wide .ensures .0) _ e) (decided-no {A = Witnessed _ _ _} {b = c .before .accepts .result} (not-true _ (c .if3 .taken)) (c .before .accepts .ensures))
+returns-3 c =
+    let at-read642 = c .before .before .before .before in
+    let at-wide2 = at-read642 .before in
+    let at-wide = at-wide2 .before .before in
+    let at-if1 = at-wide .before .before in
+    let at-is-odd-number = at-if1 .before in
+    let at-read64 = at-is-odd-number .before in
+    let s = at-read64 .before .before in
+    let e = at-wide2 .wide2 .ensures .0 ∙ count-at (s .args .s .now) (at-wide .wide .result) (at-wide .wide .ensures .0) in no-witness (s .args .s .now) (s .pre .0) (s .pre .1) _ (at-read64 .read64 .ensures) (decided-yes {A = Odd _} {b = at-is-odd-number .is-odd-number .result} (not-false _ (at-if1 .if1 .left)) (at-is-odd-number .is-odd-number .ensures)) _ (at-read642 .read642 .ensures ∙ base-at (s .args .s .now) _ (at-wide .wide .ensures .0)) _ (c .before .before .listed .ensures ∙ primes-at (s .args .s .now) _ (at-wide .wide .ensures .0) _ e) (decided-no {A = Witnessed _ _ _} {b = c .before .accepts .result} (not-true _ (c .if3 .taken)) (c .before .accepts .ensures))
 
 -- src/lib.rt:78:23
 of-requires : tie.Need-of-requires
@@ -96,7 +104,17 @@ of-requires c κs = decided-yes {A = Odd _} {b = c .before .before .before .befo
 
 -- src/lib.rt:60:1
 returns-4 : tie.Need-returns-4
-returns-4 c = let s = c .before .before .before .before .before .before .before .before .before .before .before .before .before .before in let e = c .before .before .before .before .before .before .wide2 .ensures .0 ∙ count-at (s .args .s .now) (c .before .before .before .before .before .before .before .before .wide .result) (c .before .before .before .before .before .before .before .before .wide .ensures .0) in witness-taken (s .args .s .now) (s .pre .0) (s .pre .1) _ (c .before .before .before .before .before .before .before .before .before .before .before .before .read64 .ensures) (decided-yes {A = Odd _} {b = c .before .before .before .before .before .before .before .before .before .before .before .is-odd-number .result} (not-false _ (c .before .before .before .before .before .before .before .before .before .before .if1 .left)) (c .before .before .before .before .before .before .before .before .before .before .before .is-odd-number .ensures)) _ (c .before .before .before .before .before .read642 .ensures ∙ base-at (s .args .s .now) _ (c .before .before .before .before .before .before .before .before .wide .ensures .0)) _ (c .before .before .before .listed .ensures ∙ primes-at (s .args .s .now) _ (c .before .before .before .before .before .before .before .before .wide .ensures .0) _ e) (λ z. omega (arith, c .before .before .before .before .if2 .left, z)) (decided-yes {A = Witnessed _ _ _} {b = c .before .before .accepts .result} (not-false _ (c .before .if3 .left)) (c .before .before .accepts .ensures)) _ (c .of .ensures)
+returns-4 c =
+    let at-listed = c .before .before .before in
+    let at-if2 = at-listed .before in
+    let at-read642 = at-if2 .before in
+    let at-wide2 = at-read642 .before in
+    let at-wide = at-wide2 .before .before in
+    let at-if1 = at-wide .before .before in
+    let at-is-odd-number = at-if1 .before in
+    let at-read64 = at-is-odd-number .before in
+    let s = at-read64 .before .before in
+    let e = at-wide2 .wide2 .ensures .0 ∙ count-at (s .args .s .now) (at-wide .wide .result) (at-wide .wide .ensures .0) in witness-taken (s .args .s .now) (s .pre .0) (s .pre .1) _ (at-read64 .read64 .ensures) (decided-yes {A = Odd _} {b = at-is-odd-number .is-odd-number .result} (not-false _ (at-if1 .if1 .left)) (at-is-odd-number .is-odd-number .ensures)) _ (at-read642 .read642 .ensures ∙ base-at (s .args .s .now) _ (at-wide .wide .ensures .0)) _ (at-listed .listed .ensures ∙ primes-at (s .args .s .now) _ (at-wide .wide .ensures .0) _ e) (λ z. omega (arith, at-if2 .if2 .left, z)) (decided-yes {A = Witnessed _ _ _} {b = c .before .before .accepts .result} (not-false _ (c .before .if3 .left)) (c .before .before .accepts .ensures)) _ (c .of .ensures)
 
 pub by-witness-spec : {M : Type 1} → statement M
 by-witness-spec =

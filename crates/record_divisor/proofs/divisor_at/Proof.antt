@@ -53,10 +53,28 @@ contains-requires : tie.Need-contains-requires
 contains-requires c κs = let s = c .before .before .before .before .before .before .before .before .before .before .before .before in (s .pre .0, (held (s .args .c) (s .pre .0) (s .args .whole) (s .args .s .now) (s .args .a) _ (c .before .before .before .before .before .before .before .before .wide .ensures .0) (c .before .before .before .before .before .before .before .before .before .before .if1 .left) (c .before .before .before .before .before .before .before .if2 .left) (sym (c .before .before .before .before .before .before .record-fits .ensures) ∙ not-false _ (c .before .before .before .before .before .if3 .left)) _ (c .before .before .before .before .residues-at .ensures) (not-false _ (c .before .if4 .left)) _ (c .of-row .ensures .0) (c .of-row .ensures .1), omega (arith, c .of-row .ensures .0, c .before .before .before .before .before .before .before .if2 .left)))
 
 returns-5 : tie.Need-returns-5
-returns-5 c = let s = c .before .before .before .before .before .before .before .before .before .before .before .before .before .before in off-curve (s .args .c) (s .pre .0) (s .args .whole) (s .args .s .now) (s .args .a) _ (c .before .before .before .before .before .before .before .before .before .before .wide .ensures .0) (c .before .before .before .before .before .before .before .before .before .before .before .before .if1 .left) (c .before .before .before .before .before .before .before .before .before .if2 .left) (sym (c .before .before .before .before .before .before .before .before .record-fits .ensures) ∙ not-false _ (c .before .before .before .before .before .before .before .if3 .left)) _ (c .before .before .before .before .before .before .residues-at .ensures) (not-false _ (c .before .before .before .if4 .left)) _ (c .before .before .of-row .ensures .0) (c .before .before .of-row .ensures .1) (decided-no {b = c .before .contains .result} (not-true _ (c .if5 .taken)) (c .before .contains .ensures))
+returns-5 c =
+    let at-if4 = c .before .before .before in
+    let at-residues-at = at-if4 .before .before .before in
+    let at-if3 = at-residues-at .before in
+    let at-record-fits = at-if3 .before in
+    let at-if2 = at-record-fits .before in
+    let at-wide = at-if2 .before in
+    let at-if1 = at-wide .before .before in
+    let s = at-if1 .before .before in
+    off-curve (s .args .c) (s .pre .0) (s .args .whole) (s .args .s .now) (s .args .a) _ (at-wide .wide .ensures .0) (at-if1 .if1 .left) (at-if2 .if2 .left) (sym (at-record-fits .record-fits .ensures) ∙ not-false _ (at-if3 .if3 .left)) _ (at-residues-at .residues-at .ensures) (not-false _ (at-if4 .if4 .left)) _ (c .before .before .of-row .ensures .0) (c .before .before .of-row .ensures .1) (decided-no {b = c .before .contains .result} (not-true _ (c .if5 .taken)) (c .before .contains .ensures))
 
 returns-6 : tie.Need-returns-6
-returns-6 c = let s = c .before .before .before .before .before .before .before .before .before .before .before .before .before .before in on-curve (s .args .c) (s .pre .0) (s .args .whole) (s .args .s .now) (s .args .a) _ (c .before .before .before .before .before .before .before .before .before .before .wide .ensures .0) (c .before .before .before .before .before .before .before .before .before .before .before .before .if1 .left) (c .before .before .before .before .before .before .before .before .before .if2 .left) (sym (c .before .before .before .before .before .before .before .before .record-fits .ensures) ∙ not-false _ (c .before .before .before .before .before .before .before .if3 .left)) _ (c .before .before .before .before .before .before .residues-at .ensures) (not-false _ (c .before .before .before .if4 .left)) _ (c .before .before .of-row .ensures .0) (c .before .before .of-row .ensures .1) (decided-yes {b = c .before .contains .result} (not-false _ (c .if5 .left)) (c .before .contains .ensures))
+returns-6 c =
+    let at-if4 = c .before .before .before in
+    let at-residues-at = at-if4 .before .before .before in
+    let at-if3 = at-residues-at .before in
+    let at-record-fits = at-if3 .before in
+    let at-if2 = at-record-fits .before in
+    let at-wide = at-if2 .before in
+    let at-if1 = at-wide .before .before in
+    let s = at-if1 .before .before in
+    on-curve (s .args .c) (s .pre .0) (s .args .whole) (s .args .s .now) (s .args .a) _ (at-wide .wide .ensures .0) (at-if1 .if1 .left) (at-if2 .if2 .left) (sym (at-record-fits .record-fits .ensures) ∙ not-false _ (at-if3 .if3 .left)) _ (at-residues-at .residues-at .ensures) (not-false _ (at-if4 .if4 .left)) _ (c .before .before .of-row .ensures .0) (c .before .before .of-row .ensures .1) (decided-yes {b = c .before .contains .result} (not-false _ (c .if5 .left)) (c .before .contains .ensures))
 
 pub divisor-at-spec : {M : Type 1} → statement M
 divisor-at-spec =

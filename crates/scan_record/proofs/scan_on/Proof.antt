@@ -40,7 +40,15 @@ enum-known-d : tie.Need-enum-known-d
 enum-known-d c = search needs
 
 take-requires : tie.Need-take-requires
-take-requires c κs = let s = c .before .before .before .before .before .before .before .before .before .before .before .before .before .before .args in to-take (s .c) (s .t) (s .«record» .now) _ (subst (ResumeIs (s .c) (s .t .divisor) (s .t .count)) (c .before .before .before .before .before .before .before .before .before .before .total .given .1) (c .before .before .before .before .before .before .before .before .before .before .before .before .take-up .ensures)) (c .before .before .before .before .before .before .before .before .if1 .left) (c .before .before .before .before .before .before .read32 .ensures .1) (c .before .before .before .before .before .if2 .left) _ (c .before .before .before .divisor-at .ensures) _ (c .before .d .given .1) (c .before .before .before .before .before .before .before .before .before .before .before .before .before .before .pre)
+take-requires c κs =
+    let at-divisor-at = c .before .before .before in
+    let at-if2 = at-divisor-at .before .before in
+    let at-read32 = at-if2 .before in
+    let at-if1 = at-read32 .before .before in
+    let at-total = at-if1 .before .before in
+    let at-take-up = at-total .before .before in
+    let start = at-take-up .before .before in
+    let s = start .args in to-take (s .c) (s .t) (s .«record» .now) _ (subst (ResumeIs (s .c) (s .t .divisor) (s .t .count)) (at-total .total .given .1) (at-take-up .take-up .ensures)) (at-if1 .if1 .left) (at-read32 .read32 .ensures .1) (at-if2 .if2 .left) _ (at-divisor-at .divisor-at .ensures) _ (c .before .d .given .1) (start .pre)
 
 enum-known-n : tie.Need-enum-known-n
 enum-known-n c = search needs
@@ -49,10 +57,26 @@ enum-known-n-2 : tie.Need-enum-known-n-2
 enum-known-n-2 c = search needs
 
 returns-3 : tie.Need-returns-3
-returns-3 c = let s = c .before .before .before .before .before .before .before .before .before .before .before .before .before .before .before .args in scanned (s .c) (s .t) (s .«record» .now) _ (subst (ResumeIs (s .c) (s .t .divisor) (s .t .count)) (c .before .before .before .before .before .before .before .before .before .before .before .total .given .1) (c .before .before .before .before .before .before .before .before .before .before .before .before .before .take-up .ensures)) (c .before .before .before .before .before .before .before .before .before .if1 .left) (c .before .before .before .before .before .before .before .read32 .ensures .1) (c .before .before .before .before .before .before .if2 .left) _ (c .before .before .before .before .divisor-at .ensures) _ (c .before .before .d .given .1) (c .take .result) (c .take .ensures)
+returns-3 c =
+    let at-divisor-at = c .before .before .before .before in
+    let at-if2 = at-divisor-at .before .before in
+    let at-read32 = at-if2 .before in
+    let at-if1 = at-read32 .before .before in
+    let at-total = at-if1 .before .before in
+    let at-take-up = at-total .before .before in
+    let start = at-take-up .before .before in
+    let s = start .args in scanned (s .c) (s .t) (s .«record» .now) _ (subst (ResumeIs (s .c) (s .t .divisor) (s .t .count)) (at-total .total .given .1) (at-take-up .take-up .ensures)) (at-if1 .if1 .left) (at-read32 .read32 .ensures .1) (at-if2 .if2 .left) _ (at-divisor-at .divisor-at .ensures) _ (c .before .before .d .given .1) (c .take .result) (c .take .ensures)
 
 returns-4 : tie.Need-returns-4
-returns-4 c = let s = c .before .before .before .before .before .before .before .before .before .before .before .before .before .before .args in not-read (s .c) (s .t) (s .«record» .now) _ (subst (ResumeIs (s .c) (s .t .divisor) (s .t .count)) (c .before .before .before .before .before .before .before .before .before .before .total .given .1) (c .before .before .before .before .before .before .before .before .before .before .before .before .take-up .ensures)) (c .before .before .before .before .before .before .before .before .if1 .left) (c .before .before .before .before .before .before .read32 .ensures .1) (c .before .before .before .before .before .if2 .left) _ (c .before .before .before .divisor-at .ensures) _ (c .before .n .given .1)
+returns-4 c =
+    let at-divisor-at = c .before .before .before in
+    let at-if2 = at-divisor-at .before .before in
+    let at-read32 = at-if2 .before in
+    let at-if1 = at-read32 .before .before in
+    let at-total = at-if1 .before .before in
+    let at-take-up = at-total .before .before in
+    let start = at-take-up .before .before in
+    let s = start .args in not-read (s .c) (s .t) (s .«record» .now) _ (subst (ResumeIs (s .c) (s .t .divisor) (s .t .count)) (at-total .total .given .1) (at-take-up .take-up .ensures)) (at-if1 .if1 .left) (at-read32 .read32 .ensures .1) (at-if2 .if2 .left) _ (at-divisor-at .divisor-at .ensures) _ (c .before .n .given .1)
 
 returns-5 : tie.Need-returns-5
 returns-5 c = let s = c .before .before .before .before .before .args in not-resumed (s .c) (s .t) (s .«record» .now) (subst (ResumeIs (s .c) (s .t .divisor) (s .t .count)) (c .before .n2 .given .1) (c .before .before .before .take-up .ensures))

@@ -33,7 +33,9 @@ add-requires-3 : tie.Need-add-requires-3
 add-requires-3 c κs = (c .before .before .before .before .before .before .before .before .pre .1 .1 .0, c .cross .ensures .kept)
 
 sub-requires-3 : tie.Need-sub-requires-3
-sub-requires-3 c κs = (c .add3 .ensures .kept, c .before .before .before .before .before .before .before .before .before .pre .1 .0 .kept)
+sub-requires-3 c κs =
+    let start = c .before .before .before .before .before .before .before .before .before in
+    (c .add3 .ensures .kept, start .pre .1 .0 .kept)
 
 returns : tie.Need-returns
 returns c = let s = c .before .before .before .before .before .before .before .before .before .before in let K = zmod (s .args .m .p) in record {

@@ -39,22 +39,38 @@ settle-requires-2 : tie.Need-settle-requires-2
 settle-requires-2 c κs = c .sub3 .ensures .kept
 
 settle-requires-3 : tie.Need-settle-requires-3
-settle-requires-3 c κs = c .before .before .before .before .before .before .before .before .before .before .before .pre .1 .1 .c0
+settle-requires-3 c κs =
+    let start = c .before .before .before .before .before .before .before .before .before .before .before in
+    start .pre .1 .1 .c0
 
 settle-requires-4 : tie.Need-settle-requires-4
-settle-requires-4 c κs = c .before .before .before .before .before .before .before .before .before .before .before .before .pre .1 .1 .c1
+settle-requires-4 c κs =
+    let start = c .before .before .before .before .before .before .before .before .before .before .before .before in
+    start .pre .1 .1 .c1
 
 returns : tie.Need-returns
-returns c = let s = c .before .before .before .before .before .before .before .before .before .before .before .before .before in let K = zmod (s .args .m .p) in record {
-  held = record { good = s .pre .0 .good; u = (c .before .settle3 .ensures .settled, (c .settle4 .ensures .settled, tt)); v = (c .before .before .settle2 .ensures .settled, (c .before .before .before .before .before .before .settle .ensures .settled, tt)) };
-  u0 = c .before .settle3 .ensures .is;
-  u1 = c .settle4 .ensures .is;
-  q = _;
-  is = rest2-is K _ _ _ _ _ _ _ _ _ _ _
-      (c .before .before .before .before .before .before .before .before .before .before .before .sub .ensures .is ∙ ap₂ (λ x y. K .add x (K .neg y)) (c .before .before .before .before .before .before .before .before .before .before .before .before .add .ensures .is) refl)
-      (c .before .before .before .before .before .before .settle .ensures .is ∙ c .before .before .before .before .before .before .before .sub2 .ensures .is ∙ ap₂ (λ x y. K .add x (K .neg y)) (c .before .before .before .before .before .before .before .before .mul-diff .ensures .is ∙ ap₂ (K .mul) refl (ap₂ (λ x y. K .add x (K .neg y)) (c .before .before .before .before .before .before .before .before .before .add2 .ensures .is ∙ ap₂ (K .add) (c .before .before .before .before .before .before .before .before .before .before .cross .ensures .is) refl) refl)) refl)
-      (c .before .before .settle2 .ensures .is ∙ c .before .before .before .sub3 .ensures .is ∙ ap₂ (λ x y. K .add x (K .neg y)) (c .before .before .before .before .mul .ensures .is ∙ ap₂ (K .mul) refl (c .before .before .before .before .before .cross2 .ensures .is)) refl);
-}
+returns c =
+    let at-sub3 = c .before .before .before in
+    let at-mul = at-sub3 .before in
+    let at-cross2 = at-mul .before in
+    let at-settle = at-cross2 .before in
+    let at-sub2 = at-settle .before in
+    let at-mul-diff = at-sub2 .before in
+    let at-add2 = at-mul-diff .before in
+    let at-cross = at-add2 .before in
+    let at-sub = at-cross .before in
+    let at-add = at-sub .before in
+    let s = at-add .before in
+    let K = zmod (s .args .m .p) in record {
+      held = record { good = s .pre .0 .good; u = (c .before .settle3 .ensures .settled, (c .settle4 .ensures .settled, tt)); v = (c .before .before .settle2 .ensures .settled, (at-settle .settle .ensures .settled, tt)) };
+      u0 = c .before .settle3 .ensures .is;
+      u1 = c .settle4 .ensures .is;
+      q = _;
+      is = rest2-is K _ _ _ _ _ _ _ _ _ _ _
+          (at-sub .sub .ensures .is ∙ ap₂ (λ x y. K .add x (K .neg y)) (at-add .add .ensures .is) refl)
+          (at-settle .settle .ensures .is ∙ at-sub2 .sub2 .ensures .is ∙ ap₂ (λ x y. K .add x (K .neg y)) (at-mul-diff .mul-diff .ensures .is ∙ ap₂ (K .mul) refl (ap₂ (λ x y. K .add x (K .neg y)) (at-add2 .add2 .ensures .is ∙ ap₂ (K .add) (at-cross .cross .ensures .is) refl) refl)) refl)
+          (c .before .before .settle2 .ensures .is ∙ at-sub3 .sub3 .ensures .is ∙ ap₂ (λ x y. K .add x (K .neg y)) (at-mul .mul .ensures .is ∙ ap₂ (K .mul) refl (at-cross2 .cross2 .ensures .is)) refl);
+    }
 
 pub new-v-spec : {M : Type 1} → statement M
 new-v-spec =

@@ -45,27 +45,42 @@ dot-requires-2 : tie.Need-dot-requires-2
 dot-requires-2 c κs = (c .before .before .before .before .before .before .before .before .sub2 .ensures .kept, c .before .before .before .before .cross4 .ensures .kept, c .before .before .before .before .before .before .before .sub3 .ensures .kept, c .before .before .before .cross5 .ensures .kept)
 
 cross-requires-7 : tie.Need-cross-requires-7
-cross-requires-7 c κs = let s = c .before .before .before .before .before .before .before .before .before .before .before .before .before in (settled-kept (s .args .m) (s .pre .1 .u .0), c .dot2 .ensures .kept, c .before .before .before .before .before .before .before .before .before .before .sub .ensures .kept, c .before .add2 .ensures .kept)
+cross-requires-7 c κs =
+    let at-sub = c .before .before .before .before .before .before .before .before .before .before in
+    let s = at-sub .before .before .before in
+    (settled-kept (s .args .m) (s .pre .1 .u .0), c .dot2 .ensures .kept, at-sub .sub .ensures .kept, c .before .add2 .ensures .kept)
 
 settle-requires : tie.Need-settle-requires
 settle-requires c κs = c .cross7 .ensures .kept
 
 returns : tie.Need-returns
 returns c =
-    let s = c .before .before .before .before .before .before .before .before .before .before .before .before .before .before .before in
+    let at-add2 = c .before .before .before in
+    let at-dot = at-add2 .before in
+    let at-cross6 = at-dot .before in
+    let at-cross5 = at-cross6 .before in
+    let at-cross4 = at-cross5 .before in
+    let at-add = at-cross4 .before in
+    let at-cross3 = at-add .before in
+    let at-sub3 = at-cross3 .before in
+    let at-sub2 = at-sub3 .before in
+    let at-sub = at-sub2 .before in
+    let at-cross2 = at-sub .before in
+    let at-cross = at-cross2 .before in
+    let s = at-cross .before in
     let K = zmod (s .args .m .p) in
     inverted (s .args .m) (s .pre .0 .good) (s .args .a) (s .args .b) _ _ _ _ _ _ _
-    (record { e0 = c .before .before .before .before .before .cross6 .ensures .kept; e1 = c .before .before .before .before .before .before .cross5 .ensures .kept; e2 = c .before .before .before .before .before .before .before .cross4 .ensures .kept; i0 = c .before .before .before .add2 .ensures .kept; low = (c .before .before .before .add2 .ensures .is ∙ ap₂ (K .add) (c .before .before .before .before .dot .ensures .is) refl) })
+    (record { e0 = at-cross6 .cross6 .ensures .kept; e1 = at-cross5 .cross5 .ensures .kept; e2 = at-cross4 .cross4 .ensures .kept; i0 = at-add2 .add2 .ensures .kept; low = (at-add2 .add2 .ensures .is ∙ ap₂ (K .add) (at-dot .dot .ensures .is) refl) })
     (c .settle .ensures .settled)
-    (c .before .before .before .before .before .before .before .before .before .before .before .before .before .before .cross .ensures .is)
-    (c .before .before .before .before .before .before .before .before .before .before .before .before .before .cross2 .ensures .is)
-    (c .before .before .before .before .before .before .before .before .before .before .before .before .sub .ensures .is)
-    (c .before .before .before .before .before .before .before .before .before .before .before .sub2 .ensures .is)
-    (c .before .before .before .before .before .before .before .before .before .before .sub3 .ensures .is)
-    (c .before .before .before .before .before .before .before .before .add .ensures .is ∙ ap₂ (K .add) (c .before .before .before .before .before .before .before .before .before .cross3 .ensures .is) refl)
-    (c .before .before .before .before .before .before .before .cross4 .ensures .is)
-    (c .before .before .before .before .before .before .cross5 .ensures .is)
-    (c .before .before .before .before .before .cross6 .ensures .is)
+    (at-cross .cross .ensures .is)
+    (at-cross2 .cross2 .ensures .is)
+    (at-sub .sub .ensures .is)
+    (at-sub2 .sub2 .ensures .is)
+    (at-sub3 .sub3 .ensures .is)
+    (at-add .add .ensures .is ∙ ap₂ (K .add) (at-cross3 .cross3 .ensures .is) refl)
+    (at-cross4 .cross4 .ensures .is)
+    (at-cross5 .cross5 .ensures .is)
+    (at-cross6 .cross6 .ensures .is)
     (c .settle .ensures .is ∙ (c .before .cross7 .ensures .is ∙ ap₂ (λ s t. K .add s (K .neg t)) (ap₂ (K .mul) refl (c .before .before .dot2 .ensures .is)) refl))
 
 pub invert-u-spec : {M : Type 1} → statement M

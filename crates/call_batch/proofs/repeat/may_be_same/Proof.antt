@@ -47,7 +47,10 @@ low64-requires-4 : tie.Need-low64-requires-4
 low64-requires-4 c κs = search needs
 
 returns-5 : tie.Need-returns-5
-returns-5 c = let s = c .before .before .before .before .before .before .before .before .before .before .before .before in other-word (s .args .s .now) (λ i. c .before .before .before .before .before .before .before .before .before .before .before .shared-slice-known .given i .fits) (s .args .a) (s .args .b) (s .pre .0) (s .pre .1) 1 _ _ _ _ (omega arith) (omega arith) (omega arith) (c .before .before .low643 .ensures) (c .before .low644 .ensures) (c .if5 .taken)
+returns-5 c =
+    let at-shared-slice-known = c .before .before .before .before .before .before .before .before .before .before .before in
+    let s = at-shared-slice-known .before in
+    other-word (s .args .s .now) (λ i. at-shared-slice-known .shared-slice-known .given i .fits) (s .args .a) (s .args .b) (s .pre .0) (s .pre .1) 1 _ _ _ _ (omega arith) (omega arith) (omega arith) (c .before .before .low643 .ensures) (c .before .low644 .ensures) (c .if5 .taken)
 
 returns-6 : tie.Need-returns-6
 returns-6 c = tt
@@ -65,7 +68,11 @@ low64-requires-6 : tie.Need-low64-requires-6
 low64-requires-6 c κs = search needs
 
 returns-7 : tie.Need-returns-7
-returns-7 c = let s = c .before .before .before .before .before .before .before .before .before .before .before .before .before .before .before in last-word (s .args .s .now) (λ i. c .before .before .before .before .before .before .before .before .before .before .before .before .before .before .shared-slice-known .given i .fits) (s .args .a) (s .args .b) (s .pre .0) (s .pre .1) 2 _ _ _ _ (omega arith) (omega arith) (omega arith) (c .before .low645 .ensures) (c .low646 .ensures)
+returns-7 c =
+    let later = c .before .before .before .before .before .before .before in
+    let at-shared-slice-known = later .before .before .before .before .before .before .before in
+    let s = at-shared-slice-known .before in
+    last-word (s .args .s .now) (λ i. at-shared-slice-known .shared-slice-known .given i .fits) (s .args .a) (s .args .b) (s .pre .0) (s .pre .1) 2 _ _ _ _ (omega arith) (omega arith) (omega arith) (c .before .low645 .ensures) (c .low646 .ensures)
 
 pub may-be-same-spec : {M : Type 1} → statement M
 may-be-same-spec =

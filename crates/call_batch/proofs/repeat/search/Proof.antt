@@ -71,19 +71,38 @@ mul-alike : tie.Need-mul-alike Inv-loop μ-loop Inv-search μ-search
 mul-alike c = search needs
 
 shared-slice-read-alike : tie.Need-shared-slice-read-alike Inv-loop μ-loop Inv-search μ-search
-shared-slice-read-alike c = omega (arith, c .before .before .before .before .loop-test .taken, c .before .before .before .before .before .loop .inv .1 .on, c .before .before .before .before .before .before .before .before .search-test .taken, c .before .before .before .before .before .before .before .before .before .before .before .before .pre .1 .room, c .before .before .before .before .before .before .before .before .before .before .before .before .pre .1 .long)
+shared-slice-read-alike c =
+    let at-loop-test = c .before .before .before .before in
+    let at-loop = at-loop-test .before in
+    let at-search-test = at-loop .before .before .before in
+    let start = at-search-test .before .before .before .before in
+    omega (arith, at-loop-test .loop-test .taken, at-loop .loop .inv .1 .on, at-search-test .search-test .taken, start .pre .1 .room, start .pre .1 .long)
 
 alike-requires : tie.Need-alike-requires Inv-loop μ-loop Inv-search μ-search
 alike-requires c κs = let s = c .before .before .before .before .before .before .before .before .before .before .before .before in (s .pre .0, (s .pre .1 .row _ (omega (arith, c .before .before .before .before .loop-test .taken, c .before .before .before .before .before .loop .inv .1 .on, c .before .before .before .before .before .before .before .before .search-test .taken)), s .pre .1 .row _ (c .before .before .before .before .before .before .before .before .search-test .taken)))
 
 loop-less : tie.Need-loop-less Inv-loop μ-loop Inv-search μ-search
-loop-less c = let i = c .before .before .before .before .before .before .before .loop in omega (arith, c .before .before .before .before .before .before .loop-test .taken, c .before .before .before .before .before .before .before .before .before .before .before .search .inv .1 .1 .0 .links (i .i - 1) (omega (arith, c .before .before .before .before .before .before .loop-test .taken, i .inv .1 .on)) .on)
+loop-less c =
+    let at-loop-test = c .before .before .before .before .before .before in
+    let at-loop = at-loop-test .before in
+    let at-search = at-loop .before .before .before .before in
+    let i = at-loop .loop in omega (arith, at-loop-test .loop-test .taken, at-search .search .inv .1 .1 .0 .links (i .i - 1) (omega (arith, at-loop-test .loop-test .taken, i .inv .1 .on)) .on)
 
 loop-again : tie.Need-loop-again Inv-loop μ-loop Inv-search μ-search
-loop-again c = let s = c .before .before .before .before .before .before .before .before .before .before .before .before .before .before in let j = c .before .before .before .before .before .before .before .before .before .before .before .search in let i = c .before .before .before .before .before .before .before .loop in (i .inv .0, walk-turn (s .args .c) (s .args .s .now) (s .args .places .now) (s .args .n) (s .pre .0) (s .pre .1) (j .head) (j .before) (j .j) (c .before .before .before .before .before .before .before .before .before .before .search-test .taken) (j .inv .1 .1 .0) (i .i) (i .i - 1) _ (i .inv .1) (omega (arith, c .before .before .before .before .before .before .loop-test .taken)) (decided-no (c .if2 .left) (c .before .alike .ensures)) refl)
+loop-again c =
+    let at-loop-test = c .before .before .before .before .before .before in
+    let at-loop = at-loop-test .before in
+    let at-search-test = at-loop .before .before .before in
+    let at-search = at-search-test .before in
+    let s = at-search .before .before .before in
+    let j = at-search .search in let i = at-loop .loop in (i .inv .0, walk-turn (s .args .c) (s .args .s .now) (s .args .places .now) (s .args .n) (s .pre .0) (s .pre .1) (j .head) (j .before) (j .j) (at-search-test .search-test .taken) (j .inv .1 .1 .0) (i .i) (i .i - 1) _ (i .inv .1) (omega (arith, at-loop-test .loop-test .taken)) (decided-no (c .if2 .left) (c .before .alike .ensures)) refl)
 
 loop-less-2 : tie.Need-loop-less-2 Inv-loop μ-loop Inv-search μ-search
-loop-less-2 c = let i = c .before .before .before .before .loop in omega (arith, c .before .before .before .loop-test .taken, c .before .before .before .before .before .before .before .before .search .inv .1 .1 .0 .links (i .i - 1) (omega (arith, c .before .before .before .loop-test .taken, i .inv .1 .on)) .on)
+loop-less-2 c =
+    let at-loop-test = c .before .before .before in
+    let at-loop = at-loop-test .before in
+    let at-search = at-loop .before .before .before .before in
+    let i = at-loop .loop in omega (arith, at-loop-test .loop-test .taken, at-search .search .inv .1 .1 .0 .links (i .i - 1) (omega (arith, at-loop-test .loop-test .taken, i .inv .1 .on)) .on)
 
 loop-again-2 : tie.Need-loop-again-2 Inv-loop μ-loop Inv-search μ-search
 loop-again-2 c = let s = c .before .before .before .before .before .before .before .before .before .before .before in let j = c .before .before .before .before .before .before .before .before .search in let i = c .before .before .before .before .loop in (i .inv .0, walk-turn (s .args .c) (s .args .s .now) (s .args .places .now) (s .args .n) (s .pre .0) (s .pre .1) (j .head) (j .before) (j .j) (c .before .before .before .before .before .before .before .search-test .taken) (j .inv .1 .1 .0) (i .i) (i .i - 1) _ (i .inv .1) (omega (arith, c .before .before .before .loop-test .taken)) (not-same (s .args .c) (s .args .s .now) (s .pre .0) _ _ (s .pre .1 .row _ (omega (arith, c .before .before .before .loop-test .taken, c .before .before .before .before .loop .inv .1 .on, c .before .before .before .before .before .before .before .search-test .taken))) (s .pre .1 .row _ (c .before .before .before .before .before .before .before .search-test .taken)) (c .before .may-be-same .result) (c .before .may-be-same .ensures) (c .if1 .left)) refl)
@@ -116,7 +135,13 @@ returns : tie.Need-returns Inv-loop μ-loop Inv-search μ-search
 returns c = let v = c .before .search .inv in let s = c .before .before .before .before .args in subst (λ r. FirstIs (SameIn (s .c) (s .s .now) (s .places .now)) (s .n) (placesOf r)) (sym (v .1 .0)) (refl, λ b l. v .1 .1 .1 b (omega (arith, l, c .search-test .left)))
 
 returns-2 : tie.Need-returns-2 Inv-loop μ-loop Inv-search μ-search
-returns-2 c = let s = c .before .before .before .before .before .before .before .before .before .before .before .before .before .before in let i = c .before .before .before .before .before .before .before .loop in found-first (s .args .c) (s .args .s .now) (s .args .places .now) (s .args .n) (i .i - 1) (c .before .before .before .before .before .before .before .before .before .before .before .search .j) (omega (arith, c .before .before .before .before .before .before .loop-test .taken, i .inv .1 .on)) (c .before .before .before .before .before .before .before .before .before .before .search-test .taken) (c .before .before .before .before .before .before .before .before .before .before .before .search .inv .1 .1 .1) (decided-yes (c .if2 .taken) (c .before .alike .ensures))
+returns-2 c =
+    let at-loop-test = c .before .before .before .before .before .before in
+    let at-loop = at-loop-test .before in
+    let at-search-test = at-loop .before .before .before in
+    let at-search = at-search-test .before in
+    let s = at-search .before .before .before in
+    let i = at-loop .loop in found-first (s .args .c) (s .args .s .now) (s .args .places .now) (s .args .n) (i .i - 1) (at-search .search .j) (omega (arith, at-loop-test .loop-test .taken, i .inv .1 .on)) (at-search-test .search-test .taken) (at-search .search .inv .1 .1 .1) (decided-yes (c .if2 .taken) (c .before .alike .ensures))
 
 pub search-spec : {M : Type 1} → statement M
 search-spec =

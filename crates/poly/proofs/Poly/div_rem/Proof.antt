@@ -102,13 +102,28 @@ sub-requires c κs =
     (v .fill .all (c .before .before .before .before .before .before .before .rows .k - 1 + c .before .before .before .before .loop .i) _ (inside (v .long) (row-in _ (c .before .before .before .before .before .before .before .before .before .before .before .pre) (c .before .before .before .before .before .before .before .rows .inv .0) (c .before .before .before .before .before .before .rows-test .taken) (c .before .before .before .before .loop .i) (c .before .before .before .loop-test .taken))), c .mul .ensures .kept)
 
 mul-y : tie.Need-mul-y Inv-loop μ-loop Inv-rows μ-rows
-mul-y c = offset-fits _ (row-in _ (c .before .before .before .before .before .before .before .before .before .before .before .before .pre) (c .before .before .before .before .before .before .before .before .rows .inv .0) (c .before .before .before .before .before .before .before .rows-test .taken) (c .before .before .before .before .before .loop .i) (c .before .before .before .before .loop-test .taken))
+mul-y c =
+    let at-loop-test = c .before .before .before .before in
+    let at-loop = at-loop-test .before in
+    let at-rows-test = at-loop .before .before in
+    let at-rows = at-rows-test .before in
+    let start = at-rows .before .before .before .before in
+    offset-fits _ (row-in _ (start .pre) (at-rows .rows .inv .0) (at-rows-test .rows-test .taken) (at-loop .loop .i) (at-loop-test .loop-test .taken))
 
 element-set-from-y : tie.Need-element-set-from-y Inv-loop μ-loop Inv-rows μ-rows
-element-set-from-y c = row-in _ (c .before .before .before .before .before .before .before .before .before .before .before .before .pre) (c .before .before .before .before .before .before .before .before .rows .inv .0) (c .before .before .before .before .before .before .before .rows-test .taken) (c .before .before .before .before .before .loop .i) (c .before .before .before .before .loop-test .taken)
+element-set-from-y c =
+    let at-loop-test = c .before .before .before .before in
+    let at-loop = at-loop-test .before in
+    let at-rows-test = at-loop .before .before in
+    let at-rows = at-rows-test .before in
+    let start = at-rows .before .before .before .before in
+    row-in _ (start .pre) (at-rows .rows .inv .0) (at-rows-test .rows-test .taken) (at-loop .loop .i) (at-loop-test .loop-test .taken)
 
 add-i : tie.Need-add-i Inv-loop μ-loop Inv-rows μ-rows
-add-i c = next-fits (lt-of-lt-of-le (within-one (c .before .before .before .before .loop-test .taken)) (c .before .before .before .before .before .before .before .before .before .before .before .before .pre .right .len))
+add-i c =
+    let at-loop-test = c .before .before .before .before in
+    let start = at-loop-test .before .before .before .before .before .before .before .before in
+    next-fits (lt-of-lt-of-le (within-one (at-loop-test .loop-test .taken)) (start .pre .right .len))
 
 loop-less : tie.Need-loop-less Inv-loop μ-loop Inv-rows μ-rows
 loop-less c = less-left (c .before .before .before .before .loop-test .taken)

@@ -81,13 +81,24 @@ add-requires c κs =
     (v .inv .fill .all (c .before .before .before .before .before .before .before .rows .i + v .k) _ (inside (v .inv .long) (cell-in _ _ _ (c .before .before .before .before .before .before .before .before .before .before .before .pre) (c .before .before .before .before .before .before .rows-test .taken) (c .before .before .before .loop-test .taken))), c .mul .ensures .kept)
 
 mul-y : tie.Need-mul-y Inv-loop μ-loop Inv-rows μ-rows
-mul-y c = offset-fits _ (cell-in _ _ _ (c .before .before .before .before .before .before .before .before .before .before .before .before .pre) (c .before .before .before .before .before .before .before .rows-test .taken) (c .before .before .before .before .loop-test .taken))
+mul-y c =
+    let at-loop-test = c .before .before .before .before in
+    let at-rows-test = at-loop-test .before .before .before in
+    let start = at-rows-test .before .before .before .before .before in
+    offset-fits _ (cell-in _ _ _ (start .pre) (at-rows-test .rows-test .taken) (at-loop-test .loop-test .taken))
 
 element-set-from-y : tie.Need-element-set-from-y Inv-loop μ-loop Inv-rows μ-rows
-element-set-from-y c = cell-in _ _ _ (c .before .before .before .before .before .before .before .before .before .before .before .before .pre) (c .before .before .before .before .before .before .before .rows-test .taken) (c .before .before .before .before .loop-test .taken)
+element-set-from-y c =
+    let at-loop-test = c .before .before .before .before in
+    let at-rows-test = at-loop-test .before .before .before in
+    let start = at-rows-test .before .before .before .before .before in
+    cell-in _ _ _ (start .pre) (at-rows-test .rows-test .taken) (at-loop-test .loop-test .taken)
 
 add-k : tie.Need-add-k Inv-loop μ-loop Inv-rows μ-rows
-add-k c = next-fits (lt-of-lt-of-le (c .before .before .before .before .loop-test .taken) (c .before .before .before .before .before .before .before .before .before .before .before .before .pre .right .len))
+add-k c =
+    let at-loop-test = c .before .before .before .before in
+    let start = at-loop-test .before .before .before .before .before .before .before .before in
+    next-fits (lt-of-lt-of-le (at-loop-test .loop-test .taken) (start .pre .right .len))
 
 loop-less : tie.Need-loop-less Inv-loop μ-loop Inv-rows μ-rows
 loop-less c = less-left (c .before .before .before .before .loop-test .taken)

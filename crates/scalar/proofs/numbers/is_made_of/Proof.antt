@@ -37,7 +37,12 @@ divide-requires : tie.Need-divide-requires Inv-loop μ-loop
 divide-requires c κs = let p = decided-yes {A = SmallPrime _} {b = c .before .is-small-prime .result} (not-false (c .before .is-small-prime .result) (c .if2 .left)) (c .before .is-small-prime .ensures) in (omega (arith, p .is .two), omega (arith, p .small))
 
 returns-3 : tie.Need-returns-3 Inv-loop μ-loop
-returns-3 c = let v = c .before .before .before .before .before .before .before .before .loop in no-divisor (c .before .before .before .before .before .before .before .before .before .before .args .primes .now) _ (number (c .before .before .before .before .before .before .before .before .before .before .args .n)) (v .last) (number (v .left)) (v .i) (v .inv) (c .before .before .before .before .before .before .before .loop-test .taken) (c .before .before .before .before .before .before .read32 .result) (c .before .before .before .before .before .before .read32 .ensures .1) (c .before .before .divide .result) (c .before .before .divide .ensures) (c .if3 .taken)
+returns-3 c =
+    let at-read32 = c .before .before .before .before .before .before in
+    let at-loop-test = at-read32 .before in
+    let at-loop = at-loop-test .before in
+    let start = at-loop .before .before in
+    let v = at-loop .loop in no-divisor (start .args .primes .now) _ (number (start .args .n)) (v .last) (number (v .left)) (v .i) (v .inv) (at-loop-test .loop-test .taken) (at-read32 .read32 .result) (at-read32 .read32 .ensures .1) (c .before .before .divide .result) (c .before .before .divide .ensures) (c .if3 .taken)
 
 without-requires : tie.Need-without-requires Inv-loop μ-loop
 without-requires c κs = let p = decided-yes {A = SmallPrime _} {b = c .before .before .before .before .is-small-prime .result} (not-false (c .before .before .before .before .is-small-prime .result) (c .before .before .before .if2 .left)) (c .before .before .before .before .is-small-prime .ensures) in (c .before .before .before .before .before .before .before .before .loop .inv .is .some, (p .is .two, omega (arith, p .small)))
@@ -49,7 +54,16 @@ loop-less : tie.Need-loop-less Inv-loop μ-loop
 loop-less c = search needs
 
 loop-again : tie.Need-loop-again Inv-loop μ-loop
-loop-again c = let v = c .before .before .before .before .before .before .before .before .before .loop in let p = decided-yes {A = SmallPrime _} {b = c .before .before .before .before .before .is-small-prime .result} (not-false (c .before .before .before .before .before .is-small-prime .result) (c .before .before .before .before .if2 .left)) (c .before .before .before .before .before .is-small-prime .ensures) in looking-turn (c .before .before .before .before .before .before .before .before .before .before .before .args .primes .now) _ (number (c .before .before .before .before .before .before .before .before .before .before .before .args .n)) (v .last) (number (v .left)) (v .i) (v .inv) (c .before .before .before .before .before .before .before .before .loop-test .taken) (c .before .before .before .before .before .before .before .read32 .result) (c .before .before .before .before .before .before .before .read32 .ensures .1) (omega (arith, c .before .before .before .before .before .before .if1 .left)) p (c .before .before .before .divide .result) (c .before .before .before .divide .ensures) (c .before .if3 .left) (number (c .without .result)) (c .without .ensures)
+loop-again c =
+    let at-divide = c .before .before .before in
+    let at-if2 = at-divide .before in
+    let at-is-small-prime = at-if2 .before in
+    let at-if1 = at-is-small-prime .before in
+    let at-read32 = at-if1 .before in
+    let at-loop-test = at-read32 .before in
+    let at-loop = at-loop-test .before in
+    let start = at-loop .before .before in
+    let v = at-loop .loop in let p = decided-yes {A = SmallPrime _} {b = at-is-small-prime .is-small-prime .result} (not-false (at-is-small-prime .is-small-prime .result) (at-if2 .if2 .left)) (at-is-small-prime .is-small-prime .ensures) in looking-turn (start .args .primes .now) _ (number (start .args .n)) (v .last) (number (v .left)) (v .i) (v .inv) (at-loop-test .loop-test .taken) (at-read32 .read32 .result) (at-read32 .read32 .ensures .1) (omega (arith, at-if1 .if1 .left)) p (at-divide .divide .result) (at-divide .divide .ensures) (c .before .if3 .left) (number (c .without .result)) (c .without .ensures)
 
 capped-requires : tie.Need-capped-requires Inv-loop μ-loop
 capped-requires c κs = search needs

@@ -38,10 +38,26 @@ enum-known-n-2 : tie.Need-enum-known-n-2
 enum-known-n-2 c = search needs
 
 returns-2 : tie.Need-returns-2
-returns-2 c = let s = c .before .before .before .before .before .before .before .before .before .before .before .before .before .before .args in done (s .t) (s .curve .now) (s .«record» .now) _ (subst (CurveIs (s .curve .now)) (c .before .before .before .before .before .before .before .before .before .c .given .1) (c .before .before .before .before .before .before .before .before .before .before .before .read-curve .ensures)) (decided-yes {b = c .before .before .before .before .before .before .before .is-flat .result} (not-false _ (c .before .before .before .before .before .before .if1 .left)) (c .before .before .before .before .before .before .before .is-flat .ensures)) _ (c .before .before .before .before .before .divisor-of .ensures) _ (c .before .before .before .before .scan-on .ensures) _ (c .before .before .x .given .1) _ (c .flatten-running .ensures)
+returns-2 c =
+    let at-scan-on = c .before .before .before .before in
+    let at-divisor-of = at-scan-on .before in
+    let at-if1 = at-divisor-of .before in
+    let at-is-flat = at-if1 .before in
+    let at-c = at-is-flat .before .before in
+    let at-read-curve = at-c .before .before in
+    let start = at-read-curve .before .before .before in
+    let s = start .args in done (s .t) (s .curve .now) (s .«record» .now) _ (subst (CurveIs (s .curve .now)) (at-c .c .given .1) (at-read-curve .read-curve .ensures)) (decided-yes {b = at-is-flat .is-flat .result} (not-false _ (at-if1 .if1 .left)) (at-is-flat .is-flat .ensures)) _ (at-divisor-of .divisor-of .ensures) _ (at-scan-on .scan-on .ensures) _ (c .before .before .x .given .1) _ (c .flatten-running .ensures)
 
 returns-3 : tie.Need-returns-3
-returns-3 c = let s = c .before .before .before .before .before .before .before .before .before .before .before .before .before .args in stopped (s .t) (s .curve .now) (s .«record» .now) _ (subst (CurveIs (s .curve .now)) (c .before .before .before .before .before .before .before .before .c .given .1) (c .before .before .before .before .before .before .before .before .before .before .read-curve .ensures)) (decided-yes {b = c .before .before .before .before .before .before .is-flat .result} (not-false _ (c .before .before .before .before .before .if1 .left)) (c .before .before .before .before .before .before .is-flat .ensures)) _ (c .before .before .before .before .divisor-of .ensures) _ (c .before .before .before .scan-on .ensures) _ _ (c .before .n .given .1)
+returns-3 c =
+    let at-scan-on = c .before .before .before in
+    let at-divisor-of = at-scan-on .before in
+    let at-if1 = at-divisor-of .before in
+    let at-is-flat = at-if1 .before in
+    let at-c = at-is-flat .before .before in
+    let at-read-curve = at-c .before .before in
+    let start = at-read-curve .before .before .before in
+    let s = start .args in stopped (s .t) (s .curve .now) (s .«record» .now) _ (subst (CurveIs (s .curve .now)) (at-c .c .given .1) (at-read-curve .read-curve .ensures)) (decided-yes {b = at-is-flat .is-flat .result} (not-false _ (at-if1 .if1 .left)) (at-is-flat .is-flat .ensures)) _ (at-divisor-of .divisor-of .ensures) _ (at-scan-on .scan-on .ensures) _ _ (c .before .n .given .1)
 
 returns-4 : tie.Need-returns-4
 returns-4 c = let s = c .before .before .before .before .before .before .args in no-curve (s .t) (s .curve .now) (s .«record» .now) (subst (CurveIs (s .curve .now)) (c .before .n2 .given .1) (c .before .before .before .read-curve .ensures))
