@@ -32,6 +32,7 @@ all() {
     else
         printf 'left    the lines of C in README.md: no libtablet.a in %s\n' "${YUBI_LIB_DIR:-target/staticlib}"
     fi
+    check 'paths in proofs' python3 tools/check/paths.py
     check 'docs/proofs/BELIEVED.md' python3 tools/check/believed.py --check
     check 'docs/CRATES.md and docs/house.svg' python3 tools/make/house.py --check
     check 'docs/bench.svg' python3 tools/make/plot.py --check

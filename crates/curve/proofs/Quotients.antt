@@ -61,10 +61,10 @@ module _ (F : CRing) where
       (k0 ∙ ring F (f0 ∷ v0 ∷ q0 ∷ u0 ∷ []) (search quote depth 40) refl)
       (k1 ∙ ap (λ (t : A). f1 ⊖ (t ⊗ v1 ⊕ q1 ⊗ u0) ⊖ q0 ⊗ u1) hw ∙ ring F (f1 ∷ v0 ∷ v1 ∷ q1 ∷ u0 ∷ q0 ∷ u1 ∷ []) (search quote depth 40) refl)
 
-  pub left-three : (u0 u1 u2 v0 v1 v2 f0 f1 f2 f3 f4 f5 f6 w0 q3 q2 q1 q0 r2 r1 r0 : A) → w0 ≡ v0 ⊕ v0 → q3 ≡ f6 ⊖ u2 → q2 ≡ f5 ⊖ u1 ⊖ q3 ⊗ u2 → q1 ≡ f4 ⊖ u0 ⊖ (v2 ⊗ v2 ⊕ q3 ⊗ u1) ⊖ q2 ⊗ u2
-      → q0 ≡ f3 ⊖ (v1 ⊗ (v2 ⊕ v2) ⊕ q3 ⊗ u0) ⊖ (q2 ⊗ u1 ⊕ q1 ⊗ u2) → r2 ≡ f2 ⊖ (w0 ⊗ v2 ⊕ v1 ⊗ v1) ⊖ (q2 ⊗ u0 ⊕ q1 ⊗ u1) ⊖ q0 ⊗ u2 → r1 ≡ f1 ⊖ (w0 ⊗ v1 ⊕ q1 ⊗ u0) ⊖ q0 ⊗ u1 → r0 ≡ f0 ⊖ (v0 ⊗ v0 ⊕ q0 ⊗ u0)
+  pub left-three : (u0 u1 u2 v0 v1 v2 f0 f1 f2 f3 f4 f5 f6 w0 w2 q3 q2 q1 q0 r2 r1 r0 : A) → w0 ≡ v0 ⊕ v0 → w2 ≡ v2 ⊕ v2 → q3 ≡ f6 ⊖ u2 → q2 ≡ f5 ⊖ u1 ⊖ q3 ⊗ u2 → q1 ≡ f4 ⊖ u0 ⊖ (v2 ⊗ v2 ⊕ q3 ⊗ u1) ⊖ q2 ⊗ u2
+      → q0 ≡ f3 ⊖ (v1 ⊗ (v2 ⊕ v2) ⊕ q3 ⊗ u0) ⊖ (q2 ⊗ u1 ⊕ q1 ⊗ u2) → r2 ≡ f2 ⊖ (v0 ⊗ w2 ⊕ v1 ⊗ v1) ⊖ (q2 ⊗ u0 ⊕ q1 ⊗ u1) ⊖ q0 ⊗ u2 → r1 ≡ f1 ⊖ (w0 ⊗ v1 ⊕ q1 ⊗ u0) ⊖ q0 ⊗ u1 → r0 ≡ f0 ⊖ (v0 ⊗ v0 ⊕ q0 ⊗ u0)
       → remainder F (u0 ∷ u1 ∷ u2 ∷ []) ((f0 ⊖ v0 ⊗ v0) ∷ (f1 ⊖ (v0 ⊕ v0) ⊗ v1) ∷ (f2 ⊖ v1 ⊗ v1 ⊖ (v0 ⊕ v0) ⊗ v2) ∷ (f3 ⊖ (v1 ⊕ v1) ⊗ v2) ∷ (f4 ⊖ v2 ⊗ v2) ∷ f5 ∷ f6 ∷ 𝟙 ∷ []) ≡ r0 ∷ r1 ∷ r2 ∷ []
-  left-three u0 u1 u2 v0 v1 v2 f0 f1 f2 f3 f4 f5 f6 w0 q3 q2 q1 q0 r2 r1 r0 hw h3 h2 h1 h0 k2 k1 k0 =
+  left-three u0 u1 u2 v0 v1 v2 f0 f1 f2 f3 f4 f5 f6 w0 w2 q3 q2 q1 q0 r2 r1 r0 hw hx h3 h2 h1 h0 k2 k1 k0 =
       turn-three u0 u1 u2 (f0 ⊖ v0 ⊗ v0) (f1 ⊖ (v0 ⊕ v0) ⊗ v1 ⊖ q1 ⊗ u0) (f2 ⊖ v1 ⊗ v1 ⊖ (v0 ⊕ v0) ⊗ v2 ⊖ q2 ⊗ u0 ⊖ q1 ⊗ u1) q0 r0 r1 r2 _
       (turn-three u0 u1 u2 (f1 ⊖ (v0 ⊕ v0) ⊗ v1) (f2 ⊖ v1 ⊗ v1 ⊖ (v0 ⊕ v0) ⊗ v2 ⊖ q2 ⊗ u0) (f3 ⊖ (v1 ⊕ v1) ⊗ v2 ⊖ q3 ⊗ u0 ⊖ q2 ⊗ u1) q1 (f1 ⊖ (v0 ⊕ v0) ⊗ v1 ⊖ q1 ⊗ u0) (f2 ⊖ v1 ⊗ v1 ⊖ (v0 ⊕ v0) ⊗ v2 ⊖ q2 ⊗ u0 ⊖ q1 ⊗ u1) q0 _
       (turn-three u0 u1 u2 (f2 ⊖ v1 ⊗ v1 ⊖ (v0 ⊕ v0) ⊗ v2) (f3 ⊖ (v1 ⊕ v1) ⊗ v2 ⊖ q3 ⊗ u0) (f4 ⊖ v2 ⊗ v2 ⊖ u0 ⊖ q3 ⊗ u1) q2 (f2 ⊖ v1 ⊗ v1 ⊖ (v0 ⊕ v0) ⊗ v2 ⊖ q2 ⊗ u0) (f3 ⊖ (v1 ⊕ v1) ⊗ v2 ⊖ q3 ⊗ u0 ⊖ q2 ⊗ u1) q1 _
@@ -78,7 +78,7 @@ module _ (F : CRing) where
       refl refl (h0 ∙ ring F (f3 ∷ v1 ∷ v2 ∷ q3 ∷ u0 ∷ q2 ∷ u1 ∷ q1 ∷ u2 ∷ []) (search quote depth 40) refl))
       (k0 ∙ ring F (f0 ∷ v0 ∷ q0 ∷ u0 ∷ []) (search quote depth 40) refl)
       (k1 ∙ ap (λ (t : A). f1 ⊖ (t ⊗ v1 ⊕ q1 ⊗ u0) ⊖ q0 ⊗ u1) hw ∙ ring F (f1 ∷ v0 ∷ v1 ∷ q1 ∷ u0 ∷ q0 ∷ u1 ∷ []) (search quote depth 40) refl)
-      (k2 ∙ ap (λ (t : A). f2 ⊖ (t ⊗ v2 ⊕ v1 ⊗ v1) ⊖ (q2 ⊗ u0 ⊕ q1 ⊗ u1) ⊖ q0 ⊗ u2) hw ∙ ring F (f2 ∷ v0 ∷ v1 ∷ v2 ∷ q2 ∷ u0 ∷ q1 ∷ u1 ∷ q0 ∷ u2 ∷ []) (search quote depth 40) refl)
+      (k2 ∙ ap (λ (t : A). f2 ⊖ (v0 ⊗ t ⊕ v1 ⊗ v1) ⊖ (q2 ⊗ u0 ⊕ q1 ⊗ u1) ⊖ q0 ⊗ u2) hx ∙ ring F (f2 ∷ v0 ∷ v1 ∷ v2 ∷ q2 ∷ u0 ∷ q1 ∷ u1 ∷ q0 ∷ u2 ∷ []) (search quote depth 40) refl)
 
 module _ (c : Curve) (h : Sound c) where
   open CRing (K (c .m)) using (El as A, add as _⊕_, mul as _⊗_, neg as opp, one as 𝟙)

@@ -160,8 +160,9 @@ fn rest_three(c: Curve, d: Cubic) -> Trio
     let m = c.m;
     let q = quotient_three(c, d);
     let w0 = d.v0.dbl(m);
+    let w2 = d.v2.dbl(m);
     let r2 = c.f2
-        .sub(w0.dot(d.v2, d.v1, d.v1, m), m)
+        .sub(d.v0.dot(w2, d.v1, d.v1, m), m)
         .sub(q.c2.dot(d.u0, q.c1, d.u1, m), m)
         .sub(q.c0.mul(d.u2, m), m);
     let r1 = c.f1

@@ -41,7 +41,7 @@ module _ (F : CRing) where
       → remainder F (u0 ∷ u1 ∷ u2 ∷ []) ((f0 ⊖ v0 ⊗ v0) ∷ (f1 ⊖ (v0 ⊕ v0) ⊗ v1) ∷ (f2 ⊖ v1 ⊗ v1 ⊖ (v0 ⊕ v0) ⊗ v2) ∷ (f3 ⊖ (v1 ⊕ v1) ⊗ v2) ∷ (f4 ⊖ v2 ⊗ v2) ∷ f5 ∷ f6 ∷ 𝟙 ∷ []) ≡ 𝟘 ∷ 𝟘 ∷ 𝟘 ∷ []
       → v2 ⊗ (c2 ⊗ v2 ⊕ c1) ⊕ c0 ≡ 𝟘
   first-left u0 u1 u2 v0 v1 v2 f0 f1 f2 f3 f4 f5 f6 q3 q2 a b q c0 c1 c2 h3 h2 ha hb hq k0 k1 k2 none = same ∙ ap (λ (l : List A). getD l 0 𝟘)
-      (sym (left-three F u0 u1 u2 v0 v1 v2 f0 f1 f2 f3 f4 f5 f6 (v0 ⊕ v0) q3 q2 q1 q0 r2 r1 (f0 ⊖ (v0 ⊗ v0 ⊕ q0 ⊗ u0)) refl h3 h2 refl refl refl refl refl) ∙ none)
+      (sym (left-three F u0 u1 u2 v0 v1 v2 f0 f1 f2 f3 f4 f5 f6 (v0 ⊕ v0) (v2 ⊕ v2) q3 q2 q1 q0 r2 r1 (f0 ⊖ (v0 ⊗ v0 ⊕ q0 ⊗ u0)) refl refl h3 h2 refl refl refl refl refl) ∙ none)
     where
       q1 : A
       q1 = f4 ⊖ u0 ⊖ (v2 ⊗ v2 ⊕ q3 ⊗ u1) ⊖ q2 ⊗ u2
@@ -53,7 +53,7 @@ module _ (F : CRing) where
       r1 = f1 ⊖ ((v0 ⊕ v0) ⊗ v1 ⊕ q1 ⊗ u0) ⊖ q0 ⊗ u1
 
       r2 : A
-      r2 = f2 ⊖ ((v0 ⊕ v0) ⊗ v2 ⊕ v1 ⊗ v1) ⊖ (q2 ⊗ u0 ⊕ q1 ⊗ u1) ⊖ q0 ⊗ u2
+      r2 = f2 ⊖ (v0 ⊗ (v2 ⊕ v2) ⊕ v1 ⊗ v1) ⊖ (q2 ⊗ u0 ⊕ q1 ⊗ u1) ⊖ q0 ⊗ u2
 
       same : v2 ⊗ (c2 ⊗ v2 ⊕ c1) ⊕ c0 ≡ f0 ⊖ (v0 ⊗ v0 ⊕ q0 ⊗ u0)
       same = rw (k0, k1, k2, hq, ha, hb) (ring F (f0 ∷ f3 ∷ f4 ∷ u0 ∷ u1 ∷ u2 ∷ v0 ∷ v1 ∷ v2 ∷ q3 ∷ q2 ∷ []) (search quote depth 40) refl)

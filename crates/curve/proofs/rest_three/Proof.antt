@@ -15,23 +15,30 @@ dbl-requires c κs =
     let m = start .args .c .m in
     settled-kept m (v .0)
 
-dot-requires : tie.Need-dot-requires
-dot-requires c κs =
+dbl-requires-2 : tie.Need-dbl-requires-2
+dbl-requires-2 c κs =
     let start = c .before .before .before in
     let v = start .pre .1 .1 .v in
     let m = start .args .c .m in
-    (c .dbl .ensures .kept, settled-kept m (v .1 .1 .0), settled-kept m (v .1 .0), settled-kept m (v .1 .0))
+    settled-kept m (v .1 .1 .0)
+
+dot-requires : tie.Need-dot-requires
+dot-requires c κs =
+    let start = c .before .before .before .before in
+    let v = start .pre .1 .1 .v in
+    let m = start .args .c .m in
+    (settled-kept m (v .0), c .dbl2 .ensures .kept, settled-kept m (v .1 .0), settled-kept m (v .1 .0))
 
 sub-requires : tie.Need-sub-requires
 sub-requires c κs =
-    let start = c .before .before .before .before in
+    let start = c .before .before .before .before .before in
     let f = start .pre .0 .settled in
     let m = start .args .c .m in
     (settled-kept m (f .1 .1 .0), c .dot .ensures .kept)
 
 dot-requires-2 : tie.Need-dot-requires-2
 dot-requires-2 c κs =
-    let at-quotient-three = c .before .before .before in
+    let at-quotient-three = c .before .before .before .before in
     let start = at-quotient-three .before .before in
     let u = start .pre .1 .1 .u in
     let m = start .args .c .m in
@@ -42,7 +49,7 @@ sub-requires-2 c κs = (c .before .sub .ensures .kept, c .dot2 .ensures .kept)
 
 mul-requires : tie.Need-mul-requires
 mul-requires c κs =
-    let at-quotient-three = c .before .before .before .before .before in
+    let at-quotient-three = c .before .before .before .before .before .before in
     let start = at-quotient-three .before .before in
     let u = start .pre .1 .1 .u in
     let m = start .args .c .m in
@@ -53,7 +60,7 @@ sub-requires-3 c κs = (c .before .sub2 .ensures .kept, c .mul .ensures .kept)
 
 dot-requires-3 : tie.Need-dot-requires-3
 dot-requires-3 c κs =
-    let at-dbl = c .before .before .before .before .before .before in
+    let at-dbl = c .before .before .before .before .before .before .before in
     let at-quotient-three = at-dbl .before in
     let start = at-quotient-three .before .before in
     let u = start .pre .1 .1 .u in
@@ -63,14 +70,14 @@ dot-requires-3 c κs =
 
 sub-requires-4 : tie.Need-sub-requires-4
 sub-requires-4 c κs =
-    let start = c .before .before .before .before .before .before .before .before .before .before in
+    let start = c .before .before .before .before .before .before .before .before .before .before .before in
     let f = start .pre .0 .settled in
     let m = start .args .c .m in
     (settled-kept m (f .1 .0), c .dot3 .ensures .kept)
 
 mul-requires-2 : tie.Need-mul-requires-2
 mul-requires-2 c κs =
-    let at-quotient-three = c .before .before .before .before .before .before .before .before .before in
+    let at-quotient-three = c .before .before .before .before .before .before .before .before .before .before in
     let start = at-quotient-three .before .before in
     let u = start .pre .1 .1 .u in
     let m = start .args .c .m in
@@ -81,7 +88,7 @@ sub-requires-5 c κs = (c .before .sub4 .ensures .kept, c .mul2 .ensures .kept)
 
 dot-requires-4 : tie.Need-dot-requires-4
 dot-requires-4 c κs =
-    let at-quotient-three = c .before .before .before .before .before .before .before .before .before .before .before in
+    let at-quotient-three = c .before .before .before .before .before .before .before .before .before .before .before .before in
     let start = at-quotient-three .before .before in
     let u = start .pre .1 .1 .u in
     let v = start .pre .1 .1 .v in
@@ -90,7 +97,8 @@ dot-requires-4 c κs =
 
 sub-requires-6 : tie.Need-sub-requires-6
 sub-requires-6 c κs =
-    let start = c .before .before .before .before .before .before .before .before .before .before .before .before .before .before in
+    let at-sub3 = c .before .before .before .before .before in
+    let start = at-sub3 .before .before .before .before .before .before .before .before .before .before in
     let f = start .pre .0 .settled in
     let m = start .args .c .m in
     (settled-kept m (f .0), c .dot4 .ensures .kept)
@@ -120,15 +128,18 @@ returns c =
     let sub = at-sub .sub .ensures in
     let at-dot = at-sub .before in
     let dot = at-dot .dot .ensures in
-    let at-dbl = at-dot .before in
+    let at-dbl2 = at-dot .before in
+    let dbl2 = at-dbl2 .dbl2 .ensures in
+    let at-dbl = at-dbl2 .before in
     let dbl = at-dbl .dbl .ensures in
     let at-quotient-three = at-dbl .before in
     let quotient-three = at-quotient-three .quotient-three .ensures in
     let start = at-quotient-three .before .before in
     let K = zmod (start .args .c .m .p) in
     quotients-three (start .args .c) (start .pre .0) (start .args .d) _ (start .pre .1 .0) (sub6 .kept, (sub5 .kept, (sub3 .kept, tt)))
-    (left-three K _ _ _ _ _ _ _ _ _ _ _ _ _ _ _ _ _ _ _ _ _
+    (left-three K _ _ _ _ _ _ _ _ _ _ _ _ _ _ _ _ _ _ _ _ _ _
     (dbl .is)
+    (dbl2 .is)
     refl
     (quotient-three .q2)
     (quotient-three .q1)
@@ -139,4 +150,4 @@ returns c =
 
 pub rest-three-spec : {M : Type 1} → statement M
 rest-three-spec =
-    tie.close (tie.spec quotient-three-requires dbl-requires dot-requires sub-requires dot-requires-2 sub-requires-2 mul-requires sub-requires-3 dot-requires-3 sub-requires-4 mul-requires-2 sub-requires-5 dot-requires-4 sub-requires-6 returns)
+    tie.close (tie.spec quotient-three-requires dbl-requires dbl-requires-2 dot-requires sub-requires dot-requires-2 sub-requires-2 mul-requires sub-requires-3 dot-requires-3 sub-requires-4 mul-requires-2 sub-requires-5 dot-requires-4 sub-requires-6 returns)
