@@ -25,7 +25,7 @@ Made from must-fail/ of every crate by `python3 tools/make/edits.py`.
 Each edit changes a few words of a crate's code or of its rules, and the gate fails unless the prover refuses the crate with it.
 So the contract named is not empty: the wrong program doesn't keep it.
 An edit of a rule is refused by the code that keeps the rule as it stands, or by a law of it.
-Where the prover stopped first, and its words there, is from the log of a whole gate (first-errors.txt).
+Where the prover stopped first, and its words there, is from the log of a whole gate, or of a later trial of its crate (first-errors.txt).
 """
 
 
