@@ -46,7 +46,6 @@ use Rattle.rules.proofs.Calls.Next.{call_walk}
 use Rattle.rules.proofs.Calls.Orders.{Ordered, OrderDone, NotOrder}
 use Rattle.rules.proofs.Calls.Splits.{Unsplit, SplitDone}
 use Rattle.rules.proofs.Calls.Rewrites
-use Rattle.rules.proofs.Calls.Written
 use Rattle.rules.proofs.Calls.Delivered
 use Rattle.rules.proofs.Calls.Repeats
 use Rattle.rules.proofs.Calls.Same as SameLaws

@@ -10,7 +10,7 @@ use Rattle.algebra.proofs.Zmod.Zmod.{zmod, zmod_dec}
 use Rattle.algebra.proofs.Zmod.PrimeField.{modulo}
 use Rattle.rules.specs.Pair.{Pair, opposite}
 pub use Rattle.rules.specs.First.{Repeat}
-use Rattle.rules.specs.Checks.{Checked, refused, taken, choose, first_failed, go_on}
+use Rattle.rules.specs.Checks.{Checked, taken, choose, first_failed, go_on}
 use Rattle.rules.specs.Records.{both, either, CurveRecord, PairOf, divisor_at}
 
 abbrev pub most_records : ℕ

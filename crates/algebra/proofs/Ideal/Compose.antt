@@ -5,7 +5,6 @@ use mathlib.Core.List.{List, [], ◌∷◌}
 use Rattle.algebra.proofs.Ring.CRing.{CRing}
 use Rattle.algebra.proofs.Ring.Quote.{ring, quote, by}
 use Rattle.algebra.proofs.Ideal.Ideal.{Sub, ◌⊆◌, Prod, prod_one, prod_add, prod_mul, Span, span_ideal, span_prod, Scaled, scaled_ideal}
-use Rattle.algebra.proofs.Ideal.Quad.{y}
 use Rattle.algebra.proofs.Ideal.Smooth.{Smooth}
 use Rattle.algebra.proofs.Ideal.Joined.{Joined}
 

@@ -12,13 +12,13 @@ use Rattle.rules.specs.Bytes.{number}
 use Rattle.rules.specs.Pair.{neutral, opposite}
 use Rattle.rules.specs.Sum.{sum, double}
 use Rattle.rules.specs.Multiple.{multiple}
-use Rattle.rules.specs.Checks.{Checked, refused, taken, first_failed, go_on}
+use Rattle.rules.specs.Checks.{Checked, refused, taken, go_on}
 use Rattle.rules.specs.Records.{CurveRecord, curve, PairOf, read_curve, read_divisor}
 use Rattle.rules.specs.Lists.{batch}
 use Rattle.rules.specs.Split.{split_root}
 use Rattle.rules.specs.Census.{next}
 use Rattle.rules.specs.Calls.{order_checks, check_order, split_call, training_checks, read_training, next_call}
-use Rattle.rules.specs.Calls.{Result, Reply, deliver, check_curve, check_divisor, rewrite_curve, from_one, rewrite_divisor, double_call, opposite_call, add_call, multiply_checks, multiply_call, total_call, repeat_call, Running, resume, scan_checks, scan_record, scan_call}
+use Rattle.rules.specs.Calls.{Reply, deliver, check_curve, check_divisor, rewrite_curve, from_one, rewrite_divisor, double_call, opposite_call, add_call, multiply_checks, multiply_call, total_call, repeat_call, Running, resume, scan_checks, scan_record, scan_call}
 use Rattle.rules.proofs.Calls.Checks.{refused_as}
 use Rattle.rules.proofs.Calls.Places.{At, None, Placed, elsewhere, placed_on, placed_taken, curve-place, divisor_place, resume_place, Faulty, batch_place}
 use Rattle.rules.proofs.Calls.Delivered.{delivered_place}

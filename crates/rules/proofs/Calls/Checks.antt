@@ -7,7 +7,7 @@ use mathlib.Core.Path.{◌≡◌, refl, sym, ap, ap₂, ◌∙◌, subst₂}
 use mathlib.Core.List.{List, [], ◌∷◌, ◌++◌}
 use mathlib.Core.Bool.{Bool, true, false}
 use mathlib.Core.Logic.{◌↔◌}
-use Rattle.rules.specs.Checks.{Checked, refused, taken, choose, Check, first_failed}
+use Rattle.rules.specs.Checks.{refused, taken, choose, Check, first_failed}
 use Rattle.rules.proofs.Calls.Tests.{refused_taken, taken_inj, passed}
 
 abbrev pub AllPass : List Check → Type 0

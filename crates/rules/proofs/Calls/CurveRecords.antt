@@ -3,11 +3,11 @@
 -- Open: `Shown`.
 use Prim.Native.Nat.{ℕ, suc, ◌+◌, ◌*◌, ◌%◌, ◌≤◌, ◌<◌}
 use mathlib.Core.Path.{◌≡◌, refl, sym, ap, ◌∙◌, subst}
-use mathlib.Core.List.{List, [], ◌∷◌, ◌++◌}
-use mathlib.Core.Bool.{Bool, true, false, true≢false}
+use mathlib.Core.List.{List}
+use mathlib.Core.Bool.{Bool, true, false}
 use mathlib.Core.Logic.{◌⊎◌, inl, inr}
 use native.Mathlib.Omega.{arith}
-use lib.Dec.{eqb, leb, ltb}
+use lib.Dec.{eqb}
 use lib.ListN.{get_or, length}
 use borrow.Author.Tests.{leb-true, le-leb, ltb-true, eqb-true, eq-eqb, ne_eqb}
 use Rattle.algebra.proofs.Zmod.Prime.{Prime, OddPrime, prime_by_test}
@@ -16,7 +16,7 @@ use Rattle.rules.proofs.Orders.Lucas.{lucas_by_test}
 use Rattle.rules.specs.Bytes.{word64, words}
 use Rattle.rules.specs.Checks.{Check, taken, choose}
 use Rattle.rules.specs.Tests.{is_square_free}
-use Rattle.rules.specs.Records.{both, either, is_odd_prime, is_odd_number, is_witnessed, is_below, CurveRecord, curve, Form, unwitnessed, witnessed, is_marked, has_genus, version_of, curve_of, base_of, count_of, primes_of, form_of, unwitnessed_checks, witnessed_checks, curve_checks, read_curve}
+use Rattle.rules.specs.Records.{either, is_odd_prime, is_odd_number, is_witnessed, is_below, CurveRecord, curve, Form, unwitnessed, witnessed, is_marked, has_genus, version_of, curve_of, base_of, count_of, primes_of, form_of, unwitnessed_checks, witnessed_checks, curve_checks, read_curve}
 use Rattle.rules.proofs.Calls.Tests.{both_true, true_both, either_true}
 use Rattle.rules.proofs.Calls.Checks.{AllPass, all_passed, passed_all, pass_append, pass_both}
 use Rattle.rules.proofs.Calls.Bytes.{length-words}

@@ -4,20 +4,19 @@ use Prim.Native.Nat.{ℕ, suc, ◌+◌, ◌*◌, ◌≤◌, ◌<◌}
 use mathlib.Core.Path.{◌≡◌, refl, sym, ap, ap₂, ◌∙◌, subst}
 use mathlib.Core.List.{List, [], ◌∷◌, ◌++◌, append-nil, append_assoc}
 use mathlib.Core.Bool.{true}
-use mathlib.Core.Logic.{◌⊎◌, inl, inr}
+use mathlib.Core.Logic.{inl, inr}
 use native.Mathlib.Decide.{ℕ_discrete}
 use native.Mathlib.Omega.{arith}
 use lib.ListN.{get_or, length, drop, drop_of_length-le, length-append}
-use lib.Seq.{get_or-append-add}
 use borrow.Author.Tests.{eqb-true, eq-eqb, ne_eqb}
 use Rattle.algebra.proofs.Zmod.Zmod.{zmod}
 use Rattle.rules.specs.Bytes.{word64, words, bytes64, all_bytes}
 use Rattle.rules.specs.Tests.{is_square_free}
-use Rattle.rules.specs.Records.{taken, is_odd_prime, is_odd_number, is_witnessed, is_below, elements, numbers, CurveRecord, curve, Form, unwitnessed, witnessed, version, has_genus, curve_of, version_of, base_of, count_of, primes_of, form_of, read_curve, witness_bytes, curve_bytes}
+use Rattle.rules.specs.Records.{taken, is_odd_prime, is_odd_number, is_witnessed, is_below, elements, numbers, CurveRecord, curve, Form, unwitnessed, witnessed, version, has_genus, curve_of, base_of, count_of, primes_of, form_of, read_curve, witness_bytes, curve_bytes}
 use Rattle.rules.proofs.Calls.Tests.{both_true}
 use Rattle.rules.proofs.Calls.Bytes.{AreBytes, one_off, bytes_word, bytes_words, length-bytes, length-words, word-behind, words_behind, behind}
 use Rattle.rules.proofs.Calls.Elements.{elements_numbers, numbers_elements, length_numbers, numbers_below}
-use Rattle.rules.proofs.Calls.CurveRecords.{Formed, Unwitnessed, Witnessed, CurveBytes, curve_read, curve_taken, Shown, shown_prime, is_witness, odd_number, Accepts, genus_is, accepts_of, form_unwitnessed, form_witnessed}
+use Rattle.rules.proofs.Calls.CurveRecords.{Formed, CurveBytes, curve_read, curve_taken, Shown, is_witness, Accepts, accepts_of, form_unwitnessed, form_witnessed}
 
 is_genus : (g : ℕ) → 2 ≤ g → g ≤ 3 → has_genus g ≡ true
 is_genus g l m = go (ℕ_discrete g 2)

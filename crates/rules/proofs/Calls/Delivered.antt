@@ -3,8 +3,8 @@
 -- is that of what was refused (`delivered_place`).
 -- Open: `Kept`, `RestKept`, `full`.
 use Prim.Native.Nat.{ℕ, ◌+◌, ◌≤◌, ◌<◌}
-use mathlib.Core.Path.{◌≡◌, refl, sym, ap, ◌∙◌, subst}
-use mathlib.Core.List.{List, []}
+use mathlib.Core.Path.{◌≡◌, refl, ap, ◌∙◌}
+use mathlib.Core.List.{List}
 use mathlib.Core.Bool.{Bool, true, false}
 use mathlib.Core.Logic.{◌↔◌}
 use native.Mathlib.Omega.{arith}
@@ -13,7 +13,7 @@ use lib.ListN.{length, drop}
 use lib.Seq.{sets, sets-eq, drop_at}
 use borrow.Author.Tests.{ltb-true, lt-ltb, ltb-false, le-ltb}
 use Rattle.rules.specs.Checks.{Checked, refused, taken, choose, go_on}
-use Rattle.rules.specs.Calls.{Answer, done, Result, Reply, stop, put, deliver}
+use Rattle.rules.specs.Calls.{done, Result, Reply, stop, put, deliver}
 use Rattle.rules.proofs.Calls.Refusals.{Numbered, check}
 use Rattle.rules.proofs.Calls.Places.{At, Placed, elsewhere}
 

@@ -2,7 +2,7 @@
 -- then the least i < j, or none (`first_is`), and only one answer is (`first_is_unique`); so whoever finds it has the rule's. Then of the
 -- rule's own relation: none exactly where no two are the same (`no_repeat_at`), a pair exactly where it is the first (`repeat_at`).
 -- Places are counted from 0 in the facts, and the answer counts them from 1.
-use Prim.Native.Nat.{ℕ, zero, suc, ◌+◌, ◌≤◌, ◌<◌}
+use Prim.Native.Nat.{ℕ, zero, suc, ◌≤◌, ◌<◌}
 use mathlib.Core.Path.{◌≡◌, refl, sym, ap, ap₂, ◌∙◌, subst, subst₂}
 use mathlib.Core.List.{List, [], ◌∷◌, ◌++◌, map, foldl, flatten, append-nil}
 use mathlib.Core.Bool.{Bool, true, false, false≢true}

@@ -1,6 +1,6 @@
 -- The two calls that rewrite: the bytes they write are the bytes they read (`rewrite_curve_same`, `rewrite_divisor_same`).
 use Prim.Native.Nat.{ℕ}
-use mathlib.Core.Path.{◌≡◌, refl, sym, ap, ◌∙◌}
+use mathlib.Core.Path.{◌≡◌, sym, ap, ◌∙◌}
 use mathlib.Core.List.{List}
 use Rattle.rules.specs.Records.{taken, CurveRecord, form_of, read_curve, curve_bytes, divisor_bytes}
 use Rattle.rules.specs.Calls.{deliver, write, rewrite_curve, rewrite_divisor}
@@ -9,7 +9,7 @@ use Rattle.rules.proofs.Calls.CurveRecords.{accepts}
 use Rattle.rules.proofs.Calls.CurveWritten.{curve_written}
 use Rattle.rules.proofs.Calls.DivisorRecords.{divisor_written}
 use Rattle.rules.proofs.Calls.Refusals.{on_taken}
-use Rattle.rules.proofs.Calls.Written.{Written, front, answered, front_is}
+use Rattle.rules.proofs.Calls.Written.{front, answered, front_is}
 use Rattle.rules.proofs.Calls.Done.{rewrite_done, rewrite_curve_took, rewrite_took}
 
 pub rewrite_curve_same : (s out : List ℕ) → AreBytes s → answered (rewrite_curve s out) ≡ 0 → front (rewrite_curve s out) ≡ s

@@ -1,6 +1,6 @@
 -- W-213: splitting, then adding. Gives: where u is u1 · u2 and v is v1 modulo u1 and v2 modulo u2, both parts of a valid pair are valid and their sum is the pair (`parts_valid`, `parts_sum`), be u1 and u2 prime to
 -- one another or not: u1, u2 and v1 + v2 generate 1 since f is square-free (L1). So it is of the parts at a root of u (`part_valid`, `rest_valid`, `split_sum`), with their weights.
-use Prim.Native.Nat.{ℕ, suc, ◌+◌, ◌≤◌}
+use Prim.Native.Nat.{ℕ, ◌+◌, ◌≤◌}
 use mathlib.Core.Path.{◌≡◌, refl, sym, ap, ap₂, ◌∙◌, subst}
 use mathlib.Core.List.{List, [], ◌∷◌}
 use native.Mathlib.Omega.{arith}
@@ -17,10 +17,10 @@ use Rattle.algebra.proofs.List.Euclid.{mon_degree}
 use Rattle.algebra.proofs.Ideal.Composed.{Composed}
 use Rattle.algebra.proofs.Ideal.Smooth.{Smooth}
 use Rattle.rules.specs.Roots.Roots.{value}
-use Rattle.rules.proofs.Roots.Value.{ev, linear, root_iff, value_is}
+use Rattle.rules.proofs.Roots.Value.{root_iff, value_is}
 use Rattle.rules.proofs.Roots.Count.{degree_same}
 use Rattle.rules.specs.Curve.{Curve, Kx, f}
-use Rattle.rules.specs.Pair.{Pair, Valid, u_of, v_of, f_minus_v²}
+use Rattle.rules.specs.Pair.{Pair, Valid, u_of, v_of}
 use Rattle.rules.specs.Sum.{sum}
 use Rattle.rules.specs.Split.{point, part_at, rest_at}
 use Rattle.rules.proofs.Cantor.Accepted.{OverField, Accepted, field_of}

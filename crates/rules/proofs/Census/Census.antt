@@ -1,7 +1,7 @@
 -- W-211, the census. Gives, on a curve that is taken: its members are the valid divisors (`census_valid`), each once (`census_once`), in strict order (`census_rising`), so that its length is their number (`census_number`); the next one after a valid divisor is the least valid one above it, and 24 says that there is none
 -- (`next_answers`, `next_least`, `next_none`); from the neutral one on, next after next is the census itself (`walk_census`).
 -- Open: `Least`, `Last`, `Answers`.
-use Prim.Native.Nat.{ℕ, zero, suc, ◌+◌, ◌≤◌, ◌<◌}
+use Prim.Native.Nat.{ℕ, zero, suc, ◌≤◌, ◌<◌}
 use mathlib.Core.Path.{◌≡◌, refl, sym, ap, ap₂, ◌∙◌, subst}
 use mathlib.Core.List.Memᴰ
 use mathlib.Core.List.{List, [], ◌∷◌, ◌++◌, flat_map, Memᴰ}

@@ -32,8 +32,12 @@ module _ {A : Type 0} where
 
 module _ {A B : Type 0} (f : A → B) where
   pub mem_map : (l : List A) (x : A) → Memᴰ x l → Memᴰ (f x) (map f l)
-  mem_map l x (Memᴰ.head e) = Memᴰ.head (ap f e)
-  mem_map l x (Memᴰ.tail m) = Memᴰ.tail (mem_map _ x m)
+  mem_map [] x m = absurd (Memᴰ.not-nil m)
+  mem_map (y ∷ l) x m = go (Memᴰ.cases_cons m) (mem_map l x)
+    where
+      go : (x ≡ y) ⊎ Memᴰ x l → (Memᴰ x l → Memᴰ (f x) (map f l)) → Memᴰ (f x) (f y ∷ map f l)
+      go (inl e) rec = Memᴰ.head (ap f e)
+      go (inr k) rec = Memᴰ.tail (rec k)
 
   pub map_mem : (l : List A) (y : B) → Memᴰ y (map f l) → (x : A) × Memᴰ x l × (y ≡ f x)
   map_mem [] y m = absurd (Memᴰ.not-nil m)

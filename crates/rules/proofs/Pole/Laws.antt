@@ -1,7 +1,7 @@
 -- The pole file's theorems, of the rules `read_file` and `write_file` and of whatever keeps them. `answered w ≡ 0` says that a call answered 0, and `front w` is then what it left at the
 -- front of its output. Reading and writing undo each other (`reads_what_was_written`, `writes_what_was_read`); a refusal changes nothing (`read_kept`, `write_kept`); a good file with bytes
 -- behind it is 23 (`left_over`), so every cut of a good file is refused (`cut_refused`).
-use Prim.Native.Nat.{ℕ, ◌+◌, ◌≤◌, ◌<◌}
+use Prim.Native.Nat.{ℕ, ◌≤◌, ◌<◌}
 use mathlib.Core.Path.{◌≡◌, sym, ap, ap₂, ◌∙◌}
 use mathlib.Core.Bool.{true}
 use mathlib.Core.List.{List, ◌++◌, append_assoc}

@@ -5,7 +5,6 @@ use mathlib.Core.Path.{◌≡◌, sym, ap, ap₂, ◌∙◌, subst}
 use mathlib.Core.Logic.{◌≢◌, ◌⊎◌, inl, inr}
 use mathlib.Core.List.{[], ◌∷◌}
 use native.Mathlib.Omega.{arith}
-use native.Mathlib.Numerals.{add-one}
 use Rattle.algebra.proofs.Ring.CRing.{zer_mul, eq_of_sub, add_neg, add_zer, cancel_left}
 use Rattle.algebra.proofs.Ring.Divides.{Divides}
 use Rattle.algebra.proofs.Ring.Field.{Field, no_zero_divisors}

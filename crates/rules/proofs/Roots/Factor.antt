@@ -1,6 +1,6 @@
 -- Factors of monic polynomials. Gives: a monic factor of the same degree is the polynomial itself (`same_degree`); the other factor of a cubic with a monic quadratic one is x + (u2 - g1) (`linear_factor`); and what
 -- a cubic and a quadratic leave when x - r is taken out, by Horner (`cubic_less`, `quadratic_less`).
-use Prim.Native.Nat.{ℕ, suc, ◌≤◌}
+use Prim.Native.Nat.{ℕ}
 use mathlib.Core.Path.{◌≡◌, refl, sym, ap, ap₂, ◌∙◌}
 use mathlib.Core.List.{[], ◌∷◌}
 use native.Mathlib.Decide.{ℕ_discrete}
@@ -11,7 +11,7 @@ use Rattle.algebra.proofs.Poly.Bound.{Below, Monic}
 use Rattle.algebra.proofs.Poly.Poly.{poly, coef, coef_add, coef_neg}
 use Rattle.algebra.proofs.Poly.Term.{C, X, at, constants}
 use Rattle.algebra.proofs.Poly.Divide.{short_multiple}
-use Rattle.algebra.proofs.List.Value.{pol, mon, pol_below, mon_monic}
+use Rattle.algebra.proofs.List.Value.{mon, pol_below, mon_monic}
 use Rattle.algebra.proofs.List.Short.{pol2, mon2, mon3}
 use Rattle.rules.specs.Roots.Roots.{value}
 

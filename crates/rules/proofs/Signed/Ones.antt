@@ -1,15 +1,15 @@
 -- The counts of the non-adjacent form, by n and 3n in binary. Gives: the nonzero digits are the ones of 3n xor n (`recode_ones`), and there are as many digits as there are places below the highest one of 3n (`recode-places`).
 use Prim.Native.Nat.{ℕ, zero, suc, ◌+◌, ◌*◌, ◌/◌, ◌%◌, ◌^◌, ◌≤◌, ◌<◌}
-use mathlib.Core.Path.{◌≡◌, refl, sym, ap, ap₂, ◌∙◌, subst}
-use mathlib.Core.List.{List, [], ◌∷◌}
-use native.Mathlib.Decide.{ℕ_discrete, dec_lt}
+use mathlib.Core.Path.{◌≡◌, refl, sym, ap, ap₂, ◌∙◌}
+use mathlib.Core.List.{List}
+use native.Mathlib.Decide.{dec_lt}
 use native.Mathlib.Omega.{arith}
 use native.Mathlib.Nat.{zero-add}
 use lib.ListN.{length}
 use lib.Pow.{pow_mono}
 use lib.Bits.{bit_xor, differ, xor_step}
 use lib.Count.{ones, ones_step}
-use Rattle.rules.specs.Signed.Digits.{Digit, minus, null, plus, nonzeros, recode}
+use Rattle.rules.specs.Signed.Digits.{Digit, nonzeros, recode}
 use Rattle.rules.proofs.Signed.Recode.{Recodes, end, even, one, three, recodes}
 use Rattle.rules.proofs.Signed.Length.{recode-length}
 
