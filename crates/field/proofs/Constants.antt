@@ -1,5 +1,5 @@
 -- A number made a modulus: its constants are those of Montgomery's form, and an odd prime is a number to calculate with.
-use Prim.Native.Nat.{ℕ, ◌+◌, ◌*◌, ◌%◌, ◌<◌}
+use Prim.Native.Nat.{ℕ, ◌+◌, ◌*◌, ◌%◌}
 use mathlib.Core.Path.{◌≡◌, refl, ◌∙◌}
 use native.Mathlib.Omega.{arith}
 use Rattle.field_words.specs.Words.{word}

@@ -4,7 +4,7 @@ use mathlib.Core.Path.{◌≡◌, sym, ap, ◌∙◌}
 use native.Mathlib.Omega.{arith}
 use Rattle.algebra.proofs.Ring.CRing.{mul-one}
 use Rattle.algebra.proofs.Ring.Power.{power, power_none, power_more, power_even}
-use Rattle.algebra.proofs.Zmod.Zmod.{zmod, emb}
+use Rattle.algebra.proofs.Zmod.Zmod.{zmod}
 use Rattle.field_words.specs.Reduced.{Turns, Reduced, Reducible}
 use Rattle.field_words.proofs.Bounds.{one_product}
 use Rattle.field_montgomery.specs.Back.{back, element}

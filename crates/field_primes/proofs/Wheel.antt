@@ -1,7 +1,7 @@
 -- The wheel of thirty. Of the numbers d + o with o below 30, where d is 7 more than a multiple of 30, all but eight are multiples of 2, 3 or 5:
 -- one computed test of the thirty places. A multiple of 2, 3 or 5 that divides p would make p one too; so where the eight do not divide p, none
 -- of the thirty does.
-use Prim.Native.Nat.{ℕ, zero, suc, ◌+◌, ◌-◌, ◌*◌, ◌/◌, ◌%◌, ◌≤◌, ◌<◌}
+use Prim.Native.Nat.{ℕ, zero, suc, ◌+◌, ◌-◌, ◌*◌, ◌/◌, ◌%◌, ◌<◌}
 use mathlib.Core.Path.{◌≡◌, refl, sym, ap, ◌∙◌, subst}
 use mathlib.Core.Bool.{Bool, true, false}
 use mathlib.Core.List.{List, [], ◌∷◌}

@@ -1,12 +1,11 @@
 -- Tonelli and Shanks' loop on residues: the level i falls to 0 (`Descending`), and then x is the root.
-use Prim.Native.Nat.{ℕ, suc, ◌+◌, ◌-◌, ◌*◌, ◌/◌, ◌%◌, ◌^◌, ◌≤◌, ◌<◌}
+use Prim.Native.Nat.{ℕ, suc, ◌+◌, ◌-◌, ◌*◌, ◌/◌, ◌^◌, ◌≤◌, ◌<◌}
 use mathlib.Core.Path.{◌≡◌, sym, ap, ap₂, ◌∙◌, subst}
 use mathlib.Core.Logic.{◌≢◌}
 use native.Mathlib.Omega.{arith}
-use native.Mathlib.Nat.{mul_comm}
 use Rattle.algebra.proofs.Ring.Field.{Field}
 use Rattle.algebra.proofs.Ring.Power.{power}
-use Rattle.algebra.proofs.Zmod.Zmod.{zmod, emb, emb_zero, emb_inj}
+use Rattle.algebra.proofs.Zmod.Zmod.{zmod, emb_zero, emb_inj}
 use Rattle.field.specs.declared.Modulus.{Modulus}
 use Rattle.field.specs.declared.Residue.{Residue}
 use Rattle.field.specs.Residues.{el, Good, Kept, Stands}

@@ -11,7 +11,6 @@ use Rattle.field.specs.declared.Modulus.{Modulus}
 use Rattle.field.specs.declared.Residue.{Residue}
 use Rattle.field.specs.Primes.{Decides}
 use Rattle.field.specs.Residues.{el, Good, Kept, Settles, Stands, HasInverse}
-use Rattle.field.proofs.Laws.{settled_kept}
 use Rattle.rules.proofs.Roots.Count.{nonresidue}
 use Rattle.rules.proofs.Roots.Square.{square_iff}
 use Rattle.field_root.specs.Squares.{Square, LeastNonsquare}

@@ -1,9 +1,9 @@
 -- W-213: squares modulo p, and the roots of a quadratic, as elements of Z/p: what the calls of this crate ask and promise.
-use Rattle.std.specs.Prelude.{ℕ, ◌+◌, ◌-◌, ◌/◌, ◌%◌, ◌^◌, ◌≤◌, ◌<◌, ◌≡◌, ◌≢◌, [], ◌∷◌}
+use Rattle.std.specs.Prelude.{ℕ, ◌≤◌, ◌<◌, ◌≡◌, ◌≢◌, [], ◌∷◌}
 use Rattle.algebra.proofs.Zmod.Zmod.{zmod, emb}
 use Rattle.field.specs.declared.Modulus.{Modulus}
 use Rattle.field.specs.declared.Residue.{Residue}
-use Rattle.field.specs.Residues.{el, Good, Kept, HasInverse}
+use Rattle.field.specs.Residues.{el, Kept, HasInverse}
 use Rattle.rules.specs.Roots.Roots.{value}
 use Rattle.field_root.specs.declared.Rooted.{Rooted}
 use Rattle.field_root.specs.declared.Rooted.TheVariants.{By, NoSquare}

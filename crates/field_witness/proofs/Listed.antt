@@ -3,13 +3,13 @@
 use Prim.Native.Nat.{ℕ, zero, suc, ◌+◌, ◌*◌, ◌/◌, ◌%◌, ◌^◌, ◌≤◌, ◌<◌}
 use mathlib.Core.Path.{◌≡◌, refl, sym, ap, ap₂, ◌∙◌, subst}
 use mathlib.Core.List.{List, [], ◌∷◌}
-use mathlib.Core.Bool.{Bool, true, false, not, ◌&&◌, and-eq-true_iff, true≢false, false≢true}
+use mathlib.Core.Bool.{Bool, true, false, not, ◌&&◌, and-eq-true_iff, false≢true}
 use native.Mathlib.Omega.{arith}
-use native.Mathlib.Nat.{pow-zero, pow-suc, one-mul, mul_assoc, div-lt_self, div-add-mod, mul_comm}
+use native.Mathlib.Nat.{pow-zero, pow-suc, one-mul, mul_assoc, div-lt_self, div-add-mod}
 use lib.Dec.{ltb, eqb}
 use lib.ListN.{length, take, drop, get_or}
 use lib.Seq.{drop-cons, drop-length, get_or-take, length-take-le}
-use borrow.Author.Tests.{lt-ltb, le-ltb, ltb-true, eqb-true, eq-eqb, ne_eqb}
+use borrow.Author.Tests.{lt-ltb, ltb-true, eqb-true, eq-eqb}
 use Rattle.algebra.proofs.Zmod.Prime.{Prime, is_prime, prime_by_test, test_by_prime}
 use Rattle.field.specs.Primes.{Decides, OddPrime}
 use Rattle.rules.specs.Orders.Tests.{strip, is_made_of, is_none_below}
