@@ -1,15 +1,14 @@
 -- A divisor's u divides f - v² just where nothing is left; the neutral divisor is held and valid; what the theorems suppose of a curve.
-use Prim.Native.Nat.{ℕ, zero, suc, ◌+◌, ◌-◌, ◌≤◌}
+use Prim.Native.Nat.{ℕ, zero, suc, ◌+◌, ◌-◌}
 use mathlib.Core.Path.{◌≡◌, refl, sym, ap, ap₂, ◌∙◌, subst}
 use mathlib.Core.List.{List, [], ◌∷◌}
 use mathlib.Core.Bool.{Bool, true, false}
 use native.Mathlib.Omega.{arith}
-use lib.ListN.{get_or, length, take, replicate}
+use lib.ListN.{length, replicate}
 use lib.Seq.{length-take-le}
 use Rattle.algebra.proofs.Ring.CRing.{add_zer}
-use Rattle.algebra.proofs.Ring.Divides.{Divides}
 use Rattle.algebra.proofs.Poly.Poly.{poly}
-use Rattle.algebra.proofs.List.Ops.{quotient, remainder}
+use Rattle.algebra.proofs.List.Ops.{quotient}
 use Rattle.algebra.proofs.List.Value.{pol, mon, pol_zeros}
 use Rattle.algebra.proofs.List.Division.{divided, no_rest}
 use Rattle.rules.specs.Pair.{Valid}
@@ -25,7 +24,7 @@ use Rattle.divisor.specs.Divisors.{us, elements, pair}
 use Rattle.divisor.proofs.Laws.{neutral_held, neutral_is, length_elements}
 use Rattle.curve.specs.declared.Curve.{Curve}
 use Rattle.curve.specs.Curves.{above, lows, curve_of, Shaped, Sound, Holds, Divided}
-use Rattle.curve.specs.division.Turns.{K, AllZero, Leaves}
+use Rattle.curve.specs.division.Turns.{K, AllZero}
 use Rattle.curve.specs.Rests.{Rests}
 
 pub neutral-holds : (c : Curve) → Good c.m → Holds c Neutral

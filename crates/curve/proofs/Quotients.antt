@@ -4,7 +4,7 @@ use mathlib.Core.Path.{◌≡◌, refl, sym, ap, ap₂, ◌∙◌}
 use mathlib.Core.List.{List, [], ◌∷◌, ◌++◌}
 use native.Mathlib.Omega.{arith}
 use Rattle.algebra.proofs.Ring.CRing.{CRing}
-use Rattle.algebra.proofs.Ring.Quote.{ring, quote, by}
+use Rattle.algebra.proofs.Ring.Quote.{ring, quote}
 use Rattle.algebra.proofs.List.Ops.{add_l, neg_l, scale_l, slide, divmod, remainder, whole}
 use Rattle.algebra.proofs.List.Division.{own_rest}
 use Rattle.field.specs.declared.Residue.{Residue}

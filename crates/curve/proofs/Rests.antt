@@ -1,12 +1,10 @@
 -- What f - v² leaves when it is divided by u. Gives: the first coefficients (`top_one_low` to `top_two_high`), and that all of them are f - v² (`rests_one`, `rests_two`).
-use Prim.Native.Nat.{ℕ, ◌+◌, ◌-◌, ◌≤◌}
-use mathlib.Core.Path.{◌≡◌, refl, sym, ap, ap₂, ◌∙◌, subst}
+use Prim.Native.Nat.{ℕ, ◌+◌, ◌-◌}
+use mathlib.Core.Path.{◌≡◌, refl, subst}
 use mathlib.Core.List.{List, [], ◌∷◌, ◌++◌}
 use native.Mathlib.Omega.{arith}
 use lib.ListN.{take}
 use Rattle.algebra.proofs.List.Ops.{whole}
-use Rattle.algebra.proofs.List.Value.{pol}
-use Rattle.rules.specs.Pair.{f_minus_v²}
 use Rattle.field.specs.declared.Residue.{Residue}
 use Rattle.field.specs.Residues.{el, Kept, Settles}
 use Rattle.field.proofs.Laws.{settled_kept}
@@ -18,7 +16,7 @@ use Rattle.divisor.specs.declared.Duo.{Duo}
 use Rattle.curve.specs.division.Turns.{K, two, Leaves, Turned}
 use Rattle.curve.proofs.division.Turned.{Less, Twice, begun, topped}
 use Rattle.curve.specs.declared.Curve.{Curve}
-use Rattle.curve.specs.Curves.{above, curve_of, Sound}
+use Rattle.curve.specs.Curves.{above, Sound}
 use Rattle.curve.specs.Rests.{TopOne, TopTwo, Rests}
 use Rattle.curve.proofs.Squares.{square_one, square_two}
 

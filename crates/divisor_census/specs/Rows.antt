@@ -1,5 +1,5 @@
 -- W-211: a divisor's numbers as a counter. What the steps of the walk over all divisors promise, in the words of the rule's list.
-use Rattle.std.specs.Prelude.{ℕ, suc, ◌+◌, ◌*◌, ◌≤◌, ◌<◌, ◌≡◌, List, [], ◌∷◌, ◌++◌, leb, length, take, replicate}
+use Rattle.std.specs.Prelude.{ℕ, suc, ◌*◌, ◌≤◌, ◌<◌, ◌≡◌, List, [], ◌∷◌, ◌++◌, leb, length, take, replicate}
 use Rattle.algebra.proofs.Zmod.Zmod.{zmod, num}
 use Rattle.rules.specs.Checks.{refused, taken, choose}
 use Rattle.rules.specs.Records.{CurveRecord, PairOf}

@@ -34,7 +34,7 @@ use Rattle.curve.specs.division.Turns.{Leaves}
 use Rattle.curve.proofs.division.Turned.{Less, turned_one, turned_two, begun}
 use Rattle.field_root.specs.Squares.{Splits}
 use Rattle.poly_root.specs.Roots.{LargestRoot}
-use Rattle.divisor_split.specs.Splits.{PartAt, ToDivide, RestAt, PartsOf}
+use Rattle.divisor_split.specs.Splits.{PartAt, RestAt, PartsOf}
 use Rattle.divisor_split.proofs.Products.{product2, product3}
 
 module _ (m : Modulus) (good : Good m) where

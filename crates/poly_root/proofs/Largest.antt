@@ -1,13 +1,12 @@
 -- The largest root from any: u is (x - r) times a quadratic, whose roots are the others.
 use Prim.Native.Nat.{ℕ, ◌≤◌, ◌<◌}
-use mathlib.Core.Path.{◌≡◌, refl, sym, ap, ap₂, ◌∙◌, subst}
+use mathlib.Core.Path.{◌≡◌, sym, ap, ap₂, ◌∙◌, subst}
 use mathlib.Core.List.{[], ◌∷◌}
 use mathlib.Core.Logic.{◌≢◌, ◌⊎◌, inl, inr}
 use native.Mathlib.Omega.{arith}
-use native.Mathlib.Nat.{le_refl, le_trans}
 use Rattle.algebra.proofs.Ring.CRing.{add_zer, add_neg, zer_mul, mul_zer, eq_of_sub}
 use Rattle.algebra.proofs.Ring.Field.{no_zero_divisors}
-use Rattle.algebra.proofs.Zmod.Zmod.{zmod, zmod_dec, num}
+use Rattle.algebra.proofs.Zmod.Zmod.{zmod_dec, num}
 use Rattle.field.specs.declared.Modulus.{Modulus}
 use Rattle.field.specs.declared.Residue.{Residue}
 use Rattle.field.specs.Residues.{el, Good, Settles, Stands}

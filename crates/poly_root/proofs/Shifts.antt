@@ -4,14 +4,13 @@ use Prim.Native.Nat.{ℕ, zero, suc, ◌+◌, ◌-◌, ◌/◌, ◌≤◌, ◌<�
 use mathlib.Core.Path.{◌≡◌, refl, sym, ap, ap₂, ◌∙◌, subst}
 use mathlib.Core.List.{[], ◌∷◌}
 use mathlib.Core.Bool.{Bool, true, false}
-use mathlib.Core.Logic.{◌≢◌, ◌⊎◌, inl, inr}
+use mathlib.Core.Logic.{◌≢◌}
 use native.Mathlib.Decide.{ℕ_discrete}
 use native.Mathlib.Omega.{arith}
 use lib.ListN.{get_or}
 use Rattle.algebra.proofs.Ring.CRing.{neg_neg, zer_mul, add_neg, eq_of_sub}
-use Rattle.algebra.proofs.Ring.Quote.{ring, quote, by}
+use Rattle.algebra.proofs.Ring.Quote.{ring, quote}
 use Rattle.algebra.proofs.Ring.Divides.{Divides}
-use Rattle.algebra.proofs.Ring.Field.{Field}
 use Rattle.algebra.proofs.Ring.Power.{power, has_power_one, power_one}
 use Rattle.algebra.proofs.Poly.Bound.{Monic}
 use Rattle.algebra.proofs.Poly.Poly.{coef}
@@ -19,7 +18,7 @@ use Rattle.algebra.proofs.Poly.Term.{C, X}
 use Rattle.algebra.proofs.Poly.Degree.{deg_monic}
 use Rattle.algebra.proofs.List.Value.{mon, mon_monic}
 use Rattle.algebra.proofs.List.Coefs.{mon_of}
-use Rattle.algebra.proofs.Zmod.Zmod.{zmod, emb, emb_add, emb_one, emb_zero}
+use Rattle.algebra.proofs.Zmod.Zmod.{emb, emb_add, emb_one, emb_zero}
 use Rattle.algebra.proofs.Zmod.PrimeField.{modulo}
 use Rattle.field.specs.declared.Modulus.{Modulus}
 use Rattle.field.specs.declared.Residue.{Residue}
@@ -31,7 +30,7 @@ use Rattle.poly.specs.Polys.{pol}
 use Rattle.poly.proofs.Division.{monic_of}
 use Rattle.poly.proofs.Monic.{monic_one}
 use Rattle.rules.specs.Roots.Roots.{value}
-use Rattle.rules.proofs.Roots.Value.{linear, ev, ev_hom, ev_C, ev_X, ev_less_one, ev_shift, root_iff, root_factor, value_is}
+use Rattle.rules.proofs.Roots.Value.{linear, ev, ev_hom, ev_less_one, ev_shift, root_iff, root_factor, value_is}
 use Rattle.rules.proofs.Roots.Fermat.{every_root}
 use Rattle.rules.proofs.Roots.Shift.{parted_by_power}
 use Rattle.rules.proofs.Roots.Count.{two_roots}

@@ -1,7 +1,7 @@
 -- W-213: the roots of a monic cubic modulo p, and the largest of them as a number below p.
-use Rattle.std.specs.Prelude.{ℕ, ◌≤◌, ◌≡◌, ◌⊎◌}
+use Rattle.std.specs.Prelude.{◌≤◌, ◌≡◌, ◌⊎◌}
 use Rattle.algebra.proofs.Ring.Divides.{Divides}
-use Rattle.algebra.proofs.Zmod.Zmod.{zmod, num}
+use Rattle.algebra.proofs.Zmod.Zmod.{num}
 use Rattle.field.specs.declared.Modulus.{Modulus}
 use Rattle.field.specs.declared.Residue.{Residue}
 use Rattle.field.specs.Residues.{el, Kept, Settled}

@@ -1,37 +1,35 @@
 -- Parts of a cubic. Gives: the gcd of the polynomials of u and of a rest (`shared`); the gcd of u with what d leaves is that of u and d (`part_of`); what x^p - x and (x + a)^((p-1)/2) - 1 leave
 -- (`field_leaves`, `shift_leaves`).
-use Prim.Native.Nat.{ℕ, zero, suc, ◌+◌, ◌-◌, ◌/◌, ◌≤◌, ◌<◌, max}
+use Prim.Native.Nat.{ℕ, ◌+◌, ◌-◌, ◌/◌, ◌<◌, max}
 use mathlib.Core.Path.{◌≡◌, refl, sym, ap, ap₂, ◌∙◌, subst}
-use mathlib.Core.List.{List, [], ◌∷◌, ◌++◌}
-use mathlib.Core.Logic.{◌↔◌, ◌≢◌}
+use mathlib.Core.List.{[], ◌∷◌}
 use native.Mathlib.Omega.{arith}
 use native.Mathlib.Decide.{ℕ_discrete}
-use Rattle.algebra.proofs.Ring.CRing.{CRing, mul-one, mul_zer, zer_mul, add_zer}
+use Rattle.algebra.proofs.Ring.CRing.{CRing, mul_zer}
 use Rattle.algebra.proofs.Ring.Quote.{ring, quote, by}
-use Rattle.algebra.proofs.Ring.Divides.{Divides, divides_add, divides_mul, divides_trans, divides_eq}
+use Rattle.algebra.proofs.Ring.Divides.{Divides, divides_add, divides_mul, divides_eq}
 use Rattle.algebra.proofs.Ring.Power.{power}
 use Rattle.algebra.proofs.Poly.Bound.{Monic}
 use Rattle.algebra.proofs.Poly.Poly.{coef}
 use Rattle.algebra.proofs.Poly.Term.{C, X, term, constants}
-use Rattle.algebra.proofs.Poly.Degree.{Degree, deg_monic, deg_ne, degree_mul, by_deg}
+use Rattle.algebra.proofs.Poly.Degree.{Degree, deg_monic, deg_ne}
 use Rattle.algebra.proofs.List.Ops.{whole}
 use Rattle.algebra.proofs.List.Value.{pol as list-pol, mon, mon_monic}
 use Rattle.field.specs.declared.Modulus.{Modulus}
 use Rattle.field.specs.declared.Residue.{Residue}
-use Rattle.field.specs.Residues.{el, Good, Kept, Settles, Stands}
-use Rattle.field.proofs.Laws.{residue_field, settled_kept}
+use Rattle.field.specs.Residues.{el, Good, Settles, Stands}
+use Rattle.field.proofs.Laws.{residue_field}
 use Rattle.poly.specs.declared.Poly.{Poly}
-use Rattle.poly.specs.Polys.{pol, Ok, Is}
-use Rattle.poly.specs.Operations.{IsMonic}
+use Rattle.poly.specs.Polys.{pol, Is}
 use Rattle.poly.proofs.Lengths.{none_is}
 use Rattle.poly.proofs.Division.{monic_of}
 use Rattle.poly_euclid.specs.Euclid.{Gcd}
 use Rattle.curve.proofs.polynomials.Few.{next_term}
 use Rattle.rules.proofs.Roots.Factor.{same_degree}
-use Rattle.rules.proofs.Roots.Value.{ev, ev_hom, linear, root_iff, root_factor, root_rest}
+use Rattle.rules.proofs.Roots.Value.{linear, root_iff, root_factor, root_rest}
 use Rattle.poly_root.specs.declared.rests.MonicCubic.{MonicCubic}
 use Rattle.poly_root.specs.declared.rests.Rest.{Rest}
-use Rattle.poly_root.specs.rests.Rests.{K, P, lows, cubic, rest, SettledCubic, KeptRest, Leaves}
+use Rattle.poly_root.specs.rests.Rests.{K, P, lows, cubic, rest, Leaves}
 use Rattle.poly_root.proofs.rests.Times.{co, rest_is}
 use Rattle.poly_root.specs.parts.Parts.{Shared, Part, all_roots, shifted}
 

@@ -3,13 +3,13 @@ use Prim.Native.Nat.{ℕ, zero, suc, ◌-◌, ◌/◌, ◌%◌, ◌≤◌, ◌<�
 use mathlib.Core.Path.{◌≡◌, refl, sym, ap, ap₂, ◌∙◌}
 use mathlib.Core.List.{[], ◌∷◌}
 use native.Mathlib.Omega.{arith}
-use Rattle.algebra.proofs.Ring.CRing.{CRing, add_zer}
+use Rattle.algebra.proofs.Ring.CRing.{CRing}
 use Rattle.algebra.proofs.Ring.Quote.{ring, quote, by}
 use Rattle.algebra.proofs.Ring.Power.{power, power_none, power_more, power_even}
 use Rattle.algebra.proofs.Poly.Term.{C, X, constants}
 use Rattle.field.specs.declared.Modulus.{Modulus}
 use Rattle.field.specs.declared.Residue.{Residue}
-use Rattle.field.specs.Residues.{el, Settles}
+use Rattle.field.specs.Residues.{Settles}
 use Rattle.field.proofs.Laws.{settled_kept}
 use Rattle.poly_root.specs.declared.rests.MonicCubic.{MonicCubic}
 use Rattle.poly_root.specs.declared.rests.Rest.{Rest}

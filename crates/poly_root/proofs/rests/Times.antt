@@ -1,16 +1,16 @@
 -- The product of two rests modulo a cubic, a coefficient at a time: the residues of the code stand for the constants that an identity of K[x] wants (`times_is`).
 use mathlib.Core.Path.{◌≡◌, refl, sym, ap, ap₂, ◌∙◌}
-use mathlib.Core.List.{List, [], ◌∷◌}
+use mathlib.Core.List.{[], ◌∷◌}
 use Rattle.algebra.proofs.Ring.CRing.{CRing}
 use Rattle.algebra.proofs.Ring.Quote.{ring, quote, by}
 use Rattle.algebra.proofs.Poly.Term.{C, X, constants}
 use Rattle.algebra.proofs.List.Short.{pol3, mon3}
 use Rattle.field.specs.declared.Modulus.{Modulus}
 use Rattle.field.specs.declared.Residue.{Residue}
-use Rattle.field.specs.Residues.{el, Kept, Stands}
+use Rattle.field.specs.Residues.{el, Stands}
 use Rattle.poly_root.specs.declared.rests.MonicCubic.{MonicCubic}
 use Rattle.poly_root.specs.declared.rests.Rest.{Rest}
-use Rattle.poly_root.specs.rests.Rests.{K, P, cubic, rest, KeptRest, Leaves}
+use Rattle.poly_root.specs.rests.Rests.{K, P, cubic, rest, Leaves}
 
 -- ---- in any ring
 module _ (R : CRing) where

@@ -1,11 +1,11 @@
 -- W-213: the part of a cubic u that it shares with a polynomial d: its roots are those of u at which d is 0.
-use Rattle.std.specs.Prelude.{ℕ, ◌-◌, ◌/◌, ◌≤◌, ◌≡◌, ◌↔◌}
+use Rattle.std.specs.Prelude.{◌-◌, ◌/◌, ◌≤◌, ◌≡◌, ◌↔◌}
 use Rattle.algebra.proofs.Ring.Divides.{Divides}
 use Rattle.algebra.proofs.Ring.Power.{power}
 use Rattle.algebra.proofs.Poly.Term.{C, X}
 use Rattle.field.specs.declared.Modulus.{Modulus}
 use Rattle.field.specs.declared.Residue.{Residue}
-use Rattle.field.specs.Residues.{el, Kept}
+use Rattle.field.specs.Residues.{Kept}
 use Rattle.poly.specs.declared.Poly.{Poly}
 use Rattle.poly.specs.Polys.{pol, Ok}
 use Rattle.poly.specs.Operations.{IsMonic}
