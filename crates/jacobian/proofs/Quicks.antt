@@ -1,6 +1,6 @@
 -- Sums by formula. Gives: where a formula of `sum_genus2` or `sum_genus3` finds a divisor, that is the rule's sum on the curve in code (`tried_two`, `tried_three` and
 -- the like of a divisor with itself); where it finds none, what it says of its conditions is handed on. The neutral divisor adds nothing (`neutral_first`).
-use Prim.Native.Nat.{ℕ, ◌+◌, ◌-◌, ◌≤◌}
+use Prim.Native.Nat.{ℕ, ◌+◌, ◌-◌}
 use mathlib.Core.Path.{◌≡◌, sym, ap, ◌∙◌, subst, subst₂}
 use mathlib.Core.List.{List}
 use native.Mathlib.Omega.{arith}

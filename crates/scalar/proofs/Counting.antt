@@ -1,6 +1,6 @@
 -- What the walk over a scalar's bytes keeps, from the lowest: 3n so far, as what is written and a carry; the ones of 3n xor n; and the place of the highest one of 3n. Gives: how it begins, a turn, and that it ends
 -- with the two counts of the non-adjacent form.
-use Prim.Native.Nat.{ℕ, zero, suc, ◌+◌, ◌-◌, ◌*◌, ◌/◌, ◌%◌, ◌^◌, ◌≤◌, ◌<◌}
+use Prim.Native.Nat.{ℕ, suc, ◌+◌, ◌-◌, ◌*◌, ◌/◌, ◌%◌, ◌^◌, ◌≤◌, ◌<◌}
 use mathlib.Core.Path.{◌≡◌, refl, sym, ap, ap₂, ◌∙◌, subst}
 use mathlib.Core.Logic.{◌⊎◌, inl, inr}
 use mathlib.Core.List.{List}

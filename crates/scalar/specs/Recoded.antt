@@ -1,5 +1,5 @@
 -- A scalar's signed digits in code: the non-adjacent form, each digit kept as the number one above it.
-use Rattle.std.specs.Prelude.{ℕ, zero, suc, ◌+◌, ◌≤◌, ◌<◌, ◌≡◌, ◌≢◌, List, map, length, get_or, drop, ℤ}
+use Rattle.std.specs.Prelude.{ℕ, zero, suc, ◌+◌, ◌≤◌, ◌<◌, ◌≡◌, List, map, length, get_or, drop, ℤ}
 use Rattle.std.specs.Int.Count.{count_leading_zeros}
 use Rattle.rules.specs.Signed.Digits.{Digit, minus, null, plus, weight, nonzeros, recode}
 use Rattle.scalar.specs.declared.Counts.{Counts}

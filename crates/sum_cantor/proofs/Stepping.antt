@@ -12,7 +12,7 @@ use Rattle.field.specs.declared.Modulus.{Modulus}
 use Rattle.field.specs.Residues.{Good}
 use Rattle.field.proofs.Laws.{residue_field}
 use Rattle.poly.specs.declared.Poly.{Poly}
-use Rattle.poly.specs.Polys.{K, P, pol, Ok, Is}
+use Rattle.poly.specs.Polys.{K, P, pol, Is}
 use Rattle.poly.specs.Operations.{IsMonic, MadeMonic, Divided}
 use Rattle.poly.proofs.Lengths.{none_is, degree_of}
 use Rattle.sum_cantor.specs.declared.composing.Mumford.{Mumford}

@@ -5,7 +5,6 @@ use mathlib.Core.Path.{◌≡◌, refl}
 use mathlib.Core.List.{[], ◌∷◌}
 use Rattle.algebra.proofs.Ring.CRing.{CRing}
 use Rattle.algebra.proofs.Ring.Quote.{ring, quote, by}
-use Rattle.algebra.proofs.Ideal.Joined.{OnCurve}
 use Rattle.algebra.proofs.Ideal.Composed.{Composed, composed_coprime, composed_tangent}
 
 module _ (R : CRing) where

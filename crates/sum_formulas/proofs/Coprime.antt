@@ -1,13 +1,13 @@
 -- What r = 0 says. Two polynomials are coprime where a combination of them is 1. Gives: what takes h to 0 modulo a monic u, coprime to h, and is shorter than u is 0 (`takes_none`); so r = 0 only where what was to be inverted modulo u isn't coprime to u: in genus 2
 -- u of one pair modulo that of the other (`r2_none`), and 2v modulo u (`r2_none_twice`).
-use Prim.Native.Nat.{ℕ, zero, suc, ◌≤◌}
+use Prim.Native.Nat.{ℕ, suc}
 use mathlib.Core.Path.{◌≡◌, refl, sym, ap, ap₂, ◌∙◌, subst}
 use mathlib.Core.Logic.{◌≢◌}
 use mathlib.Core.List.{[], ◌∷◌}
 use native.Mathlib.Omega.{arith}
 use Rattle.algebra.proofs.Ring.CRing.{CRing, add_zer, mul_zer}
 use Rattle.algebra.proofs.Ring.Quote.{ring, quote, by}
-use Rattle.algebra.proofs.Poly.Bound.{Below, Monic, below_mono, below_con}
+use Rattle.algebra.proofs.Poly.Bound.{Below, Monic, below_con}
 use Rattle.algebra.proofs.Poly.Poly.{poly, coef, coef_zer, coef_one}
 use Rattle.algebra.proofs.Poly.Term.{C, at, term_zer}
 use Rattle.algebra.proofs.Poly.Divide.{short_multiple}

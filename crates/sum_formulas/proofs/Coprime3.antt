@@ -1,6 +1,6 @@
 -- What r = 0 says in genus 3, of the values that code keeps under these names (Open3): what was to be inverted isn't coprime to u (`r3_none`; 2v: `r3_none_twice`). i may be 0 itself; then d = d0 + d1 x + d2 x², which is a multiple of it modulo u, divides u, up to a
 -- factor, and what is left of u takes d to 0 (`divides_u`).
-use mathlib.Core.Path.{◌≡◌, refl, sym, ap, ap₂, ◌∙◌}
+use mathlib.Core.Path.{◌≡◌, refl, sym, ap, ◌∙◌}
 use mathlib.Core.Logic.{◌≢◌}
 use mathlib.Core.List.{[], ◌∷◌}
 use native.Mathlib.Omega.{arith}

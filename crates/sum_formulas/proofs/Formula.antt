@@ -1,15 +1,15 @@
 -- The sum by a formula, over every degree: pairs of weight g, composed as v + s·u (Chord), one step or two (Turns). Gives: `one_turn`, where the first
 -- step ends it (genus 2), `two_turns`, where it takes another (genus 3). That the answer is valid comes with it.
-use Prim.Native.Nat.{ℕ, suc, ◌+◌, ◌≤◌}
-use mathlib.Core.Path.{◌≡◌, refl, sym, ◌∙◌, subst}
+use Prim.Native.Nat.{ℕ, ◌+◌, ◌≤◌}
+use mathlib.Core.Path.{◌≡◌, refl, sym, subst}
 use mathlib.Core.List.{List, [], ◌∷◌}
 use native.Mathlib.Omega.{arith}
 use lib.ListN.{length}
 use Rattle.algebra.proofs.Ring.CRing.{CRing}
 use Rattle.algebra.proofs.Ring.Quote.{ring, quote, by}
-use Rattle.algebra.proofs.Poly.Bound.{Below, Monic}
+use Rattle.algebra.proofs.Poly.Bound.{Below}
 use Rattle.algebra.proofs.Poly.Poly.{coef}
-use Rattle.algebra.proofs.List.Value.{pol, mon, pol_below, mon_monic}
+use Rattle.algebra.proofs.List.Value.{mon, pol_below, mon_monic}
 use Rattle.algebra.proofs.Ideal.Joined.{OnCurve}
 use Rattle.algebra.proofs.Ideal.Composed.{Composed}
 use Rattle.rules.specs.Curve.{Curve, Kx, f}

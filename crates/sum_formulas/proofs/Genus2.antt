@@ -1,15 +1,15 @@
 -- The steps of the formulae of genus 2, in any ring: each takes the equations that code keeps, a name a line, and gives an equation of K[x], or that a
 -- difference is below 2. (a0, a1), (c0, c1) are u and v of the base pair, (b0, b1) is the other u.
-use mathlib.Core.Path.{◌≡◌, refl, sym, ap, ◌∙◌}
-use mathlib.Core.List.{List, [], ◌∷◌}
+use mathlib.Core.Path.{◌≡◌, refl}
+use mathlib.Core.List.{[], ◌∷◌}
 use Rattle.algebra.proofs.Ring.CRing.{CRing}
 use Rattle.algebra.proofs.Ring.Quote.{ring, quote, by}
 use Rattle.algebra.proofs.Poly.Bound.{Below}
 use Rattle.algebra.proofs.Poly.Poly.{poly, coef}
-use Rattle.algebra.proofs.Poly.Term.{C, constants}
+use Rattle.algebra.proofs.Poly.Term.{C}
 use Rattle.algebra.proofs.List.Ops.{add_l, mul_l, neg_l, scale_l, whole}
 use Rattle.algebra.proofs.List.Value.{pol, mon}
-use Rattle.sum_formulas.proofs.Lists.{Px, lo, mo, co, pl, ti, ne, equal_by, below_by}
+use Rattle.sum_formulas.proofs.Lists.{lo, mo, co, pl, ti, ne, equal_by, below_by}
 
 module _ (F : CRing) where
   open F use {El as A, add as ◌+◌, mul as ◌*◌, neg, zer as 𝟘, one as 𝟙}

@@ -7,8 +7,8 @@ use mathlib.Core.Path.{◌≡◌, refl, sym, ap, ap₂, ◌∙◌}
 use mathlib.Core.List.{List, [], ◌∷◌}
 use native.Mathlib.Omega.{arith}
 use lib.ListN.{get_or}
-use Rattle.algebra.proofs.Ring.CRing.{CRing, add_neg, add_zer, mul_zer}
-use Rattle.algebra.proofs.Poly.Series.{Ser, add_s, neg_s}
+use Rattle.algebra.proofs.Ring.CRing.{CRing, add_neg}
+use Rattle.algebra.proofs.Poly.Series.{add_s}
 use Rattle.algebra.proofs.Poly.Bound.{Below}
 use Rattle.algebra.proofs.Poly.Poly.{poly, coef, poly_ext, coef_add, coef_neg}
 use Rattle.algebra.proofs.Poly.Term.{at, C}

@@ -5,7 +5,6 @@ use Prim.Native.Nat.{ℕ, suc, ◌+◌, ◌≤◌}
 use mathlib.Core.Path.{◌≡◌, refl, sym, ◌∙◌, subst}
 use mathlib.Core.List.{[], ◌∷◌}
 use native.Mathlib.Omega.{arith}
-use lib.ListN.{length}
 use Rattle.algebra.proofs.Ring.CRing.{CRing, eq_of_sub}
 use Rattle.algebra.proofs.Ring.Quote.{ring, quote, by}
 use Rattle.algebra.proofs.Poly.Bound.{Below, below_add, below_neg, below_mul, below_con, Monic, monic_mul}

@@ -2,7 +2,7 @@
 -- `closes`, where the slope has degree 1, and `closes_flat`, where it is a constant; `is_sum` and `is_double` put both halves together; between
 -- them what is inverted has an inverse (`unit_r`, `unit_both`, `undoes`).
 use mathlib.Core.Path.{◌≡◌, refl, sym, ap, ap₂, ◌∙◌, subst}
-use mathlib.Core.List.{List, [], ◌∷◌}
+use mathlib.Core.List.{[], ◌∷◌}
 use mathlib.Core.Logic.{◌≢◌}
 use native.Mathlib.Omega.{arith}
 use Rattle.algebra.proofs.Ring.Quote.{ring, quote}

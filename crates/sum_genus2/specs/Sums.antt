@@ -1,6 +1,6 @@
 -- What a sum of genus 2 by formula promises, before it divides (`Opens`, `OpensTwice`), after (`Closes`), and as a whole (`Sum2`, `Double2`): of every curve with
 -- these coefficients that is accepted and has the divisors.
-use Rattle.std.specs.Prelude.{◌≡◌, List, [], ◌∷◌, ◌≢◌}
+use Rattle.std.specs.Prelude.{◌≡◌, [], ◌∷◌, ◌≢◌}
 use Rattle.algebra.proofs.Zmod.PrimeField.{modulo}
 use Rattle.algebra.proofs.Poly.Poly.{poly}
 use Rattle.algebra.proofs.Poly.Term.{C}

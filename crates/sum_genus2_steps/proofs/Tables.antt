@@ -2,7 +2,7 @@
 -- u and v of the base pair, (b0, b1) is the other u. Gives: `times_is`, where e = i0 - b1·i1 is known; `quotient_is`, where i is; `tangent_is`, which inverts v in
 -- place of 2v, so that v1² serves twice; `right_tops`.
 use mathlib.Core.Path.{◌≡◌, refl, ◌∙◌}
-use mathlib.Core.List.{List, [], ◌∷◌}
+use mathlib.Core.List.{[], ◌∷◌}
 use Rattle.algebra.proofs.Ring.CRing.{CRing}
 use Rattle.algebra.proofs.Ring.Quote.{ring, quote}
 use Rattle.algebra.proofs.Poly.Bound.{Below}

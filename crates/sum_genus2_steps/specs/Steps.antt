@@ -1,5 +1,5 @@
 -- What the steps of the formulae of genus 2 promise, in K[x]: an equation each, or that a difference is below 2. (u, v) is the pair a, the other one is b.
-use Rattle.std.specs.Prelude.{◌≡◌, List, [], ◌∷◌}
+use Rattle.std.specs.Prelude.{◌≡◌, [], ◌∷◌}
 use Rattle.algebra.proofs.Ring.CRing.{CRing}
 use Rattle.algebra.proofs.Zmod.Zmod.{zmod}
 use Rattle.algebra.proofs.Poly.Bound.{Below}

@@ -1,5 +1,4 @@
 -- Genus 3: where r isn't 0, r and s' compose. Gives: `joins` of two pairs, `joins_twice` of one with itself, by formulas' laws over the degree.
-use mathlib.Core.Path.{◌≡◌}
 use mathlib.Core.Logic.{◌≢◌}
 use Rattle.algebra.proofs.Zmod.Zmod.{zmod}
 use Rattle.algebra.proofs.Poly.Poly.{poly}

@@ -8,7 +8,7 @@ use native.Mathlib.Decide.{ℕ_discrete}
 use borrow.Author.Count.{below_more}
 use lib.ListN.{get_or, length, set, replicate, length-set, get_or-replicate}
 use lib.Seq.{get_or-set_same, get_or-set_other}
-use Rattle.algebra.proofs.Ring.Quote.{ring, quote, by}
+use Rattle.algebra.proofs.Ring.Quote.{ring, quote}
 use Rattle.algebra.proofs.Zmod.Zmod.{zmod}
 use Rattle.algebra.proofs.Zmod.PrimeField.{modulo}
 use Rattle.rules.specs.Pair.{Pair, Valid, neutral}

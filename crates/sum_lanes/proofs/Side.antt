@@ -7,7 +7,7 @@ use native.Mathlib.Omega.{arith}
 use native.Mathlib.Decide.{ℕ_discrete}
 use Rattle.algebra.proofs.Zmod.PrimeField.{modulo}
 use Rattle.rules.specs.Curve.{Curve as RuleCurve}
-use Rattle.rules.specs.Pair.{Pair, Valid, neutral}
+use Rattle.rules.specs.Pair.{Pair, Valid}
 use Rattle.rules.specs.Sum.{sum}
 use Rattle.rules.proofs.Cantor.Accepted.{Accepted}
 use Rattle.rules.proofs.Cantor.Pairs.{neutral_valid}
@@ -23,7 +23,7 @@ use Rattle.divisor.specs.declared.Divisor.TheVariants.{Neutral}
 use Rattle.divisor.proofs.Laws.{neutral_is}
 use Rattle.divisor.specs.Divisors.{pair}
 use Rattle.curve.specs.declared.Curve.{Curve}
-use Rattle.curve.specs.Curves.{curve_of, Sound, Holds, Gives}
+use Rattle.curve.specs.Curves.{curve_of, Sound, Gives}
 use Rattle.curve.proofs.Contains.{accepted, neutral-holds}
 use Rattle.sum_lanes.specs.openings.Openings.{Under, Undoes}
 use Rattle.sum_lanes.specs.declared.Waiting.{Waiting}

@@ -1,6 +1,5 @@
 -- Running sums side by side, the lanes: a divisor that waits to be added to its lane, and what the first n of a row of divisors come to.
 use Rattle.std.specs.Prelude.{ℕ, zero, suc, ◌<◌, ◌≡◌, List, get_or}
-use Rattle.algebra.proofs.Ring.CRing.{CRing}
 use Rattle.algebra.proofs.Zmod.Zmod.{zmod}
 use Rattle.algebra.proofs.Zmod.PrimeField.{modulo}
 use Rattle.rules.specs.Pair.{Pair, neutral}

@@ -15,7 +15,6 @@ use Rattle.curve.specs.declared.Curve.{Curve}
 use Rattle.curve.specs.Curves.{curve_of, Sound, Holds, Gives}
 use Rattle.scalar.specs.declared.Digits.{Digits}
 use Rattle.scalar.specs.Recoded.{upper, Recoded}
-use Rattle.multiple_affine.specs.declared.promise.Multiple.{Multiple}
 use Rattle.multiple_affine.specs.promise.Contracts.{Stepped, Multiplied}
 use Rattle.multiple_affine.proofs.promise.Counted.{doublings_are, additions_are, none, no_nonzeros}
 use Rattle.scalar.proofs.Upper.{upper-more, upper_all, upper_first}

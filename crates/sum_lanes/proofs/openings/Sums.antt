@@ -1,5 +1,5 @@
 -- A sum opened and closed is the rule's sum. Gives: `closed_two`, `closed_three`, for each formula; of divisors known by their cases; what was looked at has inverses.
-use mathlib.Core.Path.{◌≡◌, refl, sym, ap, ◌∙◌, subst}
+use mathlib.Core.Path.{◌≡◌, sym, ap, ◌∙◌, subst}
 use Rattle.algebra.proofs.Zmod.Zmod.{zmod}
 use Rattle.rules.specs.Curve.{f}
 use Rattle.rules.specs.Sum.{sum}

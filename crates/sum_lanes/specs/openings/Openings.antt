@@ -1,5 +1,5 @@
 -- A sum of two divisors opened: which two it was opened from, that what it divides by has an inverse, and what that is.
-use Rattle.std.specs.Prelude.{ℕ, ◌≡◌, ◌≢◌, ◌⊎◌}
+use Rattle.std.specs.Prelude.{◌≡◌, ◌≢◌, ◌⊎◌}
 use Rattle.algebra.proofs.Zmod.Zmod.{zmod}
 use Rattle.field.specs.declared.Modulus.{Modulus}
 use Rattle.field.specs.declared.Residue.{Residue}
@@ -7,7 +7,6 @@ use Rattle.field.specs.Residues.{el, Kept, HasInverse}
 use Rattle.divisor.specs.declared.Divisor.{Divisor}
 use Rattle.divisor.specs.declared.Divisor.TheVariants.{Neutral, One, Two, Three}
 use Rattle.divisor.specs.declared.Quadratic.{Quadratic}
-use Rattle.divisor.specs.declared.Cubic.{Cubic}
 use Rattle.sum_genus2.specs.declared.Opened.{Opened as Opened2}
 use Rattle.sum_genus2.specs.Sums.{Opens as Opens2}
 use Rattle.sum_genus3_open.specs.declared.Opened.{Opened as Opened3}
