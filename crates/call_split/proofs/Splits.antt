@@ -7,7 +7,7 @@ use lib.ListN.{length, take, drop, length-append, length-drop}
 use lib.Seq.{sets, sets-eq, take_at, drop_at, drop-drop, take_all, drop-length}
 use Rattle.rules.specs.Checks.{Checked, taken, go_on}
 use Rattle.rules.specs.Records.{PairOf, divisor_bytes}
-use Rattle.rules.specs.Split.{part_at, rest_at, split_root}
+use Rattle.rules.specs.Split.{split_root}
 use Rattle.rules.specs.Calls.{Result, deliver, write, split_result, split_call}
 use Rattle.rules.proofs.Calls.Refusals.{on_taken, on_refused}
 use Rattle.rules.proofs.Calls.SplitRoots.{NoSplit, split_at, split_none}

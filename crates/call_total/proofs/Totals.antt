@@ -1,22 +1,20 @@
 -- The total of a batch in code, in lanes: what the lanes and those that wait come to is what the k records before place a come to. Gives: the loop's start, a turn of
 -- it, the lanes shut one after the other, and what is answered at each return.
 use Prim.Native.Nat.{ℕ, ◌+◌, ◌*◌, ◌≤◌, ◌<◌}
-use mathlib.Core.Path.{◌≡◌, refl, sym, ap, ◌∙◌, subst}
-use mathlib.Core.List.{List, [], ◌∷◌}
+use mathlib.Core.Path.{◌≡◌, refl, sym, ap, ◌∙◌}
+use mathlib.Core.List.{List}
 use mathlib.Core.Bool.{false}
 use native.Mathlib.Omega.{arith}
 use lib.ListN.{get_or, length, set, replicate}
-use Rattle.algebra.proofs.Ring.CRing.{CRing, mul-one}
-use Rattle.algebra.proofs.Ring.Quote.{ring, quote, by}
+use Rattle.algebra.proofs.Ring.CRing.{CRing}
 use Rattle.algebra.proofs.Zmod.Zmod.{zmod}
 use Rattle.algebra.proofs.Zmod.PrimeField.{modulo}
 use Rattle.rules.specs.Pair.{Pair, neutral}
 use Rattle.rules.specs.Sum.{sum}
 use Rattle.rules.specs.Records.{Checked, taken, PairOf}
 use Rattle.rules.specs.Lists.{Batch}
-use Rattle.field.specs.declared.Modulus.{Modulus}
 use Rattle.field.specs.declared.Residue.{Residue}
-use Rattle.field.specs.Residues.{el, Good, Kept, HasInverse, Stands, Settles, Inverts}
+use Rattle.field.specs.Residues.{el, Kept, HasInverse, Stands, Settles, Inverts}
 use Rattle.field.proofs.Laws.{residue_field, settled_kept}
 use Rattle.field.proofs.Units.{product-unit}
 use Rattle.divisor.specs.declared.Divisor.{Divisor}

@@ -1,22 +1,22 @@
 -- What stands behind p in a curve record: refusals 6 and 7. The curve that is built is sound, and its record is the rule's.
-use Prim.Native.Nat.{ℕ, suc, ◌+◌, ◌-◌, ◌*◌, ◌≤◌, ◌<◌}
-use mathlib.Core.Path.{◌≡◌, refl, sym, ap, ap₂, ◌∙◌, subst}
-use mathlib.Core.List.{List, [], ◌∷◌, ◌++◌}
+use Prim.Native.Nat.{ℕ, suc, ◌+◌, ◌-◌, ◌*◌, ◌<◌}
+use mathlib.Core.Path.{◌≡◌, sym, ap, ap₂, ◌∙◌, subst}
+use mathlib.Core.List.{List, [], ◌∷◌}
 use mathlib.Core.Bool.{Bool, true, false}
 use native.Mathlib.Omega.{arith}
 use native.Mathlib.Decide.{ℕ_discrete}
-use lib.ListN.{get_or, length}
+use lib.ListN.{get_or}
 use Rattle.algebra.proofs.Zmod.Zmod.{zmod, emb}
 use Rattle.algebra.proofs.Poly.Derivative.{der_p}
 use Rattle.algebra.proofs.Poly.Common.{SharesNoFactor}
 use Rattle.rules.specs.Bytes.{word64, words}
 use Rattle.rules.specs.Curve.{SquareFree}
 use Rattle.rules.specs.Tests.{is_square_free}
-use Rattle.rules.specs.Records.{choose, both, refused, taken, CurveRecord, curve, is_below, elements, read_curve}
+use Rattle.rules.specs.Records.{choose, both, refused, taken, CurveRecord, curve, is_below, elements}
 use Rattle.rules.proofs.Demand3.{square_free_test}
 use Rattle.field.specs.declared.Modulus.{Modulus}
 use Rattle.field.specs.declared.Residue.{Residue}
-use Rattle.field.specs.Residues.{el, Settles}
+use Rattle.field.specs.Residues.{el}
 use Rattle.field.proofs.Decide.{otherwise}
 use Rattle.poly.specs.declared.Poly.{Poly}
 use Rattle.poly.specs.Polys.{K, pol}

@@ -1,5 +1,5 @@
 -- The first checks of a curve record: a law for each refusal, and what the rule comes to where they pass, in version 1 (`behind_plain`) and in version 2 (`behind_witness`).
-use Prim.Native.Nat.{ℕ, suc, ◌+◌, ◌*◌, ◌≤◌, ◌<◌}
+use Prim.Native.Nat.{ℕ, ◌+◌, ◌*◌, ◌≤◌, ◌<◌}
 use mathlib.Core.Path.{◌≡◌, refl, ap, ap₂, ◌∙◌}
 use mathlib.Core.List.{List}
 use mathlib.Core.Bool.{Bool, true, false}
@@ -9,7 +9,7 @@ use lib.Dec.{eqb, leb}
 use lib.ListN.{get_or, length}
 use Rattle.rules.specs.Bytes.{word64}
 use Rattle.rules.specs.Records.{Checked, refused, choose, both, is_marked, has_genus, has_version, version_of, base_of, count_of, primes_of, CurveRecord, is_odd_prime, is_odd_number, is_witnessed, read_curve}
-use Rattle.record_curve_head.specs.Heads.{Begun, Counted, Headed, HeadIs, low_rule}
+use Rattle.record_curve_head.specs.Heads.{Begun, Headed, HeadIs, low_rule}
 
 module _ (s : List ℕ) where
   abbrev g : ℕ

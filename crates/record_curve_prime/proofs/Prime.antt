@@ -12,7 +12,7 @@ use Rattle.algebra.proofs.Zmod.Prime.{Prime, test_by_prime}
 use Rattle.rules.specs.Bytes.{word64, words}
 use Rattle.rules.specs.Records.{refused, choose, both, is_below, is_odd_prime, is_odd_number, is_witnessed, has_version, version_of, base_of, count_of, primes_of, read_curve}
 use Rattle.rules.proofs.Calls.Tests.{both_true, true_both, either_true}
-use Rattle.rules.proofs.Calls.CurveRecords.{odd_prime, odd_number, OddTo, is_witness, IsWitness}
+use Rattle.rules.proofs.Calls.CurveRecords.{odd_prime, odd_number, is_witness}
 use Rattle.field.specs.declared.Modulus.{Modulus}
 use Rattle.field.specs.Constants.{Odd, OfNumber}
 use Rattle.field.specs.Primes.{limit, OddPrime}

@@ -1,6 +1,6 @@
 -- The call `repeat_call`, by what its parts answer: the curve, and the first repeat of the batch on it.
 use Prim.Native.Nat.{ℕ}
-use mathlib.Core.Path.{◌≡◌, refl, ap}
+use mathlib.Core.Path.{refl, ap}
 use mathlib.Core.List.{List, [], ◌∷◌, ◌++◌}
 use Rattle.rules.specs.Records.{CurveRecord}
 use Rattle.rules.specs.Checks.{Checked, taken, go_on}

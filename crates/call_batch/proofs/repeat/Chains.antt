@@ -2,7 +2,7 @@
 -- (`same_bucket`); what the arrays hold keeps so (`chained_begin`, `chained_turn`); a walk down the chain of the one at j leaves none behind that is the same (`walk_begin`,
 -- `walk_turn`); what it ends at is the first (`found_first`: before j no two are the same, so at most one is as j is).
 use Prim.Native.Nat.{ℕ, suc, ◌+◌, ◌≤◌, ◌<◌}
-use mathlib.Core.Path.{◌≡◌, refl, sym, ap, ◌∙◌, subst, subst₂}
+use mathlib.Core.Path.{◌≡◌, sym, ap, ◌∙◌, subst, subst₂}
 use mathlib.Core.Bool.{Bool, false}
 use mathlib.Core.List.{List}
 use native.Mathlib.Omega.{arith}
