@@ -1,5 +1,5 @@
-// The public calls, for C and for Rust. Each only flattens its call inside Rattle, under the same rule. None has a `requires`: any bytes may be
-// handed to it.
+// The public calls. Each only flattens its call inside Rattle, under the same rule. None has a `requires`: any bytes may be handed to it. Crate
+// `tablet_c` exports each to C under its name.
 #![tactic(auto)]
 
 ghost use Rattle.std.specs.Prelude.{◌≡◌};
@@ -14,75 +14,61 @@ use scan_flat::{YubiRunning, YubiScanned};
 use scan_total::Running;
 use tablet_answers::{YubiAnswer, YubiMultiple, YubiPole, YubiRepeat, YubiTotal};
 
-#[unsafe(no_mangle)]
-pub extern "C" fn yubi_check_curve(curve: &[u8]) -> YubiAnswer
+pub fn yubi_check_curve(curve: &[u8]) -> YubiAnswer
     ensures { result ≡ flat (check_curve curve.now) }
 {
     tablet_answers::flatten(call_answer::check_curve(curve))
 }
 
-#[unsafe(no_mangle)]
-pub extern "C" fn yubi_check_divisor(curve: &[u8], divisor: &[u8]) -> YubiAnswer
+pub fn yubi_check_divisor(curve: &[u8], divisor: &[u8]) -> YubiAnswer
     ensures { result ≡ flat (check_divisor curve.now divisor.now) }
 {
     tablet_answers::flatten(call_answer::check_divisor(curve, divisor))
 }
 
-#[unsafe(no_mangle)]
-pub extern "C" fn yubi_rewrite_curve(curve: &[u8], out: &mut [u8]) -> YubiAnswer
+pub fn yubi_rewrite_curve(curve: &[u8], out: &mut [u8]) -> YubiAnswer
     ensures answer { result ≡ flat (rewrite_curve curve.now out.old).answer }
     ensures output { out.new ≡ (rewrite_curve curve.now out.old).out }
 {
     tablet_answers::flatten(call_answer::rewrite_curve(curve, out))
 }
 
-#[unsafe(no_mangle)]
-pub extern "C" fn yubi_rewrite_divisor(curve: &[u8], divisor: &[u8], out: &mut [u8]) -> YubiAnswer
+pub fn yubi_rewrite_divisor(curve: &[u8], divisor: &[u8], out: &mut [u8]) -> YubiAnswer
     ensures answer { result ≡ flat (rewrite_divisor curve.now divisor.now out.old).answer }
     ensures output { out.new ≡ (rewrite_divisor curve.now divisor.now out.old).out }
 {
     tablet_answers::flatten(call_answer::rewrite_divisor(curve, divisor, out))
 }
 
-#[unsafe(no_mangle)]
-pub extern "C" fn yubi_add(curve: &[u8], a: &[u8], b: &[u8], out: &mut [u8]) -> YubiAnswer
+pub fn yubi_add(curve: &[u8], a: &[u8], b: &[u8], out: &mut [u8]) -> YubiAnswer
     ensures answer { result ≡ flat (add_call curve.now a.now b.now out.old).answer }
     ensures output { out.new ≡ (add_call curve.now a.now b.now out.old).out }
 {
     tablet_answers::flatten(call_sum::add(curve, a, b, out))
 }
 
-#[unsafe(no_mangle)]
-pub extern "C" fn yubi_double(curve: &[u8], a: &[u8], out: &mut [u8]) -> YubiAnswer
+pub fn yubi_double(curve: &[u8], a: &[u8], out: &mut [u8]) -> YubiAnswer
     ensures answer { result ≡ flat (double_call curve.now a.now out.old).answer }
     ensures output { out.new ≡ (double_call curve.now a.now out.old).out }
 {
     tablet_answers::flatten(call_sum::double(curve, a, out))
 }
 
-#[unsafe(no_mangle)]
-pub extern "C" fn yubi_opposite(curve: &[u8], a: &[u8], out: &mut [u8]) -> YubiAnswer
+pub fn yubi_opposite(curve: &[u8], a: &[u8], out: &mut [u8]) -> YubiAnswer
     ensures answer { result ≡ flat (opposite_call curve.now a.now out.old).answer }
     ensures output { out.new ≡ (opposite_call curve.now a.now out.old).out }
 {
     tablet_answers::flatten(call_sum::opposite(curve, a, out))
 }
 
-#[unsafe(no_mangle)]
-pub extern "C" fn yubi_split(curve: &[u8], divisor: &[u8], out: &mut [u8]) -> YubiAnswer
+pub fn yubi_split(curve: &[u8], divisor: &[u8], out: &mut [u8]) -> YubiAnswer
     ensures answer { result ≡ flat (split_call curve.now divisor.now out.old).answer }
     ensures output { out.new ≡ (split_call curve.now divisor.now out.old).out }
 {
     tablet_answers::flatten(call_split::split(curve, divisor, out))
 }
 
-#[unsafe(no_mangle)]
-pub extern "C" fn yubi_multiply(
-    curve: &[u8],
-    a: &[u8],
-    scalar: &[u8],
-    out: &mut [u8],
-) -> YubiMultiple
+pub fn yubi_multiply(curve: &[u8], a: &[u8], scalar: &[u8], out: &mut [u8]) -> YubiMultiple
     ensures answer { result ≡ flat_multiple (multiply_call curve.now a.now scalar.now out.old) }
     ensures output { out.new ≡ (multiply_call curve.now a.now scalar.now out.old).out }
 {
@@ -90,8 +76,7 @@ pub extern "C" fn yubi_multiply(
 }
 
 // The same words, kept by the second engine.
-#[unsafe(no_mangle)]
-pub extern "C" fn yubi_multiply_inversion_free(
+pub fn yubi_multiply_inversion_free(
     curve: &[u8],
     a: &[u8],
     scalar: &[u8],
@@ -104,50 +89,39 @@ pub extern "C" fn yubi_multiply_inversion_free(
 }
 
 // W-214: nothing is written.
-#[unsafe(no_mangle)]
-pub extern "C" fn yubi_check_order(
-    curve: &[u8],
-    divisor: &[u8],
-    order: &[u8],
-    primes: &[u8],
-) -> YubiAnswer
+pub fn yubi_check_order(curve: &[u8], divisor: &[u8], order: &[u8], primes: &[u8]) -> YubiAnswer
     ensures { result ≡ flat (check_order curve.now divisor.now order.now primes.now) }
 {
     tablet_answers::flatten(call_multiply::order::check_order(curve, divisor, order, primes))
 }
 
-#[unsafe(no_mangle)]
-pub extern "C" fn yubi_next_divisor(curve: &[u8], divisor: &[u8], out: &mut [u8]) -> YubiAnswer
+pub fn yubi_next_divisor(curve: &[u8], divisor: &[u8], out: &mut [u8]) -> YubiAnswer
     ensures answer { result ≡ flat (next_call curve.now divisor.now out.old).answer }
     ensures output { out.new ≡ (next_call curve.now divisor.now out.old).out }
 {
     tablet_answers::flatten(call_census::next_divisor(curve, divisor, out))
 }
 
-#[unsafe(no_mangle)]
-pub extern "C" fn yubi_total_batch(curve: &[u8], batch: &[u8], out: &mut [u8]) -> YubiTotal
+pub fn yubi_total_batch(curve: &[u8], batch: &[u8], out: &mut [u8]) -> YubiTotal
     ensures answer { result ≡ flat_total (total_call curve.now batch.now out.old) }
     ensures output { out.new ≡ (total_call curve.now batch.now out.old).out }
 {
     tablet_answers::flatten_total(call_total::total_batch(curve, batch, out))
 }
 
-#[unsafe(no_mangle)]
-pub extern "C" fn yubi_first_repeat(curve: &[u8], batch: &[u8]) -> YubiRepeat
+pub fn yubi_first_repeat(curve: &[u8], batch: &[u8]) -> YubiRepeat
     ensures { result ≡ flat_repeat (repeat_call curve.now batch.now) }
 {
     tablet_answers::flatten_repeat(call_batch::repeat::first_repeat(curve, batch))
 }
 
-#[unsafe(no_mangle)]
-pub extern "C" fn yubi_fresh_total(pole: u32) -> YubiRunning
+pub fn yubi_fresh_total(pole: u32) -> YubiRunning
     ensures { result ≡ flat_running (fresh pole) }
 {
     scan_flat::flatten_running(Running::fresh(pole))
 }
 
-#[unsafe(no_mangle)]
-pub extern "C" fn yubi_scan(total: YubiRunning, curve: &[u8], record: &[u8]) -> YubiScanned
+pub fn yubi_scan(total: YubiRunning, curve: &[u8], record: &[u8]) -> YubiScanned
     ensures { FlatScanIs total curve.now «record».now result }
 {
     scan_record::flat::scan(total, curve, record)
@@ -177,8 +151,7 @@ fn lent_by_value(total: YubiRunning, curve: &[u8], record: &[u8]) -> LentStep
 }
 
 // The total is lent, and changed in place.
-#[unsafe(no_mangle)]
-pub extern "C" fn yubi_scan_lent(total: &mut YubiRunning, curve: &[u8], record: &[u8]) -> YubiAnswer
+pub fn yubi_scan_lent(total: &mut YubiRunning, curve: &[u8], record: &[u8]) -> YubiAnswer
     ensures { FlatScanIs total.old curve.now «record».now (scanned_as result.number result.place result.length total.new) }
 {
     let s = lent_by_value(*total, curve, record);
@@ -187,21 +160,14 @@ pub extern "C" fn yubi_scan_lent(total: &mut YubiRunning, curve: &[u8], record: 
 }
 
 // The pole file: a floor above the other calls, by their promises alone (call_pole).
-#[unsafe(no_mangle)]
-pub extern "C" fn yubi_write_pole_file(
-    pole: u32,
-    curve: &[u8],
-    batch: &[u8],
-    out: &mut [u8],
-) -> YubiAnswer
+pub fn yubi_write_pole_file(pole: u32, curve: &[u8], batch: &[u8], out: &mut [u8]) -> YubiAnswer
     ensures answer { result ≡ flat (write_file pole curve.now batch.now out.old).answer }
     ensures output { out.new ≡ (write_file pole curve.now batch.now out.old).out }
 {
     tablet_answers::flatten(call_pole::write_pole_file(pole, curve, batch, out))
 }
 
-#[unsafe(no_mangle)]
-pub extern "C" fn yubi_read_pole_file(file: &[u8], out: &mut [u8]) -> YubiPole
+pub fn yubi_read_pole_file(file: &[u8], out: &mut [u8]) -> YubiPole
     ensures answer { result ≡ flat_pole (read_file file.now out.old) }
     ensures output { out.new ≡ (read_file file.now out.old).out }
 {

@@ -2,21 +2,12 @@
 // the arguments and the expected text are made by tools/make/scenarios.py.
 #![tactic(auto)]
 
-use libc::STDOUT_FILENO;
+use std::{env, io};
 
-fn show(i: usize) {
-    let mut curve = io::buffer();
-    let c = os::arg(i, &mut curve);
-    io::write_all(STDOUT_FILENO, &curve[..c]);
-    io::write_all(STDOUT_FILENO, b"\n");
-    text_files::print_census(&curve[..c]);
-}
-
-fn main() {
-    let end = os::arg_count();
-    let mut k: usize = 1;
-    while k < end {
-        show(k);
-        k += 1;
+fn main(rt: HostRuntime) -> io::Result<()> {
+    for path in env::args(&rt)?.skip(1) {
+        println!(rt; "{path}")?;
+        text_files::print_census(&rt, path.as_str())?;
     }
+    Ok(())
 }

@@ -3,14 +3,13 @@
 // A number is 4 bytes, the highest first. A pair is p, then each polynomial: its length, its coefficients.
 #![tactic(auto)]
 
-ghost use Rattle.std.specs.Prelude.{◌+◌, ◌<◌, ◌≤◌};
+ghost use Rattle.std.specs.Prelude.{◌+◌, ◌<◌, ◌≤◌, IfOk};
 ghost use Rattle.field.specs.Residues.{Good};
 ghost use Rattle.poly.specs.Polys.{Ok};
 
 use field::{Modulus, ModulusRead};
 use poly::Poly;
-
-const OUT: i32 = 1;
+use std::io;
 
 // The longest text that is read.
 const MOST: usize = 65536;
@@ -42,142 +41,136 @@ fn read_poly(s: &[u8], at: usize, m: Modulus) -> Poly
 {
     let n = length(s, at);
     let mut r = Poly::zero(m);
-    let mut k: usize = 0;
-    while k < n {
+    for k in 0..n {
         let x = test_text::numbers::residue(number(s, at + 4 * (k + 1)), m);
         r = r.put(k, x, m);
-        k += 1;
     }
     r
 }
 
-fn item(n: u64) {
-    io::write_all(OUT, b" ");
-    io::print_decimal(OUT, n);
+fn item(rt: &impl Print, n: u64) -> io::Result<()> {
+    print!(rt; " {n}")
 }
 
-fn print_at(x: Poly, k: usize, m: Modulus)
+fn print_at(rt: &impl Print, x: Poly, k: usize, m: Modulus) -> io::Result<()>
     requires { Ok m x }
 {
-    item(x.get(k).settle(m).number(m));
+    item(rt, x.get(k).settle(m).number(m))
 }
 
-fn show(name: &[u8], x: Poly, m: Modulus)
+fn show(rt: &impl Print, name: &str, x: Poly, m: Modulus) -> io::Result<()>
     requires { Ok m x }
 {
-    io::write_all(OUT, name);
-    let n = x.n;
-    let mut k: usize = 0;
-    while k < n {
-        print_at(x, k, m);
-        k += 1;
+    print!(rt; "{name}")?;
+    for k in 0..x.n {
+        print_at(rt, x, k, m)?;
     }
-    io::write_all(OUT, b"\n");
+    println!(rt;)
 }
 
-fn sums(a: Poly, b: Poly, m: Modulus)
+fn sums(rt: &impl Print, a: Poly, b: Poly, m: Modulus) -> io::Result<()>
     requires { Ok m a × Ok m b }
 {
-    show(b"sum", a.add(b, m), m);
-    show(b"difference", a.sub(b, m), m);
-    show(b"opposite", a.neg(m), m);
+    show(rt, "sum", a.add(b, m), m)?;
+    show(rt, "difference", a.sub(b, m), m)?;
+    show(rt, "opposite", a.neg(m), m)
 }
 
 // Where the product fits.
-fn product(a: Poly, b: Poly, m: Modulus)
+fn product(rt: &impl Print, a: Poly, b: Poly, m: Modulus) -> io::Result<()>
     requires { Ok m a × Ok m b }
 {
     let i = a.n;
     let j = b.n;
     if i + j <= 12 {
-        show(b"product", a.mul(b, m), m);
+        show(rt, "product", a.mul(b, m), m)
     } else {
-        io::write_all(OUT, b"product none\n");
+        println!(rt; "product none")
     }
 }
 
 // By b made monic.
-fn division(a: Poly, b: Poly, m: Modulus)
+fn division(rt: &impl Print, a: Poly, b: Poly, m: Modulus) -> io::Result<()>
     requires { Ok m a × Ok m b }
 {
     if b.n == 0 {
-        io::write_all(OUT, b"quotient none\n");
-        return;
+        return println!(rt; "quotient none");
     }
     let d = a.div_rem(b.monic(m), m);
-    show(b"quotient", d.quotient, m);
-    show(b"remainder", d.remainder, m);
+    show(rt, "quotient", d.quotient, m)?;
+    show(rt, "remainder", d.remainder, m)
 }
 
-fn gcds(a: Poly, b: Poly, m: Modulus)
+fn gcds(rt: &impl Print, a: Poly, b: Poly, m: Modulus) -> io::Result<()>
     requires { Ok m a × Ok m b }
 {
-    show(b"gcd", poly_euclid::gcd(a, b, m), m);
+    show(rt, "gcd", poly_euclid::gcd(a, b, m), m)?;
     let x = poly_euclid::xgcd(a, b, m);
-    show(b"again", x.r, m);
-    show(b"s", x.s, m);
-    show(b"t", x.t, m);
+    show(rt, "again", x.r, m)?;
+    show(rt, "s", x.s, m)?;
+    show(rt, "t", x.t, m)
 }
 
-fn alone(a: Poly, m: Modulus)
+fn alone(rt: &impl Print, a: Poly, m: Modulus) -> io::Result<()>
     requires { Ok m a }
 {
-    show(b"derivative", a.derivative(m), m);
+    show(rt, "derivative", a.derivative(m), m)?;
     if poly_euclid::is_square_free(a, m) {
-        io::write_all(OUT, b"square-free\n");
+        println!(rt; "square-free")
     } else {
-        io::write_all(OUT, b"repeated factor\n");
+        println!(rt; "repeated factor")
     }
 }
 
-fn pair(a: Poly, b: Poly, m: Modulus)
+fn pair(rt: &impl Print, a: Poly, b: Poly, m: Modulus) -> io::Result<()>
     requires { Ok m a × Ok m b }
 {
-    show(b"a", a, m);
-    show(b"b", b, m);
-    sums(a, b, m);
-    product(a, b, m);
-    division(a, b, m);
-    gcds(a, b, m);
-    alone(a, m);
+    show(rt, "a", a, m)?;
+    show(rt, "b", b, m)?;
+    sums(rt, a, b, m)?;
+    product(rt, a, b, m)?;
+    division(rt, a, b, m)?;
+    gcds(rt, a, b, m)?;
+    alone(rt, a, m)
 }
 
-fn modulo(s: &[u8], at: usize, next: usize, m: Modulus)
+fn modulo(rt: &impl Print, s: &[u8], at: usize, next: usize, m: Modulus) -> io::Result<()>
     requires { Good m × (at ≤ 100000) × (next ≤ 100000) }
 {
-    io::write_all(OUT, b"p");
-    item(m.number());
-    io::write_all(OUT, b"\n");
-    pair(read_poly(s, at, m), read_poly(s, next, m), m);
+    print!(rt; "p")?;
+    item(rt, m.number())?;
+    println!(rt;)?;
+    pair(rt, read_poly(s, at, m), read_poly(s, next, m), m)
 }
 
 // One pair, and where the next one stands.
-fn case(s: &[u8], at: usize) -> usize
+fn case(rt: &impl Print, s: &[u8], at: usize) -> io::Result<usize>
     requires { at < 65536 }
-    ensures { (at < result) × (result ≤ at + 92) }
+    ensures { IfOk result (λ next. (at < next) × (next ≤ at + 92)) }
 {
     let first = at + 4;
     let second = first + 4 * (length(s, first) + 1);
     match Modulus::read(number(s, at)) {
-        ModulusRead::Modulo(m) => modulo(s, first, second, m),
+        ModulusRead::Modulo(m) => modulo(rt, s, first, second, m)?,
         ModulusRead::NoPrime => {}
     }
-    second + 4 * (length(s, second) + 1)
+    Ok(second + 4 * (length(s, second) + 1))
 }
 
-fn run(s: &[u8]) {
+fn run(rt: &impl Print, s: &[u8]) -> io::Result<()> {
     let end = s.len();
     if MOST < end {
-        return;
+        return Ok(());
     }
     let mut at: usize = 0;
     while at < end {
-        at = case(s, at);
+        at = case(rt, s, at)?;
     }
+    Ok(())
 }
 
-fn main() {
-    let mut text = io::large_buffer();
-    let n = io::read_full(0, &mut text);
-    run(&text[..n]);
+fn main(rt: HostRuntime) -> io::Result<()> {
+    let mut text = [0u8; MOST];
+    let n = test_text::input::read(&mut rt.stdin(), &mut text)?;
+    run(&rt, &text[..n])
 }

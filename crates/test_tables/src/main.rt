@@ -5,10 +5,9 @@
 ghost use Rattle.field.specs.Residues.{Good, Kept, Settled};
 
 use field::{Modulus, ModulusRead, Residue, ResidueRead};
+use std::io;
 
 mod edges;
-
-const OUT: i32 = 1;
 
 const PRIMES: [u64; 6] = [3, 5, 7, 11, 65537, 2147483647];
 
@@ -48,14 +47,12 @@ const TRIED: [u64; 32] = [
     18446744073709551557,
 ];
 
-fn item(n: u64) {
-    io::print_decimal(OUT, n);
-    io::write_all(OUT, b" ");
+fn item(rt: &impl Print, n: u64) -> io::Result<()> {
+    print!(rt; "{n} ")
 }
 
-fn line(n: u64) {
-    io::print_decimal(OUT, n);
-    io::write_all(OUT, b"\n");
+fn line(rt: &impl Print, n: u64) -> io::Result<()> {
+    println!(rt; "{n}")
 }
 
 // Small numbers, the middle, the end, and a few between.
@@ -76,91 +73,87 @@ fn sample(p: u64, k: usize) -> u64 {
     n % p
 }
 
-fn print_inverse(a: Residue, m: Modulus)
+fn print_inverse(rt: &impl Print, a: Residue, m: Modulus) -> io::Result<()>
     requires { Good m × Settled m a }
 {
     if a.is_zero(m) {
-        io::write_all(OUT, b"none\n");
+        println!(rt; "none")
     } else {
-        line(a.inverse(m).settle(m).number(m));
+        line(rt, a.inverse(m).settle(m).number(m))
     }
 }
 
-fn print_kept(r: Residue, m: Modulus)
+fn print_kept(rt: &impl Print, r: Residue, m: Modulus) -> io::Result<()>
     requires { Kept m r }
 {
-    item(r.settle(m).number(m));
+    item(rt, r.settle(m).number(m))
 }
 
-fn print_pair(a: Residue, b: Residue, m: Modulus)
+fn print_pair(rt: &impl Print, a: Residue, b: Residue, m: Modulus) -> io::Result<()>
     requires { Good m × Settled m a × Settled m b }
 {
-    item(m.number());
-    item(a.number(m));
-    item(b.number(m));
-    print_kept(a.add(b, m), m);
-    print_kept(a.sub(b, m), m);
-    print_kept(a.mul(b, m), m);
-    print_kept(a.neg(m), m);
-    print_inverse(a, m);
+    item(rt, m.number())?;
+    item(rt, a.number(m))?;
+    item(rt, b.number(m))?;
+    print_kept(rt, a.add(b, m), m)?;
+    print_kept(rt, a.sub(b, m), m)?;
+    print_kept(rt, a.mul(b, m), m)?;
+    print_kept(rt, a.neg(m), m)?;
+    print_inverse(rt, a, m)
 }
 
-fn try_second(x: Residue, b: u64, m: Modulus)
+fn try_second(rt: &impl Print, x: Residue, b: u64, m: Modulus) -> io::Result<()>
     requires { Good m × Settled m x }
 {
     match Residue::read(b, m) {
-        ResidueRead::Below(y) => print_pair(x, y, m),
-        ResidueRead::TooLarge => {}
+        ResidueRead::Below(y) => print_pair(rt, x, y, m),
+        ResidueRead::TooLarge => Ok(()),
     }
 }
 
-fn try_first(a: u64, b: u64, m: Modulus)
+fn try_first(rt: &impl Print, a: u64, b: u64, m: Modulus) -> io::Result<()>
     requires { Good m }
 {
     match Residue::read(a, m) {
-        ResidueRead::Below(x) => try_second(x, b, m),
-        ResidueRead::TooLarge => {}
+        ResidueRead::Below(x) => try_second(rt, x, b, m),
+        ResidueRead::TooLarge => Ok(()),
     }
 }
 
-fn try_pair(p: u64, a: u64, b: u64) {
+fn try_pair(rt: &impl Print, p: u64, a: u64, b: u64) -> io::Result<()> {
     match Modulus::read(p) {
-        ModulusRead::Modulo(m) => try_first(a, b, m),
-        ModulusRead::NoPrime => {}
+        ModulusRead::Modulo(m) => try_first(rt, a, b, m),
+        ModulusRead::NoPrime => Ok(()),
     }
 }
 
-fn try_prime(p: u64) {
-    let mut k: usize = 0;
-    while k < 64 {
-        try_pair(p, sample(p, k / 8), sample(p, k % 8));
-        k += 1;
+fn try_prime(rt: &impl Print, p: u64) -> io::Result<()> {
+    for k in 0..64 {
+        try_pair(rt, p, sample(p, k / 8), sample(p, k % 8))?;
     }
+    Ok(())
 }
 
-fn try_number(n: u64) {
-    item(n);
+fn try_number(rt: &impl Print, n: u64) -> io::Result<()> {
+    item(rt, n)?;
     if field_primes::is_odd_prime(n) {
-        io::write_all(OUT, b"prime\n");
+        println!(rt; "prime")
     } else {
-        io::write_all(OUT, b"refused\n");
+        println!(rt; "refused")
     }
 }
 
-fn print_primes() {
-    let mut k: usize = 0;
-    while k < 32 {
-        try_number(TRIED[k]);
-        k += 1;
+fn print_primes(rt: &impl Print) -> io::Result<()> {
+    for n in TRIED {
+        try_number(rt, n)?;
     }
+    Ok(())
 }
 
-fn main() {
-    let mut k: usize = 0;
-    while k < 6 {
-        try_prime(PRIMES[k]);
-        k += 1;
+fn main(rt: HostRuntime) -> io::Result<()> {
+    for p in PRIMES {
+        try_prime(&rt, p)?;
     }
-    print_primes();
-    edges::print_edges();
+    print_primes(&rt)?;
+    edges::print_edges(&rt)
 }

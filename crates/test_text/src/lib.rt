@@ -5,6 +5,7 @@
 ghost use Rattle.std.specs.Prelude.{◌<◌};
 
 pub mod frames;
+pub mod input;
 pub mod numbers;
 
 fn put(text: &mut [u8], at: usize, b: u8) -> usize {

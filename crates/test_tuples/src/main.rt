@@ -11,8 +11,7 @@ ghost use Rattle.multiple_tuple.specs.Tuples.{KeptTuple};
 use divisor::{Divisor, Quadratic};
 use field::{Modulus, ModulusRead, Residue};
 use multiple_tuple::Tuple;
-
-const OUT: i32 = 1;
+use std::io;
 
 // The longest text that is read.
 const MOST: usize = 65536;
@@ -45,91 +44,90 @@ fn tuple(s: &[u8], k: usize, m: Modulus) -> Tuple
     }
 }
 
-fn item(x: Residue, m: Modulus)
+fn item(rt: &impl Print, x: Residue, m: Modulus) -> io::Result<()>
     requires { Settled m x }
 {
-    io::write_all(OUT, b" ");
-    io::print_decimal(OUT, x.number(m));
+    let n = x.number(m);
+    print!(rt; " {n}")
 }
 
-fn print_plain(q: Quadratic, m: Modulus)
+fn print_plain(rt: &impl Print, q: Quadratic, m: Modulus) -> io::Result<()>
     requires { Held m (Divisor.Two q) }
 {
-    item(q.u1, m);
-    item(q.u0, m);
-    item(q.v1, m);
-    item(q.v0, m);
-    io::write_all(OUT, b"\n");
+    item(rt, q.u1, m)?;
+    item(rt, q.u0, m)?;
+    item(rt, q.v1, m)?;
+    item(rt, q.v0, m)?;
+    println!(rt;)
 }
 
-fn show(name: &[u8], t: Tuple, m: Modulus)
+fn show(rt: &impl Print, name: &str, t: Tuple, m: Modulus) -> io::Result<()>
     requires { KeptTuple m t × Settled m t.z }
 {
-    io::write_all(OUT, name);
+    print!(rt; "{name}")?;
     let z = t.z;
     if z.is_zero(m) {
-        io::write_all(OUT, b" special\n");
-        return;
+        return println!(rt; " special");
     }
-    print_plain(multiple_tuple::back(t, m), m);
+    print_plain(rt, multiple_tuple::back(t, m), m)
 }
 
 // The second one made plain.
-fn mixed(a: Tuple, b: Tuple, f4: Residue, m: Modulus)
+fn mixed(rt: &impl Print, a: Tuple, b: Tuple, f4: Residue, m: Modulus) -> io::Result<()>
     requires { KeptTuple m a × KeptTuple m b × Settled m b.z × Kept m f4 }
 {
     let z = b.z;
     if z.is_zero(m) {
-        io::write_all(OUT, b"mixed none\n");
-        return;
+        return println!(rt; "mixed none");
     }
     let q = multiple_tuple::back(b, m);
-    show(b"mixed", multiple_tuple::mixed(a, q, f4, m), m);
+    show(rt, "mixed", multiple_tuple::mixed(a, q, f4, m), m)
 }
 
-fn double(s: &[u8], a: Tuple, f4: Residue, m: Modulus)
+fn double(rt: &impl Print, s: &[u8], a: Tuple, f4: Residue, m: Modulus) -> io::Result<()>
     requires { Good m × (length s.now ≡ 56) × KeptTuple m a × Kept m f4 }
 {
     let f2 = number(s, 1, m);
     let f3 = number(s, 2, m);
-    show(b"double", multiple_tuple::double(a, f2, f3, f4, m), m);
+    show(rt, "double", multiple_tuple::double(a, f2, f3, f4, m), m)
 }
 
-fn row(s: &[u8], m: Modulus)
+fn row(rt: &impl Print, s: &[u8], m: Modulus) -> io::Result<()>
     requires { Good m × (length s.now ≡ 56) }
 {
     let f4 = number(s, 3, m);
     let a = tuple(s, 4, m);
     let b = tuple(s, 9, m);
-    show(b"sum", multiple_tuple::add(a, b, f4, m), m);
-    mixed(a, b, f4, m);
-    double(s, a, f4, m);
+    show(rt, "sum", multiple_tuple::add(a, b, f4, m), m)?;
+    mixed(rt, a, b, f4, m)?;
+    double(rt, s, a, f4, m)
 }
 
-fn case(s: &[u8])
+fn case(rt: &impl Print, s: &[u8]) -> io::Result<()>
     requires { length s.now ≡ 56 }
 {
     match Modulus::read(record_bytes::read32(s, 0)) {
-        ModulusRead::Modulo(m) => row(s, m),
-        ModulusRead::NoPrime => {}
+        ModulusRead::Modulo(m) => row(rt, s, m),
+        ModulusRead::NoPrime => Ok(()),
     }
 }
 
-fn run(s: &[u8]) {
+fn run(rt: &impl Print, s: &[u8]) -> io::Result<()> {
     let end = s.len();
     if MOST < end {
-        return;
+        return Ok(());
     }
     let mut at: usize = 0;
     while at + ROW <= end {
         let next = at + ROW;
-        case(&s[at..next]);
+        case(rt, &s[at..next])?;
         at = next;
     }
+    Ok(())
 }
 
-fn main() {
-    let mut text = io::large_buffer();
-    let n = io::read_full(0, &mut text);
-    run(&text[..n]);
+fn main(rt: HostRuntime) -> io::Result<()> {
+    let mut text = [0u8; MOST];
+    let n = test_text::input::read(&mut rt.stdin(), &mut text)?;
+    run(&rt, &text[..n])
 }

@@ -6,7 +6,8 @@
 ghost use Rattle.std.specs.Prelude.{◌≡◌, ◌≤◌, length, take};
 ghost use Rattle.test_text.specs.frames.Frames.{InOrder};
 
-use libc::STDOUT_FILENO;
+use std::rt::Files;
+use std::{fs, io};
 use test_text::frames::Frame;
 
 // What each byte of an output holds before a call, and the longest output.
@@ -27,6 +28,9 @@ const SCAN_INSIDE: u8 = 14;
 
 // More than the length of such a line.
 const MOST_LINE: usize = 512;
+
+// The most bytes of a file, and of its lines.
+const MOST_BYTES: usize = 65536;
 
 // The line of the frame at the front of s by a call, put at the front of the text; answers its length, 0 where there is no such call.
 fn line_by(operation: u8, s: &[u8], f: Frame, text: &mut [u8]) -> usize
@@ -58,7 +62,7 @@ fn agrees(operation: u8, s: &[u8], f: Frame, wanted: &[u8]) -> bool
     if MOST_LINE < n {
         return false;
     }
-    check::same(wanted, &again[..n])
+    wanted == &again[..n]
 }
 
 // The same by the frame's own call, 0 where the frame is malformed, or where another call that it is run through has another line.
@@ -118,23 +122,24 @@ fn lines(s: &[u8], text: &mut [u8]) -> usize
 }
 
 // A file that isn't there has no lines.
-fn print_file(path: &[u8]) {
-    let mut data = io::large_buffer();
-    let mut text = io::large_buffer();
-    let fd = os::open_read(path);
-    let n = io::read_full(fd, &mut data);
-    libc::close(fd);
+fn print_file(rt: &(impl Files + Print), path: &str) -> io::Result<()> {
+    let mut data = [0u8; MOST_BYTES];
+    let mut text = [0u8; MOST_BYTES];
+    let Ok(mut file) = fs::open(rt, path) else {
+        return Ok(());
+    };
+    let n = test_text::input::read(&mut file, &mut data)?;
     let k = lines(&data[..n], &mut text);
-    io::write_all(STDOUT_FILENO, &text[..k]);
+    rt.write_all(&text[..k])
 }
 
-fn main() {
-    let mut k: u8 = 0;
-    while k < 26 {
-        let part = [b'v', b'e', b'c', b't', b'o', b'r', b's', b'.', b'a' + k];
-        print_file(&part);
-        k += 1;
+fn main(rt: HostRuntime) -> io::Result<()> {
+    for letter in b'a'..=b'z' {
+        let part = [b'v', b'e', b'c', b't', b'o', b'r', b's', b'.', letter];
+        if let Ok(path) = str::from_utf8(&part) {
+            print_file(&rt, path)?;
+        }
     }
-    print_file(b"corners.a");
-    print_file(b"corners.b");
+    print_file(&rt, "corners.a")?;
+    print_file(&rt, "corners.b")
 }

@@ -1,4 +1,4 @@
-// Files by name, for the programs: the one library here that calls the system. No contract can say what a file holds or what is written; what
+// Files by name, for the programs: the one library here that reads files and prints. No contract can say what a file holds or what is written; what
 // is promised is that the bytes counted lie inside the buffer.
 #![tactic(auto)]
 
@@ -11,21 +11,21 @@ use curve::Curve;
 use divisor::Divisor;
 use divisor_census::Next;
 use field::Modulus;
-use libc::STDOUT_FILENO;
+use std::io::Read;
+use std::rt::Files;
+use std::{fs, io};
 use text_tally::FileRead;
 use text_tally::census::Opened;
 
 // Reads on until the end, a failed read or a full buffer. A read that fails, as of a directory, isn't the end of a file.
-fn read_open(fd: i32, buf: &mut [u8]) -> FileRead
+fn read_open(file: &mut impl Read, buf: &mut [u8]) -> FileRead
     ensures { Within result (length buf.old) }
 {
     let mut n: usize = 0;
     while n < buf.len() {
-        let got = libc::read(fd, &mut buf[n..]);
-        if got < 0 {
+        let Ok(more) = file.read(&mut buf[n..]) else {
             return FileRead::Unreadable;
-        }
-        let more = io::count(got, &buf[n..]);
+        };
         if more == 0 {
             return FileRead::Holds(n);
         }
@@ -35,68 +35,59 @@ fn read_open(fd: i32, buf: &mut [u8]) -> FileRead
 }
 
 // The file's bytes at the front of the buffer, as many as it has room for.
-pub fn read(path: &[u8], buf: &mut [u8]) -> FileRead
+pub fn read(rt: &impl Files, path: &str, buf: &mut [u8]) -> FileRead
     ensures { Within result (length buf.old) }
 {
-    let fd = os::open_read(path);
-    if fd < 0 {
-        return FileRead::Unreadable;
+    match fs::open(rt, path) {
+        Ok(mut file) => read_open(&mut file, buf),
+        Err(_) => FileRead::Unreadable,
     }
-    let r = read_open(fd, buf);
-    libc::close(fd);
-    r
 }
 
 // Writes to standard output what crate `text_tally` makes of the two files, and nothing else. The buffers have room for one byte more than a file
 // may have, so that a file that is too long shows.
-pub fn print(curve: &[u8], batch: &[u8]) {
+pub fn print(rt: &(impl Files + Print), curve: &str, batch: &str) -> io::Result<()> {
     let mut s = [0u8; 65537];
     let mut t = [0u8; 65537];
-    let c = read(curve, &mut s);
-    let b = read(batch, &mut t);
+    let c = read(rt, curve, &mut s);
+    let b = read(rt, batch, &mut t);
     let mut out = [0u8; 256];
     let n = text_tally::tally_files(c, &s, b, &t, &mut out);
-    io::write_all(STDOUT_FILENO, &out[..n]);
+    rt.write_all(&out[..n])
 }
 
 // Writes a divisor's line to standard output.
-fn print_record(d: Divisor, m: Modulus)
+fn print_record(rt: &impl Print, d: Divisor, m: Modulus) -> io::Result<()>
     requires { Held m d }
 {
     let mut out = [0u8; 256];
     let n = text_lines::record(d, m, &mut out);
-    io::write_all(STDOUT_FILENO, &out[..n]);
+    rt.write_all(&out[..n])
 }
 
 // The lines of a training curve, from the neutral divisor on, next after next.
-fn print_lines(c: Curve)
+fn print_lines(rt: &impl Print, c: Curve) -> io::Result<()>
     requires { Sound c }
 {
     let mut d = Divisor::neutral();
     loop {
-        print_record(d, c.m);
+        print_record(rt, d, c.m)?;
         match divisor_census::next_valid(c, d) {
             Next::Found(y) => {
                 d = y;
             }
-            Next::Last => {
-                return;
-            }
+            Next::Last => return Ok(()),
         }
     }
 }
 
 // Writes to standard output the census of the training curve in a file, or the line of what refuses it, and nothing else.
-pub fn print_census(curve: &[u8]) {
+pub fn print_census(rt: &(impl Files + Print), curve: &str) -> io::Result<()> {
     let mut s = [0u8; 65537];
-    let f = read(curve, &mut s);
+    let f = read(rt, curve, &mut s);
     let mut out = [0u8; 256];
     match text_tally::census::open(f, &s, &mut out) {
-        Opened::Training(c) => {
-            print_lines(c);
-        }
-        Opened::Refused(n) => {
-            io::write_all(STDOUT_FILENO, &out[..n]);
-        }
+        Opened::Training(c) => print_lines(rt, c),
+        Opened::Refused(n) => rt.write_all(&out[..n]),
     }
 }
