@@ -61,7 +61,7 @@ kind != "module" { next }
 
 /^target datalayout/ { $0 = arm["datalayout"]; changed["layout"]++ }
 /^target triple/ { $0 = arm["triple"]; changed["triple"]++ }
-/^attributes / && / "target-cpu"="x86-64"/ { sub(/ "target-cpu"="x86-64"/, ""); changed["cpu"]++ }
+/^attributes / && / "target-cpu"="x86-64-v2"/ { sub(/ "target-cpu"="x86-64-v2"/, ""); changed["cpu"]++ }
 /^define / && !/^define internal / {
     name = name_in($0)
     if (!(("arm", name) in header)) { give_up("the header has no call " name) }

@@ -26,13 +26,12 @@ check() {
 all() {
     check 'the pages and the tree' python3 tools/check/docs.py
     check 'a lie in a page is seen' python3 tools/check/lies.py
-    # Where a library is there: that of YUBI_LIB_DIR, or the one that `rt staticlib tablet` wrote.
+    # Where a library is there: that of YUBI_LIB_DIR, or the one that tools/library.sh wrote.
     if [ -f "${YUBI_LIB_DIR:-target/staticlib}/libtablet.a" ]; then
         check 'the lines of C in README.md' bash tools/check/readme.sh
     else
         printf 'left    the lines of C in README.md: no libtablet.a in %s\n' "${YUBI_LIB_DIR:-target/staticlib}"
     fi
-    check 'paths in proofs' python3 tools/check/paths.py
     check 'docs/proofs/BELIEVED.md' python3 tools/check/believed.py --check
     check 'docs/CRATES.md and docs/house.svg' python3 tools/make/house.py --check
     check 'docs/bench.svg' python3 tools/make/plot.py --check

@@ -3,15 +3,18 @@
 #
 #     bash tools/crew.sh
 #
-# on a copy of the scripts in a folder of its own, with the built programs (target/bin, or the folder in YUBI_BIN_DIR) and, for what no good program
+# on a copy of the scripts in a folder of its own, with the built programs (crates/NAME/out, or the folder in YUBI_BIN_DIR) and, for what no good program
 # does, with programs and a prover that only pretend. Nothing is proved here. Exit 1 where something isn't as it must be.
 set -eu
 unset CDPATH
 cd -- "$(dirname -- "$0")/.."
 home=$PWD
-programs=${YUBI_BIN_DIR:-$home/target/bin}
+# Where a built program is.
+built_at() {
+    if [ -n "${YUBI_BIN_DIR:-}" ]; then echo "$YUBI_BIN_DIR/$1"; else echo "$home/crates/$1/out/$1"; fi
+}
 for each in tally census; do
-    [ -x "$programs/$each" ] || { echo "$programs has no program $each: rt check tally census" >&2; exit 2; }
+    [ -x "$(built_at "$each")" ] || { echo "there is no program $(built_at "$each"): rt run, in crates/$each" >&2; exit 2; }
 done
 export LC_ALL=C
 room=$(mktemp -d)
@@ -57,41 +60,41 @@ says() { # STATUS OUT PATTERN: a pattern of the whole of standard error
 
 # Both have the scripts as they are, but of crates/ one file a crate: bin/ looks at its times alone.
 checkout() { # NAME
-    mkdir -p "$room/$1/crates/tally/src" "$room/$1/crates/other" "$room/$1/target/bin" "$room/$1/target/stamp"
+    mkdir -p "$room/$1/crates/tally/src" "$room/$1/crates/tally/out" "$room/$1/crates/census/out" "$room/$1/crates/other/specs" "$room/$1/target"
     cp -R bin include demo VERSION crates.txt "$room/$1"
     echo >"$room/$1/crates/tally/src/main.rt"
-    echo >"$room/$1/crates/other/file"
-    touch "$room/$1/target/stamp/tally" "$room/$1/target/stamp/census"
+    echo >"$room/$1/crates/other/specs/File.antt"
+    touch "$room/$1/crates/tally/out/tally.stamp" "$room/$1/crates/census/out/census.stamp"
     chmod -R a+rX "$room/$1"
 }
 checkout real
-cp "$programs/tally" "$programs/census" "$room/real/target/bin"
+for each in tally census; do cp "$(built_at "$each")" "$room/real/crates/$each/out/"; done
 checkout sham
 real=$room/real/bin/tally sham=$room/sham/bin/tally
 
 # A program that prints the folder's file `lines`, and does what its file `does` says.
 sham_program() {
-    cat >"$room/sham/target/bin/tally" <<'SHAM'
+    cat >"$room/sham/crates/tally/out/tally" <<'SHAM'
 #!/bin/sh
 [ ! -f lines ] || cat lines
 [ ! -f does ] || . ./does
 SHAM
-    chmod 755 "$room/sham/target/bin/tally"
+    chmod 755 "$room/sham/crates/tally/out/tally"
 }
 sham_program
 
-# A prover: prints what rt does, leaves a program, a stamp and a mark that it ran, and does before what PROVER says.
+# A prover, as it is called in the crate's folder: prints what rt does, leaves a program, a stamp and a mark that it ran, and does before what PROVER says.
 mkdir "$room/path" "$room/folder"
 cat >"$room/path/rt" <<'SHAM'
 #!/bin/sh
 [ "$1" != version ] || { echo "a toolchain of no name"; exit 0; }
-echo "$*" >>"$ROOM/asked"
-echo "rt: a_crate_with_a_name_of_some_length proved (1 s)"
+echo "$* in ${PWD##*/}" >>"$ROOM/asked"
+echo "crate a_crate_with_a_name_of_some_length: modules loaded=1 checked=1"
 [ -z "${PROVER:-}" ] || eval "$PROVER"
-rm -f target/bin/tally
-printf '#!/bin/sh\necho made %s\n' "$(wc -l <"$ROOM/asked")" >target/bin/tally
-chmod +x target/bin/tally
-touch target/stamp/tally
+rm -f out/tally
+printf '#!/bin/sh\necho made %s\n' "$(wc -l <"$ROOM/asked")" >out/tally
+chmod +x out/tally
+touch out/tally.stamp
 SHAM
 # The pretending program is a script, on whatever machine.
 printf '#!/bin/sh\necho x86_64\n' >"$room/path/uname"
@@ -209,6 +212,11 @@ shammed "$sham" "$room/nowhere"
 held "a folder that isn't there" gave 2 "" "tally: the folder $room/nowhere can't be entered: No such file or directory"
 shammed "$sham" "$home/VERSION"
 held "a file for a folder" gave 2 "" "tally: the folder $home/VERSION can't be entered: Not a directory"
+mkdir "$room/arm"
+printf '#!/bin/sh\necho aarch64\n' >"$room/arm/uname"
+chmod 755 "$room/arm/uname"
+run env PATH="$room/arm:$PATH" "$sham" "$room/folder"
+held "another machine" gave 2 "" "tally: the program is for x86-64, and this machine is aarch64"
 mkdir "$room/closed"
 chmod 000 "$room/closed"
 shammed "${plainly[@]}" "$sham" "$room/closed"
@@ -279,10 +287,10 @@ held "CDPATH leads nowhere: case-p" says 1 "refused 11 23" "*"
 
 # built HOW-OFTEN-ASKED LINE PATTERN
 built() { says 0 "$2" "$3" && [ "$(asked)" = "$1" ]; }
-rm "$room/sham/target/bin/tally"
+rm "$room/sham/crates/tally/out/tally"
 shammed "$sham" "$room/folder"
 held "it is built the first time" built 1 "made 1" "tally: building, this once: * of * crates proved*"
-held "by rt check tally" [ "$(cat "$room/asked")" = "check tally" ]
+held "by rt run in its folder" [ "$(cat "$room/asked")" = "run in tally" ]
 shammed "$sham" "$room/folder"
 held "and not the second time" built 1 "made 1" ""
 echo >>"$room/sham/crates/tally/src/main.rt"
@@ -292,7 +300,7 @@ touch -d 2001-02-03 "$room/old"
 cp -p "$room/old" "$room/sham/crates/tally/src/main.rt"
 shammed "$sham" "$room/folder"
 held "an older source came" built 3 "made 3" "*building anew*"
-rm "$room/sham/crates/other/file"
+rm "$room/sham/crates/other/specs/File.antt"
 shammed "$sham" "$room/folder"
 held "a source went" built 4 "made 4" "*building anew*"
 touch "$room/sham/crates.txt"
@@ -300,12 +308,15 @@ PROVER='exit 0' shammed "$sham" "$room/folder"
 held "rt found nothing new" built 5 "made 4" "*building anew*"
 shammed "$sham" "$room/folder"
 held "and isn't asked again" built 5 "made 4" ""
+echo >"$room/sham/crates/other/stdout"
+shammed "$sham" "$room/folder"
+held "a file that no proof reads came" built 5 "made 4" ""
 touch "$room/sham/crates.txt"
-PROVER='sleep 0.1; touch crates.txt' shammed "$sham" "$room/folder"
+PROVER='sleep 0.1; touch ../../crates.txt' shammed "$sham" "$room/folder"
 held "a source changed" built 6 "made 6" "*building anew*"
 shammed "$sham" "$room/folder"
 held "and again while that was proved" built 7 "made 7" "*building anew*"
-rm "$room/sham/target/stamp/tally"
+rm "$room/sham/crates/tally/out/tally.stamp"
 shammed "$sham" "$room/folder"
 held "a build that was broken off" built 8 "made 8" "*building, this once*"
 touch "$room/sham/crates.txt"
@@ -314,13 +325,13 @@ held "a change that isn't proved: the old program isn't run" says 2 "" "*tally: 
 held "and the log has it" grep -q FAILED "$room/sham/target/tally.log"
 shammed "$sham" "$room/folder"
 held "nor is the failure forgotten" built 10 "made 10" "*building anew*"
-rm "$room/sham/target/bin/tally"
+rm "$room/sham/crates/tally/out/tally"
 PROVER='exit 0' shammed "$sham" "$room/folder"
 held "rt leaves no program" says 2 "" "*tally: rt left no program at *"
 unproved "$sham" "$room/folder"
 held "no program, and no rt" gave 2 "" "tally: the program isn't built, and rt isn't on the PATH to prove and build it"
 sham_program
-touch "$room/sham/target/stamp/tally" "$room/sham/crates.txt"
+touch "$room/sham/crates/tally/out/tally.stamp" "$room/sham/crates.txt"
 unproved "$sham" "$room/folder"
 held "a change, and no rt" gave 2 "" "tally: crates/ changed after the program was built, and rt isn't on the PATH to prove and build it"
 chmod a-w "$room/sham/target" "$room/sham/target/"*
@@ -367,12 +378,12 @@ ended() {
 # shellcheck disable=SC2016
 export PROVER='sleep 1000 & echo $! >$ROOM/pids.worker; echo $$ >$ROOM/pids.prover; wait'
 for each in TERM INT HUP; do
-    rm -f "$room/sham/target/bin/tally"
+    rm -f "$room/sham/crates/tally/out/tally"
     ended "$each" "$room/pids.worker" "$room/pids.prover" 2>/dev/null
 done
 unset PROVER
 sham_program
-touch "$room/sham/target/stamp/tally"
+touch "$room/sham/crates/tally/out/tally.stamp"
 # shellcheck disable=SC2016
 echo 'echo $$ >"$ROOM/pids.program"; exec sleep 1000' >"$room/folder/does"
 for each in TERM INT HUP; do
@@ -384,7 +395,7 @@ rm "$room/folder/does"
 
 # frames COLUMNS: what is drawn on a terminal of so many columns, a line a drawing.
 frames() {
-    rm -f "$room/sham/target/bin/tally"
+    rm -f "$room/sham/crates/tally/out/tally"
     # shellcheck disable=SC2016
     PROVER='sleep 1' PATH="$room/path:$PATH" COLS=$1 SHAM=$sham FOLDER=$room/folder \
         script -qec 'stty cols "$COLS"; "$SHAM" "$FOLDER"' /dev/null </dev/null | tr '\r' '\n' | sed 's/\x1b\[K//' >"$room/out"

@@ -1,8 +1,9 @@
 # shellcheck shell=bash disable=SC2034,SC2317
-# Sourced, at the repository's root, by the scripts that link the static library from other languages: judge.sh, bench.sh, yardsticks.sh, stack.sh,
-# bindings.sh, release.sh and arm.sh here, and bindings/c/build.sh. It has the library, and compilers that link it. The library is for x86-64: there
+# Sourced, at the repository's root, by the scripts that link the static library from other languages: library.sh, judge.sh, bench.sh, yardsticks.sh,
+# stack.sh, bindings.sh, release.sh and arm.sh here, and bindings/c/build.sh. It has the library, and compilers that link it. The library is for x86-64: there
 # programs run as they are, elsewhere they are built for x86-64 by Debian's cross tools and run by Debian's emulator. (Those scripts use what shellcheck
 # sees no use of here.)
+unset CDPATH
 
 say() { echo "== $*"; }
 fail() { echo "$*" >&2; exit 1; }
@@ -78,7 +79,7 @@ crates_beneath() {
             for (k = 1; k <= n; k++) take(uses[k])
         }
         { sub(/#.*/, "") }
-        split($0, part, ":") == 2 { line[part[1]] = part[2] }
+        split($0, part, ":") == 2 { sub(/ .*/, "", part[1]); line[part[1]] = part[2] }
         END { take(name) }' crates.txt
 }
 
@@ -97,7 +98,7 @@ made_of() {
 proving() {
     local all=$1 proved=0 line
     while IFS= read -r line; do
-        [[ $line =~ ^'rt: '([a-z0-9_]+)' proved ('.*$ ]] || continue
+        [[ $line =~ ^'crate '([a-z0-9_]+)': modules '.*$ ]] || continue
         proved=$((proved + 1))
         if [ -t 2 ]; then
             printf '\r\033[K== %d of %d crates proved (%s)' "$proved" "$all" "${BASH_REMATCH[1]}" >&2
@@ -108,8 +109,8 @@ proving() {
     [ ! -t 2 ] || printf '\r\033[K' >&2
 }
 
-# made FILE CRATE COMMAND..: has the command, rt or what runs it, prove the crate and write FILE, unless nothing that it is made of has changed since it
-# was made here. The prover's lines go to a file.
+# made FILE CRATE COMMAND..: has the command, a function that calls rt, prove the crate and write FILE, unless nothing that it is made of has changed
+# since it was made here. The prover's lines go to a file.
 made() {
     local file=$1 crate=$2 mark=target/foreign/made/${1//\//-} log=target/foreign/rt.log
     shift 2
@@ -127,13 +128,25 @@ made() {
     made_of "$file" "$crate" >"$mark"
 }
 
+# in_crate CRATE WORD..: rt in the crate's folder.
+in_crate() {
+    local crate=$1
+    shift
+    (cd -- "crates/$crate" && exec rt "$@")
+}
+
+# Proves and builds what C links: `rt lib` of the crate tablet_c makes the archive.
+build_library() {
+    in_crate tablet_c lib && mkdir -p target/staticlib && cp crates/tablet_c/out/libtablet_c.a target/staticlib/libtablet.a
+}
+
 # Has the library proved and built, and leaves its folder in YUBI_LIB_DIR. Where that is set already, the library there is taken as it is.
 library() {
     if [ -n "${YUBI_LIB_DIR:-}" ]; then
         say "the library in $YUBI_LIB_DIR"
     else
         command -v rt >/dev/null || fail "this needs Rattle's command rt, or a folder with libtablet.a in YUBI_LIB_DIR"
-        made target/staticlib/libtablet.a tablet rt staticlib tablet
+        made target/staticlib/libtablet.a tablet_c build_library
         YUBI_LIB_DIR=$PWD/target/staticlib
     fi
     [ -f "$YUBI_LIB_DIR/libtablet.a" ] || fail "$YUBI_LIB_DIR has no libtablet.a"

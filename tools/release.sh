@@ -18,14 +18,13 @@ case ${1:-} in
 *) fail "usage: bash tools/release.sh [--arm]" ;;
 esac
 [ -z "${YUBI_LIB_DIR:-}" ] || fail "a release is made from this checkout's own library: unset YUBI_LIB_DIR"
+[ ${#emulator[@]} = 0 ] || fail "a release is made on x86-64, for which the toolchain builds; this machine is $(uname -m)"
 want_c
 want make make
 want cmake cmake
 want pkg-config pkg-config
-nm="nm"
-[ ${#emulator[@]} = 0 ] || nm=x86_64-linux-gnu-nm
 library
-for name in tally census; do made target/bin/$name $name rt check $name; done
+for name in tally census; do made crates/$name/out/$name $name in_crate $name run; done
 [ "${1:-}" != --arm ] || env -u YUBI_LIB_DIR bash tools/arm.sh
 
 version=$(cat VERSION)
@@ -59,7 +58,7 @@ laid() {
     cp demo/case-p/curve demo/case-p/batch "$to/example/case-p/"
     if [ -n "$programs" ]; then
         mkdir "$to/bin"
-        cp target/bin/tally target/bin/census "$to/bin/"
+        cp crates/tally/out/tally crates/census/out/census "$to/bin/"
     fi
     filled README.in >"$to/README"
     cp VERSION "$to/"
@@ -127,21 +126,16 @@ The programs, in a folder with the files curve and batch, or with a file curve:
 What they refuse is one line, refused NUMBER PLACE: the header says what each number means and what to do.
 '
 proved="Each function of the library and of the programs was proved to meet its contract, to do nothing undefined and to end, before it was compiled."
-needed=$(needs "$nm" target/staticlib/libtablet.a)
+needed=$(needs nm target/staticlib/libtablet.a)
 [ "$needed" = "memcpy memset" ] || fail "the library needs $needed"
 laid target/staticlib/libtablet.a
-tried "${emulator[@]}"
+tried
 
-# The programs: on another machine than x86-64, as bin/tally runs them.
+# The programs.
 at=$room/$triple/yubisorade-$version-$triple
-starter=()
-if [ ${#emulator[@]} != 0 ]; then
-    kit=${RATTLE_HOME:-$(cd -- "$(dirname -- "$(readlink -f -- "$(command -v rt)")")/.." && pwd -P)}/on/$(uname -m)/toolchain
-    starter=("$kit/bin/qemu-x86_64" "$kit/lib/ld-linux-x86-64.so.2" --library-path "$kit/lib")
-fi
-prints bin/tally "$(cat crates/tally/stdout)" outside env -C "$at/example/case-p" "${starter[@]}" "$at/bin/tally"
+prints bin/tally "$(cat crates/tally/stdout)" outside env -C "$at/example/case-p" "$at/bin/tally"
 cp crates/census/data/curve "$at/example/curve"
-prints bin/census "$(cat crates/census/stdout)" outside env -C "$at/example" "${starter[@]}" "$at/bin/census"
+prints bin/census "$(cat crates/census/stdout)" outside env -C "$at/example" "$at/bin/census"
 
 if [ "${1:-}" = --arm ]; then
     triple=aarch64-linux-gnu
@@ -150,7 +144,7 @@ if [ "${1:-}" = --arm ]; then
 x86-64 library, but for the lines that say how a struct is handed over on Arm; it was tested under an emulator, and is no target of the toolchain's own."
     cc=(aarch64-linux-gnu-gcc -static)
     laid target/arm/libtablet.a
-    if [ "$(uname -m)" = aarch64 ]; then tried; else tried qemu-aarch64; fi
+    tried qemu-aarch64
 fi
 (cd -- "$dist" && sha256sum ./*.tar.gz | sed 's, \./, ,') >"$room/sums"
 mv "$room/sums" "$dist/SHA256SUMS"

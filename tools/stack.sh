@@ -3,7 +3,7 @@
 #
 #     bash tools/stack.sh
 #
-# looks at the built library for a function that touches its stack page by page behind a branch (docs/DECISIONS.md, 46: there the compiler
+# looks at the built library for a function that touches its stack step by step behind a branch (docs/DECISIONS.md, 46: there the compiler
 # was seen to overwrite a register in use); adds up the frames along every way of calls, which no input can pass; and runs every call on the
 # smallest stack that the header promises to be enough (bindings/c/stack.c). Exit 1 where one isn't as it must be.
 set -eu
@@ -20,26 +20,26 @@ mkdir -p target/foreign
 listing=target/foreign/listing
 $objdump -dr --no-show-raw-insn "$YUBI_LIB_DIR/libtablet.a" >$listing
 
-# Reads a listing: a page of stack is `sub $0x1000,%rsp` and a store there. Prints each function that takes pages, and exits 1 where one does
-# so behind a jump, a call or a return.
+# Reads a listing: a step of stack is `sub $0xc00,%rsp` and a store there. Prints each function that takes such steps, and exits 1 where one does
+# so behind a jump, a call or a return, or where none does: then the step has another length.
 probes() {
     awk '
         /^[0-9a-f]+ <.*>:$/ { name = $2; gsub(/^<|>:$/, "", name); left = ""; taken = 0; page = 0 }
         /^ *[0-9a-f]+:\t/ {
             if (page && $2 == "movq" && $3 ~ /^\$0x0,(0x0)?\(%rsp\)$/) {
-                if (!taken) { print name ": touches its stack page by page" (left ? " BEHIND " left : ", first of all") }
+                if (!taken) { print name ": touches its stack step by step" (left ? " BEHIND " left : ", first of all") }
                 if (!taken && left) { bad = 1 }
-                taken = 1
+                taken = any = 1
             }
-            page = $2 ~ /^subq?$/ && $3 == "$0x1000,%rsp"
+            page = $2 ~ /^subq?$/ && $3 == "$0xc00,%rsp"
             if (!taken && $2 ~ /^(j|call|ret)/) { left = $2 }
         }
-        END { exit bad }'
+        END { exit bad || !any }'
 }
 
-say "stack touched page by page"
+say "stack touched step by step"
 # shellcheck disable=SC2016
-if printf '0000 <early>:\n   0:\ttest   %%rdi,%%rdi\n   3:\tje     40 <early+0x40>\n   5:\tsub    $0x1000,%%rsp\n   c:\tmovq   $0x0,(%%rsp)\n' | probes >/dev/null; then
+if printf '0000 <early>:\n   0:\ttest   %%rdi,%%rdi\n   3:\tje     40 <early+0x40>\n   5:\tsub    $0xc00,%%rsp\n   c:\tmovq   $0x0,(%%rsp)\n' | probes >/dev/null; then
     fail "the check sees no fault where there is one"
 fi
 probes <$listing || fail "a function touches its stack behind a branch"
@@ -83,9 +83,10 @@ bounds() {
         }
         /^ *[0-9a-f]+:\t/ {
             if ($2 ~ /^push/) frame[name] += 8
-            if ($2 ~ /^subq?$/ && $3 ~ /^\$0x[0-9a-f]+,%rsp$/) frame[name] += step($3)
-            # Pages in a loop: down to %r11, one of them counted by the line above.
-            if ($2 ~ /^subq?$/ && $3 ~ /^\$0x[0-9a-f]+,%r11$/ && last == "mov %rsp,%r11") frame[name] += step($3) - 4096
+            # Steps in a loop go down to %r11, and the one that the loop has is among them.
+            if ($2 ~ /^subq?$/ && $3 ~ /^\$0x[0-9a-f]+,%rsp$/ && !loops--) frame[name] += step($3)
+            if (loops < 0) loops = 0
+            if ($2 ~ /^subq?$/ && $3 ~ /^\$0x[0-9a-f]+,%r11$/ && last == "mov %rsp,%r11") { frame[name] += step($3); loops = 1 }
             if (match($0, /-0x[0-9a-f]+\(%rsp\)/) && (d = hex(substr($0, RSTART + 3, RLENGTH - 9))) > below[name]) below[name] = d
             if ($2 ~ /^(and|enter|leave)/ && $3 ~ /%rsp/) wrong(name ": " $2 " " $3)
             if ($2 ~ /^call/ && $3 ~ /^\*/) wrong(name " calls by a register")

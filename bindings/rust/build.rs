@@ -42,7 +42,7 @@ fn main() {
 pub fn without_library(folder: &Path) -> String {
     let relative = if folder.is_absolute() { "" } else { " (YUBI_LIB_DIR wants an absolute path)" };
     format!(
-        "there is no libtablet.a in {}{relative}, so nothing can be linked: run `rt staticlib tablet` in the repository, \
+        "there is no libtablet.a in {}{relative}, so nothing can be linked: run `bash tools/library.sh` in the repository, \
          which writes target/staticlib/libtablet.a, or take the archive of a release and name its folder in YUBI_LIB_DIR",
         folder.display()
     )
@@ -53,7 +53,7 @@ pub fn unlike_target(target: &str, arch: &str, machine: Option<&str>) -> Option<
     let machine = machine.filter(|&machine| machine != arch)?;
     Some(format!(
         "this build is for {target}, and libtablet.a is for {machine}: build with --target {machine}-unknown-linux-gnu, or \
-         name in YUBI_LIB_DIR the folder of an archive for {arch}; `rt staticlib tablet` makes it for x86_64, tools/arm.sh \
+         name in YUBI_LIB_DIR the folder of an archive for {arch}; `bash tools/library.sh` makes it for x86_64, tools/arm.sh \
          for aarch64"
     ))
 }

@@ -33,12 +33,12 @@ import made
 from sources import wrapped
 
 ROOT = os.path.join(made.ROOT, "crates")
-CALLS = [("tablet", 'extern "C" fn'), ("scan_*", "pub fn scan(total: &mut"), ("text_tally", "pub fn tally"), ("text_lines", "pub fn refusal")]
+CALLS = [("tablet_c", 'extern "C" fn'), ("scan_*", "pub fn scan(total: &mut"), ("text_tally", "pub fn tally"), ("text_lines", "pub fn refusal")]
 THEOREM = ("rules/proofs/Demand3", ["Demand3", "demand3"])
 ORDER = [
     "rules/specs", "signed", "tablet_answers", "scan_flat", "scan_lent", "scan_record", "divisor", "field", "digits", "text_lines", "text_tally",
-    "algebra/proofs/ring", "algebra/proofs/list/Ops", "algebra/proofs/zmod", "algebra/proofs/poly/Series", "algebra/proofs/poly/Bound", "algebra/proofs/poly/Poly",
-    "algebra/proofs/poly", "algebra/proofs/list", "algebra", "rules/proofs/Demand3", "rules/proofs",
+    "algebra/proofs/Ring", "algebra/proofs/List/Ops", "algebra/proofs/Zmod", "algebra/proofs/Poly/Series", "algebra/proofs/Poly/Bound", "algebra/proofs/Poly/Poly",
+    "algebra/proofs/Poly", "algebra/proofs/List", "algebra", "rules/proofs/Demand3", "rules/proofs",
 ]  # fmt: skip
 RULES = ["Curve", "Pair", "Sum", "Multiple", "Tests", "Bytes", "Checks", "Records", "Split", "First", "Lists", "Census", "Calls"]
 SIGNATURE = re.compile(r"((?:unfoldable |abbrev |pub )*)(\S+)(?: \{[^}]*\})? :(?: |$)")
@@ -46,9 +46,9 @@ DECLARED = re.compile(r"(?:pub )?(record|data) (\S+)")
 
 
 def words(text):
-    """The names in a text: no projections (` .x`), no labels of a record (`x =` after `{` or `;`), no quoted text."""
+    """The names in a text: no projections (`a.x`), no labels of a record (`x =` after `{` or `;`), no quoted text."""
     text = re.sub(r'"[^"]*"', " ", text)
-    text = re.sub(r"(?<=[\s)])\.[^\s(){};,]+", " ", text)
+    text = re.sub(r"(?<=[^\s({;,])\.(?=[^\s(){};,.])[^\s(){};,.]+", " ", text)
     text = re.sub(r"([{;]\s*)[^\s(){};,]+ =", r"\1 =", text)
     return set(re.split(r"[\s(){}.;,@]+", text))
 
@@ -64,7 +64,7 @@ def bound(clause):
 
 def names(word, known):
     """The names of `known` that a word stands for: itself, or an operator that has it for a part."""
-    return [n for n in known if n == word or ("_" in n and n != "_" and word in n.split("_") and word)]
+    return [n for n in known if n == word or ("◌" in n and n != "◌" and word in n.split("◌") and word)]
 
 
 class Item:
@@ -118,7 +118,7 @@ class File:
             new = Item(self, "module", None, None, blocks)
         elif re.match(r"open |infix", word):
             new = Item(self, "open", None, None, blocks)
-            used = re.search(r"using \((.*)\)", word)
+            used = re.search(r" use \{(.*)\}", word)
             new.members = [p.split(" as ")[-1].strip() for p in used.group(1).split(",")] if used else [word.split()[-1]]
         elif declared:
             new = Item(self, declared.group(1), declared.group(2), "abbrev", blocks)
@@ -155,8 +155,8 @@ def law(line):
 
 
 def load(module):
-    """The file of a module, as Rattle·algebra.proofs.zmod.Zmod or Rattle·rules·specs.specs.Pair; None for one of the kit or of code."""
-    match = re.fullmatch(r"Rattle·(\w+)(?:·\w+)?\.(specs|proofs)\.(.*)", module)
+    """The file of a module, as Rattle.algebra.proofs.Zmod.Zmod or Rattle.rules.specs.Pair; None for one of the kit or of code."""
+    match = re.fullmatch(r"Rattle\.(\w+)\.(specs|proofs)\.(.*)", module)
     path = match and "/".join([match.group(1), match.group(2)] + match.group(3).split("."))
     if not path or not os.path.exists(os.path.join(ROOT, path + ".antt")):
         return None
@@ -178,7 +178,7 @@ class Reached:
         elif file and name in file.imports:  # handed on by a `pub use`
             self.name(*file.imports[name])
         elif not file:
-            self.other["code" if module.startswith("Rattle·") else "kit"].add(name)
+            self.other["code" if module.split(".")[0] == "Rattle" and os.path.isdir(os.path.join(ROOT, module.split(".")[1])) else "kit"].add(name)
 
     def item(self, item):
         if item in self.items:
@@ -219,7 +219,7 @@ def contracts(reached):
                 imports.update({n.strip(): (module, n.strip()) for n in group.split(",")})
             for call in re.findall(re.escape(begins) + r".*?\n\{", source, re.S):
                 found += 1
-                for word in set().union(*map(words, re.findall(r"⌜(.*?)⌝", call))):
+                for word in set().union(*map(words, re.findall(r"^ *(?:requires|ensures)(?: \w+)? \{(.*)\}$", call, re.M))):
                     for name in names(word, imports):
                         reached.name(*imports[name])
         if not found:
@@ -257,7 +257,7 @@ def followed():
     calls, both = Reached(), Reached()
     contracts(calls)
     contracts(both)
-    file = load("Rattle·" + THEOREM[0].replace("/", "."))
+    file = load("Rattle." + THEOREM[0].replace("/", "."))
     for name in THEOREM[1]:
         item = file.defined()[name]
         both.items.add(item)

@@ -22,7 +22,7 @@ def lines(*path):
 
 
 def exports():
-    return re.findall(r'^pub extern "C" fn (\w+)', text("crates", "tablet", "src", "lib.rt"), re.M)
+    return re.findall(r'^pub extern "C" fn (\w+)', text("crates", "tablet_c", "src", "lib.rt"), re.M)
 
 
 def declared():
@@ -31,7 +31,7 @@ def declared():
 
 def listed():
     """The crates of crates.txt."""
-    return [line.split(":")[0].strip() for line in lines("crates.txt") if line and not line.startswith("#")]
+    return [line.split(":")[0].split()[0] for line in lines("crates.txt") if line and not line.startswith("#")]
 
 
 def families():

@@ -7,8 +7,8 @@ Lists: the calls in README.md's table and in docs/proofs/CALLS.md's list, crates
     every edit in docs/proofs/EDITS.md.
 Names, on every page: an edit CRATE/NAME, a crate, a file, a street of demo/ is there; a function CRATE::NAME is in that crate's code; what stands in
     backquotes is a name of the tree, on the pages of proofs one of crates/; where a page says the file or the crate that has it, it is there. A link leads
-    to a file, and to a heading of it where it names one. Of every note too: a decision that is cited by its number has the title that is cited, and a
-    contract's lines are the code's.
+    to a file, and to a heading of it where it names one. A contract's lines are the code's. Of every note too: a decision that is cited by its number has
+    the title that is cited.
 Form: docs/PROVED.md has at most 150 lines, docs/TOUR.md's addition at most 18 rows and crates; a sentence a line, no line over 160 characters,
     none twice in a row.
 
@@ -76,9 +76,9 @@ STATED = [
     ("docs/PROVED.md", "names N lines more", lambda: sum(counts.believed()[0][1].values())),
     ("docs/PROVED.md", "N lines of ring laws", lambda: counts.believed()[1]),
     ("docs/PROVED.md", "proves N crates from nothing, has N wrong programs refused, and runs N programs", lambda: counts.gate()[:3]),
-    ("docs/proofs/CALLS.md", "`tablet`: the N exports", lambda: len(counts.exports())),
+    ("docs/proofs/CALLS.md", "`tablet_c`: the N exports", lambda: len(counts.exports())),
     ("docs/proofs/CALLS.md", "of each of the N exports", lambda: len(counts.exports())),
-    ("docs/proofs/PROGRAMS.md", "all N exports are called", lambda: len(counts.exports())),
+    ("docs/proofs/PROGRAMS.md", "all N calls of `tablet` are made", lambda: len(counts.exports())),
     ("docs/proofs/PROGRAMS.md", "`test_tally` runs N cases", counts.scenarios),
     ("docs/proofs/PROGRAMS.md", "`test_census` runs N cases", lambda: counts.censuses()[0]),
     ("docs/proofs/PROGRAMS.md", "N whole censuses", lambda: counts.censuses()[2]),
@@ -97,7 +97,7 @@ STATED = [
     ("docs/TESTING.md", "N rows of arithmetic modulo six primes, N answers of the prime test, N rows", counts.field_rows),
     ("docs/TESTING.md", "| `test_polynomials` | N pairs", counts.pairs_of_polynomials),
     ("docs/TESTING.md", "| `test_tuples` | N rows of two tuples (W-206), N pairs", counts.rows_of_tuples),
-    ("docs/TESTING.md", "N frames through the exported calls", lambda: len(counts.vectors())),
+    ("docs/TESTING.md", "N frames through the calls that are exported", lambda: len(counts.vectors())),
     ("docs/TESTING.md", "N lines | tools/make/corners.py", counts.corners),
     ("docs/TESTING.md", "curve A, N divisors", counts.census),
     ("docs/TESTING.md", "N curves and files: N refusals, N whole censuses", lambda: counts.censuses()[:3]),
@@ -147,7 +147,7 @@ def check_rule_edits():
 def check_rule_files():
     """The sentence on the edits of rules by file: `N change specs/FILE`, further ones `N FILE`."""
     stated = re.search(r"Of the edits of `rules` (.*?)\.", flowing("docs/proofs/CALLS.md"))
-    said = {file: value(n) for n, file in re.findall(NUMBER + r" (?:changes? )?(?:specs/)?((?:[a-z]\w*/)*[A-Z]\w+)", stated.group(1))} if stated else {}
+    said = {file: value(n) for n, file in re.findall(NUMBER + r" (?:changes? )?(?:specs/)?((?:\w+/)*[A-Z]\w+)", stated.group(1))} if stated else {}
     differ("CALLS.md, edits of rules by file of specs/", {file: n for file, n in said.items() if n}, counts.edits_of("rules"))
 
 
@@ -239,11 +239,11 @@ def defined(source):
     return set(code) | set(signed) | set(declared)
 
 
-PATHS = [p for e in ("antt", "rt") for p in glob.glob(os.path.join(ROOT, "crates", "**", "*." + e), recursive=True)]
+PATHS = [p for e in ("antt", "rt") for part in ("src", "specs", "proofs") for p in glob.glob(os.path.join(ROOT, "crates", "*", part, "**", "*." + e), recursive=True)]
 SOURCES = {os.path.relpath(p, os.path.join(ROOT, "crates")): words(text(p)) for p in PATHS}
 DEFINED = {os.path.relpath(p, os.path.join(ROOT, "crates")): defined(text(p)) for p in PATHS}
 # docs/CONTRIBUTING.md: how a name is made
-PLACEHOLDERS = set("XIs ToX IsX AllX Xed xOf x-of x? x-test x-decides x-call x-checks x-place x-refused x-back x-same x-closed".split())
+PLACEHOLDERS = set("XIs ToX IsX AllX Xed x_of is_x x_test x_decides x_call x_checks x_place x_refused x_back x_same x_closed".split())
 
 
 @functools.lru_cache(None)
@@ -286,7 +286,7 @@ def defined_at(path):
 def check_sources():
     """Files and folders below crates/, as a page has them: from the crate on, or from specs/, proofs/ or a folder of rules' laws on.
     A name in capitals stands for any; an edit's name isn't a file's."""
-    below = r"(?<![\w/.])((?:(?:%s)/)?(?:specs|proofs|src|calls|cantor|census)(?:/\w+)+(?:\.(?:rt|antt))?)" % "|".join(CRATES)
+    below = r"(?<![\w/.])((?:(?:%s)/)?(?:specs|proofs|src|Calls|Cantor|Census)(?:/\w+)+(?:\.(?:rt|antt))?)" % "|".join(CRATES)
     for page in PAGES:
         for path in sorted(set(re.findall(below, text(page)))):
             if defined_at(path) is None and path not in counts.edits() and not re.search(r"(^|/)[A-Z]+(/|$)", path):
@@ -295,8 +295,8 @@ def check_sources():
 
 # `name`, `other` (FILE); FILE `name`, `other`; CRATE `name` at the beginning of a cell or behind a comma, where it is no word of a sentence
 NAMED = r"((?:`[^`]+`(?:, | and )?)+)"
-BEFORE = re.compile(NAMED + r" ?\(((?:specs|proofs|calls|cantor|census|%s)(?:/\w+)+)(?:\.\w+)?\)" % "|".join(CRATES))
-AFTER = re.compile(r"(?:(?<![\w/])((?:specs|proofs|calls|cantor|census|%s)(?:/\w+)+)|(?:\| |; |, )(%s)) %s" % ("|".join(CRATES), "|".join(CRATES), NAMED))
+BEFORE = re.compile(NAMED + r" ?\(((?:specs|proofs|Calls|Cantor|Census|%s)(?:/\w+)+)(?:\.\w+)?\)" % "|".join(CRATES))
+AFTER = re.compile(r"(?:(?<![\w/])((?:specs|proofs|Calls|Cantor|Census|%s)(?:/\w+)+)|(?:\| |; |, )(%s)) %s" % ("|".join(CRATES), "|".join(CRATES), NAMED))
 
 
 def check_places():
@@ -401,9 +401,9 @@ def check_decisions():
 
 
 def check_contracts():
-    """Lines of a contract that a page or any note has are lines of the code."""
+    """Lines of a contract that a page has are lines of the code."""
     code = {line.strip() for path in PATHS if path.endswith(".rt") for line in text(path).splitlines()}
-    for page in EVERY:
+    for page in PAGES:
         for line in re.findall(r"^ {4,}((?:requires|ensures) \{.*)", text(page), re.M):
             if line.strip() not in code:
                 wrong.append("%s has the line `%s`, and no code has it" % (page, line.strip()))

@@ -80,15 +80,15 @@ def names():
     everywhere(docs.check_files, "docs/NO_SUCH.md", "docs/NO_SUCH.md")
     everywhere(docs.check_sources, "rules/specs/Nothing", "rules/specs/Nothing")
     everywhere(docs.check_sources, "tablet/src/nothing.rt", "tablet/src/nothing.rt")
-    everywhere(docs.check_names, "`no-such-law`", "no-such-law")
-    everywhere(docs.check_places, "`add-call` (rules/specs/Sum)", "add-call")
-    everywhere(docs.check_places, "rules/specs/Sum `add-call`", "add-call")
+    everywhere(docs.check_names, "`no_such_law`", "no_such_law")
+    everywhere(docs.check_places, "`add_call` (rules/specs/Sum)", "add_call")
+    everywhere(docs.check_places, "rules/specs/Sum `add_call`", "add_call")
     everywhere(docs.check_functions, "`jacobian::no_such`", "no_such")
     everywhere(docs.check_functions, "- `jacobian`: `no_such`, `sum`: what they do.", "no_such")
     everywhere(docs.check_links, "[words](no/such/page.md)", "no/such/page.md")
     everywhere(docs.check_links, "[words](#no-such-heading)", "no-such-heading")
     everywhere(docs.check_decisions, 'docs/DECISIONS.md, 7, "Another title"', "Another title")
-    everywhere(docs.check_contracts, "    ensures { λ r. ⌜ r ≡ nothing ⌝ }", "nothing")
+    everywhere(docs.check_contracts, "    ensures { result ≡ nothing }", "nothing")
     everywhere(docs.check_form, "word " * 40, "characters")
     everywhere(docs.check_form, "This is one sentence. That is another.", "two sentences")
     lie(docs.check_names, "docs/PROVED.md", lambda p: p + "\n`rust_program`\n", "rust_program")  # a name of tools/ on a page of proofs
@@ -99,7 +99,7 @@ def forms():
     lie(docs.check_form, "docs/PROVED.md", lambda p: p + "\n" * 151, "lines, and 150")
     lie(docs.check_once, "docs/TOUR.md", lambda p: p + "\n" + ("A sentence of more than sixty characters that a merge has left twice.\n" * 2), "stands again")
     lie(docs.check_tour, "docs/TOUR.md", lambda p: p + "\n1. tablet/src/lib.rt, `no_such_function`: a step.\n", "no_such_function")
-    lie(docs.check_tour, "docs/TOUR.md", lambda p: p.replace("| `add-call` |", "| `no-call` |"), "no-call")
+    lie(docs.check_tour, "docs/TOUR.md", lambda p: p.replace("| `add_call` |", "| `no_call` |"), "no_call")
     row = "| 19 | `poly::add` | two Polys | Poly | the sum in K[x] (`Is`) |"
     lie(docs.check_tour, "docs/TOUR.md", lambda p: re.sub(r"^\| 18 \|.*", lambda m: m.group(0) + "\n" + row, p, flags=re.M), "19 rows")
 

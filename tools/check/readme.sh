@@ -1,13 +1,13 @@
 #!/usr/bin/env bash
 # Compiles and runs the lines of C that README.md prints, as they stand there, and holds what they print to README.md's line. They must be at most twelve.
-# The library is that of YUBI_LIB_DIR, or the one that `rt staticlib tablet` wrote; nothing is proved here: where there is neither, the exit status is 2.
+# The library is that of YUBI_LIB_DIR, or the one that tools/library.sh wrote; nothing is proved here: where there is neither, the exit status is 2.
 set -eu
 unset CDPATH
 cd -- "$(dirname -- "$0")/../.."
 . tools/foreign.sh
 YUBI_LIB_DIR=${YUBI_LIB_DIR:-$PWD/target/staticlib}
 if [ ! -f "$YUBI_LIB_DIR/libtablet.a" ]; then
-    echo "no libtablet.a: set YUBI_LIB_DIR to its folder, or run rt staticlib tablet" >&2
+    echo "no libtablet.a: set YUBI_LIB_DIR to its folder, or run bash tools/library.sh" >&2
     exit 2
 fi
 want_c

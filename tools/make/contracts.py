@@ -16,7 +16,8 @@ HEAD = """# The contracts
 Made from src/ of every crate by `python3 tools/make/contracts.py`.
 Each public function stands with its comment, what it requires and what it ensures, as the code has them; long lines are broken.
 What a function has no `requires` for, it does for every value of its types.
-`r` is what is answered; a value as it was handed in is `x .entry`, as it is handed back `x .exit`.
+`result` is what is answered; what a `&` lends is `x.now`, what a `&mut` lends is `x.old` as it was handed in and `x.new` as it is handed back.
+A word between `ensures` and its brace is the clause's name.
 Where a name is defined, the lines `ghost use` at the head of the file say.
 """
 

@@ -25,7 +25,7 @@ Made from must-fail/ of every crate by `python3 tools/make/edits.py`.
 Each edit changes a few words of a crate's code or of its rules, and the gate fails unless the prover refuses the crate with it.
 So the contract named is not empty: the wrong program doesn't keep it.
 An edit of a rule is refused by the code that keeps the rule as it stands, or by a law of it.
-Where the prover stopped first, and its words there, is from the log of a whole gate, or of a later trial of its crate (first-errors.txt).
+Where the prover stopped first, and its words there, is from what `rt must-fail` or the gate printed (first-errors.txt).
 """
 
 
@@ -38,7 +38,7 @@ def read_edit(crate, path):
             file = rest
             texts.setdefault(file, made.text("crates", crate, file))
         elif file is None:
-            words.append(line)
+            words.append(line.removeprefix("# "))
         elif key == "old":
             old = rest
         elif line.startswith("new:"):
@@ -85,9 +85,7 @@ def item(edit, errors):
     yield from wrapped(edit.turns.rstrip(".") + ".", "  ", "  ")
     for line in changes(edit):
         yield from wrapped(line, "  ", "  ")
-    place, words, functions = errors.get(name, (None, None, ""))
-    if functions:
-        yield from wrapped("Not proved with it: %s." % ", ".join("`%s`" % each for each in functions.split()), "  ", "  ")
+    place, words = errors.get(name, (None, None))
     yield from wrapped("First error: %s, %s" % (place, words) if place else "First error: not recorded.", "  ", "  ")
 
 

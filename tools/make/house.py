@@ -4,8 +4,8 @@
     python3 tools/make/house.py             writes both
     python3 tools/make/house.py --check     writes nothing: they must be what it would write
 
-crates.txt has a line `# ---- FAMILY: what it is` above each family, and two lines for a crate: `# SENTENCE`, then `NAME: USES`. A line of words has at
-most 120 characters; rt wants all that a crate uses on one line.
+crates.txt has a line `# ---- FAMILY: what it is` above each family, and two lines for a crate: `# SENTENCE`, then `NAME: USES`, or `NAME staticlib: USES`
+where the crate makes the archive that C links. A line of words has at most 120 characters; rt wants all that a crate uses on one line.
 """
 import re
 import sys
@@ -27,7 +27,7 @@ def read_house():
     families, sentence = [], None
     for number, line in enumerate(made.text("crates.txt").splitlines(), 1):
         head = re.fullmatch(r"# ---- ([^:]+): (.+)", line)
-        crate = re.fullmatch(r"(\w+):((?: \w+)*)", line)
+        crate = re.fullmatch(r"(\w+)(?: staticlib)?:((?: \w+)*)", line)
         if head:
             families.append(Family(*head.groups(), []))
         elif crate and sentence and families:

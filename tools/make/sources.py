@@ -14,7 +14,8 @@ Definition = namedtuple("Definition", "name first last")
 def files_of(crate, ending):
     """The paths of a crate's files with that ending, below crates/CRATE."""
     home = os.path.join(ROOT, "crates", crate)
-    return sorted(os.path.relpath(path, home) for path in glob.glob(os.path.join(home, "**", "*." + ending), recursive=True))
+    paths = (os.path.relpath(path, home) for path in glob.glob(os.path.join(home, "**", "*." + ending), recursive=True))
+    return sorted(path for path in paths if not path.startswith("out/"))
 
 
 def code_of(crate):
@@ -36,6 +37,9 @@ def functions_in(crate, file):
         opened = next(n for n in range(k, end + 1) if lines[n].strip() in ("{", "{}") or lines[n].endswith(" {"))
         contract = [each.strip() for each in lines[k + 1 : opened] if re.match(r"\s*(requires|ensures)\b", each)]
         name = "%s::%s" % (owner, name) if owner and indent else name
+        if head.endswith("("):
+            last = next(n for n in range(k, end) if lines[n].startswith(indent + ")"))
+            head += ", ".join(each.strip().rstrip(",") for each in lines[k + 1 : last]) + lines[last].strip()
         yield Function(crate, file, name, bool(public), head.removesuffix(" {"), note_above(lines, k), contract, k + 1, end + 1)
 
 

@@ -2,7 +2,7 @@
 //!
 //! This crate is the Rust side of the static library `libtablet.a`, each call of which is proved to answer what its contract
 //! says, on any bytes. The build looks for it in the folder that the variable `YUBI_LIB_DIR` names, an absolute path, or else
-//! in the repository's `target/staticlib`, where `rt staticlib tablet` writes it.
+//! in the repository's `target/staticlib`, where `bash tools/library.sh` writes it.
 //!
 //! A [`Curve`] is read from its record; on it divisors are read, added, multiplied, totalled and split, by value. A
 //! `List` is a pole's list as a crew scans it. What isn't done is a [`Refusal`], with the number and place that every

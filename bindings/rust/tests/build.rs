@@ -56,7 +56,7 @@ fn another_machine_is_told_with_the_target_and_the_folder() {
 #[test]
 fn a_missing_library_is_told_with_its_folder() {
     let words = without_library(Path::new("/srv/tablet"));
-    for part in ["no libtablet.a in /srv/tablet,", "rt staticlib tablet", "YUBI_LIB_DIR"] {
+    for part in ["no libtablet.a in /srv/tablet,", "bash tools/library.sh", "YUBI_LIB_DIR"] {
         assert!(words.contains(part), "{}", words);
     }
     assert!(without_library(Path::new("tablet")).contains("wants an absolute path"));
