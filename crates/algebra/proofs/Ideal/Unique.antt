@@ -1,5 +1,5 @@
 -- L6, second half: where I(u2, v2) and I(u1, v1) are in one class and (u3, v3) is composed of (u2, v2) and the opposite of (u1, v1), with
--- deg u3 at most 2g, u3 is a unit. That the two pairs are one then follows by division (rules, proofs/cantor/Unique).
+-- deg u3 at most 2g, u3 is a unit. That the two pairs are one then follows by division (rules, proofs/Cantor/Unique).
 use Prim.Native.Nat.{ℕ, suc, ◌+◌, ◌≤◌}
 use mathlib.Core.Path.{◌≡◌, refl}
 use mathlib.Core.List.{[], ◌∷◌}
