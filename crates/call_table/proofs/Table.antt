@@ -1,8 +1,8 @@
 -- Document 01, "Numbers the tablet shows", and document 02's numbers: the table "Given exactly when", row by row, as one theorem in mathematical words. `A and B and ¬ C` reads: A and B are so, which are asked before, and C isn't so.
 -- A number that many calls can give is said of what gives it, whichever call reads it: a curve record s (`read_curve`), a divisor record from byte a of s on (`divisor_at`: the k-th, alone where `whole` is true, else in a batch), a running total (`resume`), a batch.
 -- That a call answers it exactly there, what it reads before being taken, is `in_order`, of every call at once: a call's rule is `deliver` of one reading after another. A number that one call gives is said of that call: `TookCurve s P` says that the curve was
--- taken, as c, and P of it; `TookBoth s a P` that then the divisor record was, as x, and P of both. What is asked is written out in rules/proofs: exactly/ (curves, divisors), calls/Decided (`Marked`, `Witness`, `Whole`), calls/Orders (`Ordered`), calls/SplitRoots
--- (`NoSplit`), census/Census (`Last`), calls/Batches and exactly/Batches (`MadeOf`, `GoesOn`), and in pole_rule/proofs/Misfits (`CutShort`) and text_rule/proofs/FileNumbers (`Readable`, `Short`).
+-- taken, as c, and P of it; `TookBoth s a P` that then the divisor record was, as x, and P of both. What is asked is written out in rules/proofs: Exactly/ (curves, divisors), Calls/Decided (`Marked`, `Witness`, `Whole`), Calls/Orders (`Ordered`), Calls/SplitRoots
+-- (`NoSplit`), Census/Census (`Last`), Calls/Batches and Exactly/Batches (`MadeOf`, `GoesOn`), Pole/Misfits (`CutShort`), and in text_lines/proofs/Rule/FileNumbers (`Readable`, `Short`).
 use Prim.Native.Nat.{ℕ, ◌≤◌, ◌<◌}
 use mathlib.Core.Path.{◌≡◌, sym, ap, subst}
 use mathlib.Core.List.{List}

@@ -4,5 +4,5 @@
 use std::io;
 
 fn main(rt: HostRuntime) -> io::Result<()> {
-    text_files::print_census(&rt, "curve")
+    text_files::print_census(&rt, b"curve")
 }

@@ -1,6 +1,6 @@
 -- Document 01, "Numbers the tablet shows", 7 and 11 as tests to run: do f and its derivative share a factor of degree 1 or more, and does u
 -- divide f - v²? (That they decide `SquareFree` and `Valid`'s last condition is shown in proofs/Cantor: SquareFree, OnCurve.) And of W-207, 19: is a
--- divisor other than the neutral one? (calls/Keys.)
+-- divisor other than the neutral one? (proofs/Calls/Keys.)
 use mathlib.Core.List.{[], ◌∷◌}
 use Rattle.std.specs.Prelude.{Bool, ltb, length}
 use Rattle.std.proofs.Math.Bool.{true, false}

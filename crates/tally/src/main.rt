@@ -4,5 +4,5 @@
 use std::io;
 
 fn main(rt: HostRuntime) -> io::Result<()> {
-    text_files::print(&rt, "curve", "batch")
+    text_files::print(&rt, b"curve", b"batch")
 }

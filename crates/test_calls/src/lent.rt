@@ -1,4 +1,4 @@
-// For tests: a flat running total of one's own, lent to the exported scan, as C lends one.
+// For tests: a flat running total of one's own, lent to the scan that is exported, as C lends one.
 ghost use Rattle.scan_flat.specs.Flats.{scanned_as, FlatScanIs};
 
 use scan_flat::YubiRunning;

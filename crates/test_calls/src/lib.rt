@@ -1,4 +1,4 @@
-// A frame's call, run through the exported calls, and its line of text: what tools/README.md says of both. For tests: the contracts
+// A frame's call, run through the calls that are exported, and its line of text: what tools/README.md says of both. For tests: the contracts
 // say no more than safety asks.
 #![tactic(auto)]
 

@@ -170,7 +170,8 @@ fn run(rt: &impl Print, s: &[u8]) -> io::Result<()> {
 }
 
 fn main(rt: HostRuntime) -> io::Result<()> {
-    let mut text = [0u8; MOST];
+    // Room for one byte more, so that a text that is too long shows.
+    let mut text = [0u8; MOST + 1];
     let n = test_text::input::read(&mut rt.stdin(), &mut text)?;
     run(&rt, &text[..n])
 }

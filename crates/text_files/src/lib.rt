@@ -34,11 +34,14 @@ fn read_open(file: &mut impl Read, buf: &mut [u8]) -> FileRead
     FileRead::Holds(n)
 }
 
-// The file's bytes at the front of the buffer, as many as it has room for.
-pub fn read(rt: &impl Files, path: &str, buf: &mut [u8]) -> FileRead
+// The file's bytes at the front of the buffer, as many as it has room for. Paths of std are text: one that isn't can't be read.
+pub fn read(rt: &impl Files, path: &[u8], buf: &mut [u8]) -> FileRead
     ensures { Within result (length buf.old) }
 {
-    match fs::open(rt, path) {
+    let Ok(name) = str::from_utf8(path) else {
+        return FileRead::Unreadable;
+    };
+    match fs::open(rt, name) {
         Ok(mut file) => read_open(&mut file, buf),
         Err(_) => FileRead::Unreadable,
     }
@@ -46,7 +49,7 @@ pub fn read(rt: &impl Files, path: &str, buf: &mut [u8]) -> FileRead
 
 // Writes to standard output what crate `text_tally` makes of the two files, and nothing else. The buffers have room for one byte more than a file
 // may have, so that a file that is too long shows.
-pub fn print(rt: &(impl Files + Print), curve: &str, batch: &str) -> io::Result<()> {
+pub fn print(rt: &(impl Files + Print), curve: &[u8], batch: &[u8]) -> io::Result<()> {
     let mut s = [0u8; 65537];
     let mut t = [0u8; 65537];
     let c = read(rt, curve, &mut s);
@@ -82,7 +85,7 @@ fn print_lines(rt: &impl Print, c: Curve) -> io::Result<()>
 }
 
 // Writes to standard output the census of the training curve in a file, or the line of what refuses it, and nothing else.
-pub fn print_census(rt: &(impl Files + Print), curve: &str) -> io::Result<()> {
+pub fn print_census(rt: &(impl Files + Print), curve: &[u8]) -> io::Result<()> {
     let mut s = [0u8; 65537];
     let f = read(rt, curve, &mut s);
     let mut out = [0u8; 256];

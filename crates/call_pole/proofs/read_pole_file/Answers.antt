@@ -17,4 +17,4 @@ returns-then-read16-ne-VERSION c = other_version c.args.file.now c.args.out.now 
 
 pub returns : goal.returns
 returns c =
-    head_done c.args.file.now c.args.out.now (omega arith) (sym c.marked.ensures ∙ not-false _ (ap not c.if-not-marked.false)) (sym c.read16.ensures ∙ c.if-read16-ne-VERSION.false) c.read32.ensures.word c.read_rest.ensures
+    head_done c.args.file.now c.args.out.now (omega arith) (sym c.marked.ensures ∙ not-false _ (ap not c.if-not-marked.false)) (omega (arith, c.read16.ensures)) c.read32.ensures.word c.read_rest.ensures

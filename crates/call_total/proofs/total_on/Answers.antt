@@ -1,3 +1,4 @@
+use native.Mathlib.Omega.{arith}
 use Prim.Native.Nat.{◌-◌}
 use Rattle.call_answer.proofs.Turns.{read_taken}
 use Rattle.sum_lanes.proofs.Rows.{row_waiting}
@@ -41,7 +42,7 @@ pub overflow_add-result : goal.overflow_add-result
 overflow_add-result c = count_fits c.loop-a.invariant.total.going.room
 
 pub returns-in-Refused : goal.returns-in-Refused
-returns-in-Refused c = total_refuses _ _ c.loop-a.invariant.sound _ _ _ _ _ c.loop-a.invariant.total _ c.loop-a-test.true c.if-k-eq-MOST_COUNT.false c.divisor_at.ensures c.in-Refused.is
+returns-in-Refused c = total_refuses _ _ c.loop-a.invariant.sound _ _ _ _ _ c.loop-a.invariant.total _ c.loop-a-test.true (omega arith) c.divisor_at.ensures c.in-Refused.is
 
 pub overflow_add-a : goal.overflow_add-a
 overflow_add-a c =

@@ -30,7 +30,7 @@ pub without-left-requires : goal.without-left-requires
 without-left-requires c = (c.loop-i.invariant.1.some, (decided_yes {A = SmallPrime _} {b = c.is_small_prime.result} (not-false c.is_small_prime.result (ap not c.if-not-is_small_prime.false)) c.is_small_prime.ensures).is.two)
 
 pub loop-i-preserved : goal.loop-i-preserved
-loop-i-preserved c = let e : length c.args.q ≡ 15 = search (rules, length_of) in (omega (arith, c.loop-i-test.true), left_turn c.args.n (take c.args.k c.args.q) _ c.loop-i.last c.loop-i.left _ _ c.loop-i.invariant.1 (next c.args.q c.args.k c.loop-i.i (omega (arith, c.requires.1)) 0 c.loop-i-test.true) (omega (arith, c.if-x-last.false)) (decided_yes {A = SmallPrime _} {b = c.is_small_prime.result} (not-false c.is_small_prime.result (ap not c.if-not-is_small_prime.false)) c.is_small_prime.ensures) c.if-left-x-ne0.false c.without-left.result c.without-left.ensures)
+loop-i-preserved c = let e : length c.args.q ≡ 15 = search (rules, length_of) in (omega (arith, c.loop-i-test.true), left_turn c.args.n (take c.args.k c.args.q) _ c.loop-i.last c.loop-i.left _ _ c.loop-i.invariant.1 (next c.args.q c.args.k c.loop-i.i (omega (arith, c.requires.1)) 0 c.loop-i-test.true) (omega arith) (decided_yes {A = SmallPrime _} {b = c.is_small_prime.result} (not-false c.is_small_prime.result (ap not c.if-not-is_small_prime.false)) c.is_small_prime.ensures) c.if-left-x-ne0.false c.without-left.result c.without-left.ensures)
 
 pub returns : goal.returns
 returns c = let e : length c.args.q ≡ 15 = search (rules, length_of) in left_end c.args.n (take c.args.k c.args.q) _ c.loop-i.last c.loop-i.left c.loop-i.invariant.1 (at_end c.args.q c.args.k c.loop-i.i (omega (arith, c.requires.1)) (omega (arith, c.loop-i-test.false)) c.loop-i.invariant.0)

@@ -1,3 +1,4 @@
+use native.Mathlib.Omega.{arith}
 use borrow.Author.Tests.{not-true, not-false}
 use mathlib.Core.Path.{sym, ◌∙◌}
 use Rattle.rules.specs.Bytes.{number}
@@ -15,7 +16,7 @@ pub returns-then-low-eq0 : goal.returns-then-low-eq0
 returns-then-low-eq0 c = not_zero c.args.c c.args.a c.args.order.now c.args.primes.now (number c.from_bytes-n.result) c.from_bytes-n.ensures (capped_none (number c.from_bytes-n.result) c.capped-low.result c.capped-low.ensures c.if-low-eq0.true)
 
 pub is_made_of-requires : goal.is_made_of-requires
-is_made_of-requires c = capped_some (number c.from_bytes-n.result) c.capped-low.result c.capped-low.ensures c.if-low-eq0.false
+is_made_of-requires c = capped_some (number c.from_bytes-n.result) c.capped-low.result c.capped-low.ensures (omega arith)
 
 pub returns-then-not-is_made_of : goal.returns-then-not-is_made_of
 returns-then-not-is_made_of c = not_made c.args.c c.args.a c.args.order.now c.args.primes.now (number c.from_bytes-n.result) c.from_bytes-n.ensures (decided_no {A = MadeOf _ _} {b = c.is_made_of.result} (not-true c.is_made_of.result (ap not c.if-not-is_made_of.true)) c.is_made_of.ensures)
@@ -32,5 +33,5 @@ is_none_below-requires c =
 
 pub returns : goal.returns
 returns c =
-    decided c.args.c c.args.a c.args.order.now c.args.primes.now (number c.from_bytes-n.result) c.from_bytes-n.ensures (capped_some (number c.from_bytes-n.result) c.capped-low.result c.capped-low.ensures c.if-low-eq0.false) c.if-primes-ne0.false c.if-primes-gt-MOST_LISTED.false
+    decided c.args.c c.args.a c.args.order.now c.args.primes.now (number c.from_bytes-n.result) c.from_bytes-n.ensures (capped_some (number c.from_bytes-n.result) c.capped-low.result c.capped-low.ensures c.if-low-eq0.false) c.if-primes-ne0.false (omega arith)
     (decided_yes {A = MadeOf _ _} {b = c.is_made_of.result} (not-false c.is_made_of.result (ap not c.if-not-is_made_of.false)) c.is_made_of.ensures) (sym c.is_neutral_fold.ensures.is ∙ not-false c.is_neutral_fold.result (ap not c.if-not-is_neutral_fold.false)) c.is_none_below.result c.is_none_below.ensures.is

@@ -29,7 +29,7 @@ without-rest-requires c = let p = decided_yes {A = SmallPrime _} {b = c.is_small
 
 pub loop-i-preserved : goal.loop-i-preserved
 loop-i-preserved c =
-    let p = decided_yes {A = SmallPrime _} {b = c.is_small_prime.result} (not-false c.is_small_prime.result (ap not c.if-not-is_small_prime.false)) c.is_small_prime.ensures in looking_turn c.args.primes.now _ (number c.args.n) c.loop-i.last (number c.loop-i.left) c.loop-i.i c.loop-i.invariant c.loop-i-test.true c.read32-x.result c.read32-x.ensures.word (omega (arith, c.if-x-last.false)) p c.divide-d.result c.divide-d.ensures c.if-d-ne0.false (number c.without-rest.result) c.without-rest.ensures
+    let p = decided_yes {A = SmallPrime _} {b = c.is_small_prime.result} (not-false c.is_small_prime.result (ap not c.if-not-is_small_prime.false)) c.is_small_prime.ensures in looking_turn c.args.primes.now _ (number c.args.n) c.loop-i.last (number c.loop-i.left) c.loop-i.i c.loop-i.invariant c.loop-i-test.true c.read32-x.result c.read32-x.ensures.word (omega arith) p c.divide-d.result c.divide-d.ensures c.if-d-ne0.false (number c.without-rest.result) c.without-rest.ensures
 
 pub returns : goal.returns
 returns c = looking_end c.args.primes.now _ (number c.args.n) c.loop-i.last (number c.loop-i.left) c.loop-i.i c.loop-i.invariant c.loop-i-test.false c.capped-low.result c.capped-low.ensures

@@ -28,4 +28,4 @@ pub returns-then-count-eq-MOST_COUNT : goal.returns-then-count-eq-MOST_COUNT
 returns-then-count-eq-MOST_COUNT c = full c.args.c c.args.d c.args.count _ c.weight.ensures c.if-g-weight.false (decided_yes {b = c.in_range.result} (not-false _ (ap not c.if-not-in_range.false)) c.in_range.ensures) _ c.residues_of-x.ensures (decided_yes {b = c.contains.result} (not-false _ (ap not c.if-not-contains.false)) c.contains.ensures) (omega (arith, c.if-count-eq-MOST_COUNT.true, c.if-count-gt-MOST_COUNT.false))
 
 pub returns : goal.returns
-returns c = goes_on c.args.c c.args.d c.args.count _ c.weight.ensures c.if-g-weight.false (decided_yes {b = c.in_range.result} (not-false _ (ap not c.if-not-in_range.false)) c.in_range.ensures) _ c.residues_of-x.ensures (decided_yes {b = c.contains.result} (not-false _ (ap not c.if-not-contains.false)) c.contains.ensures) (omega (arith, c.if-count-eq-MOST_COUNT.false, c.if-count-gt-MOST_COUNT.false))
+returns c = goes_on c.args.c c.args.d c.args.count _ c.weight.ensures c.if-g-weight.false (decided_yes {b = c.in_range.result} (not-false _ (ap not c.if-not-in_range.false)) c.in_range.ensures) _ c.residues_of-x.ensures (decided_yes {b = c.contains.result} (not-false _ (ap not c.if-not-contains.false)) c.contains.ensures) (omega arith)

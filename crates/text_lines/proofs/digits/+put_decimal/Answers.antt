@@ -16,12 +16,12 @@ returns-then-n-lt10 t c =
 
 pub put_decimal-b-requires : goal.put_decimal-b-requires
 put_decimal-b-requires t c =
-    (omega (arith, c.if-n-lt10.false), room_front (decimal (c.args.n / 10)) _ (decimal_large c.args.n c.if-n-lt10.false) c.args.a c.requires)
+    (omega arith, room_front (decimal (c.args.n / 10)) _ (decimal_large c.args.n (omega arith)) c.args.a c.requires)
 
 pub put_byte-requires-2 : goal.put_byte-requires-2
 put_byte-requires-2 t c =
-    room_last (decimal (c.args.n / 10)) _ (decimal_large c.args.n c.if-n-lt10.false) c.args.a c.requires c.put_decimal-b.ensures
+    room_last (decimal (c.args.n / 10)) _ (decimal_large c.args.n (omega arith)) c.args.a c.requires c.put_decimal-b.ensures
 
 pub returns : goal.returns
 returns t c =
-    put_last (decimal (c.args.n / 10)) _ (decimal_large c.args.n c.if-n-lt10.false) c.args.a c.requires c.put_decimal-b.ensures c.letter-2.ensures c.put_byte-2.ensures
+    put_last (decimal (c.args.n / 10)) _ (decimal_large c.args.n (omega arith)) c.args.a c.requires c.put_decimal-b.ensures c.letter-2.ensures c.put_byte-2.ensures

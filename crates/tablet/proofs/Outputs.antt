@@ -1,0 +1,11 @@
+-- A fresh total is the rule's.
+use Prim.Native.Nat.{ℕ}
+use mathlib.Core.Path.{◌≡◌}
+use Rattle.rules.specs.Calls.{fresh}
+use Rattle.scan_total.specs.declared.Running.{Running}
+use Rattle.scan_total.specs.Totals.{Fresh}
+use Rattle.scan_record.specs.Scans.{running_of}
+use Rattle.scan_flat.specs.Flats.{flat_running}
+
+pub fresh_is : (pole : ℕ) (t : Running) → Fresh pole t → flat_running (running_of t) ≡ flat_running (fresh pole)
+fresh_is pole t h = λ i. flat_running (running_of (record { divisor = h.neutral i; count = h.none i; pole = h.given i }))
