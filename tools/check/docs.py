@@ -77,7 +77,7 @@ STATED = [
     ("docs/PROVED.md", "The contracts take N.", lambda: sum(counts.believed()[0][0].values())),
     ("docs/PROVED.md", "names N lines more", lambda: sum(counts.believed()[0][1].values())),
     ("docs/PROVED.md", "N lines of ring laws", lambda: counts.believed()[1]),
-    ("docs/PROVED.md", "proves N crates from nothing, has N wrong programs refused, and runs N programs", lambda: counts.gate()[:3]),
+    ("docs/PROVED.md", "proves N crates, has N wrong programs refused, and runs N programs", lambda: counts.gate()[:3]),
     ("docs/proofs/CALLS.md", "`tablet_c`: the N exports", lambda: len(counts.exports())),
     ("docs/proofs/CALLS.md", "of each of the N exports", lambda: len(counts.exports())),
     ("docs/proofs/PROGRAMS.md", "all N calls of `tablet` are made", lambda: len(counts.exports())),

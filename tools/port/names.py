@@ -13,7 +13,7 @@ import re
 import subprocess
 import sys
 
-HEAD = re.compile(r"^\s*(?:(?:abbrev|unfoldable|opaque|instance|pub)\s+)*(?:(?:data|record|syntax)\s+)?(?:pub\s+)?([^\s:(){}]+)\s*(?:[({].*)?\s:\s")
+HEAD = re.compile(r"^\s*(?:(?:abbrev|unfoldable|opaque|instance|pub)\s+)*(?:(?:data|record|syntax)\s+)?(?:pub\s+)?([^\s(){}]+)\s*(?:[({].*)?\s:\s")
 
 
 MOVED = {"crates/poly/specs/Contracts.antt": "crates/poly/specs/Operations.antt"}
@@ -46,7 +46,7 @@ def declared(commit, path):
 def laws(commit):
     """The files of specs/ and of laws in proofs/."""
     names = git("ls-tree", "-r", "--name-only", commit, "crates").split()
-    return [p for p in names if p.endswith(".antt") and not p.endswith(("/Lib.antt", "/Proof.antt", "/Invariants.antt", "/Answers.antt"))]
+    return [p for p in names if p.endswith(".antt") and not p.endswith(("/Lib.antt", "/Proof.antt"))]
 
 
 def main():
