@@ -8,7 +8,7 @@ pub returns-then-scalar-gt-MOST_SCALAR : goal.returns-then-scalar-gt-MOST_SCALAR
 returns-then-scalar-gt-MOST_SCALAR c = factors_long c.args.curve.now c.args.a.now c.args.scalar.now _ _ (subst (OneIs c.args.curve.now c.args.a.now) c.in-Taken.is c.read_curve_and_divisor.ensures) c.if-scalar-gt-MOST_SCALAR.true
 
 pub returns-then-given-eq0 : goal.returns-then-given-eq0
-returns-then-given-eq0 c = factors_empty c.args.curve.now c.args.a.now c.args.scalar.now _ _ (subst (OneIs c.args.curve.now c.args.a.now) c.in-Taken.is c.read_curve_and_divisor.ensures) c.if-scalar-gt-MOST_SCALAR.false (sym c.weight-given.ensures ∙ c.if-given-eq0.true)
+returns-then-given-eq0 c = factors_empty c.args.curve.now c.args.a.now c.args.scalar.now _ _ (subst (OneIs c.args.curve.now c.args.a.now) c.in-Taken.is c.read_curve_and_divisor.ensures) (omega arith) (sym c.weight-given.ensures ∙ c.if-given-eq0.true)
 
 pub returns-else-given-eq0 : goal.returns-else-given-eq0
 returns-else-given-eq0 c = factors_taken c.args.curve.now c.args.a.now c.args.scalar.now _ _ (subst (OneIs c.args.curve.now c.args.a.now) c.in-Taken.is c.read_curve_and_divisor.ensures) (omega arith) (λ w. c.if-given-eq0.false (c.weight-given.ensures ∙ w))
