@@ -22,8 +22,8 @@ if [ "${1:-}" = --loop ]; then works=("${loop[@]}"); fi
 want_rust
 library
 
-# The product of two words is written by halves, since no type here is wider than a word, and the compiler is to make one
-# multiplication of it. Then a product of residues has three, one and two for its reduction, or four where the compiler multiplies a
+# The high word of a product comes from a number of 128 bits, the low one by a product that wraps, and the compiler is to make one
+# multiplication of the two. Then a product of residues has three, one and two for its reduction, or four where the compiler multiplies a
 # factor that it uses again by 1/p first; a sum of two products has four. Not folded a product has nine or more. These functions are
 # straight and stand by themselves in the library: how many products and sums of two products each has is by its source.
 objdump=objdump binutils=binutils

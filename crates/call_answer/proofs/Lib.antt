@@ -1,4 +1,3 @@
-pub mod Firsts
 pub mod Written
-pub mod Calls
 pub mod Turns
+pub mod Owned

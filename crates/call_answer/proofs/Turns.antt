@@ -14,17 +14,18 @@ use Rattle.divisor.specs.Divisors.{pair}
 use Rattle.curve.specs.declared.Curve.{Curve}
 use Rattle.curve.specs.Curves.{Holds}
 use Rattle.curve.specs.Record.{record_of}
-use Rattle.record_divisor.specs.declared.DivisorRead.{DivisorRead}
-use Rattle.record_divisor.specs.declared.DivisorRead.TheVariants.{Taken, Refused}
+use Rattle.std.specs.Prelude.{Result, Ok, Err}
+use Rattle.refusals.specs.declared.Refusal.{Refusal}
+use Rattle.refusals.specs.Refusal.{number_of}
 use Rattle.record_divisor.specs.Read.{DivisorIs}
 use Rattle.rules.proofs.Calls.Steps.{at_end, too_many, stops, goes_on}
 
 -- ---- what a read record says, by its case
-module _ (c : Curve) (s : List ℕ) (a : ℕ) (r : DivisorRead) (is : DivisorIs c false s a r) where
-  pub read_taken : {d : Divisor} → r ≡ Taken d → Holds c d × ((k : ℕ) → divisor_at (record_of c) k false s a ≡ taken (pair c.m d))
+module _ (c : Curve) (s : List ℕ) (a : ℕ) (r : Result Divisor Refusal) (is : DivisorIs c false s a r) where
+  pub read_taken : {d : Divisor} → r ≡ Ok d → Holds c d × ((k : ℕ) → divisor_at (record_of c) k false s a ≡ taken (pair c.prime.m d))
   read_taken e = subst (DivisorIs c false s a) e is
 
-  read_refused : {n : ℕ} → r ≡ Refused n → (k : ℕ) → divisor_at (record_of c) k false s a ≡ refused n k
+  read_refused : {by : Refusal} → r ≡ Err by → (k : ℕ) → divisor_at (record_of c) k false s a ≡ refused (number_of by) k
   read_refused e = subst (DivisorIs c false s a) e is
 
 module _ {A : Type 0} (c : Curve) (step : A → PairOf (record_of c) → A) (s : List ℕ) (start : A) where
@@ -49,11 +50,11 @@ module _ {A : Type 0} {c : Curve} {step : A → PairOf (record_of c) → A} {s :
     pub full : k ≡ 4096 → whole ≡ refused 14 0
     full e = sym (with_left 0 (omega arith)) ∙ too_many (record_of c) step s a k from more
 
-    module _ (room : k < 4096) (r : DivisorRead) (is : DivisorIs c false s a r) where
-      pub refuses : {n : ℕ} → r ≡ Refused n → whole ≡ refused n (k + 1)
+    module _ (room : k < 4096) (r : Result Divisor Refusal) (is : DivisorIs c false s a r) where
+      pub refuses : {by : Refusal} → r ≡ Err by → whole ≡ refused (number_of by) (k + 1)
       refuses e = sym (with_left (suc (4096 - (k + 1))) (omega arith)) ∙ stops (record_of c) step s a k from more (4096 - (k + 1)) (read_refused c s a r is e (k + 1))
 
-      pub turns : {d : Divisor} {w : ℕ} {next : A} → r ≡ Taken d → w ≡ get_or s a 0 → next ≡ step from (pair c.m d) → Going c step s start (k + 1) (a + 1 + 16 * w) next
+      pub turns : {d : Divisor} {w : ℕ} {next : A} → r ≡ Ok d → w ≡ get_or s a 0 → next ≡ step from (pair c.prime.m d) → Going c step s start (k + 1) (a + 1 + 16 * w) next
       turns e v n = record {
         room = omega arith;
         runs = rw (v, n) (sym (goes_on (record_of c) step s a k from more (4096 - (k + 1)) ((read_taken c s a r is e).1 (k + 1))) ∙ with_left (suc (4096 - (k + 1))) (omega arith));

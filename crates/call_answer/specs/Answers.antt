@@ -1,68 +1,35 @@
--- Document 01, "Language form": where an answer is an enum, the promises use a definition that gives the paper's number and values for each of
--- its cases. One enum is every call's answer, so one definition serves them all.
-use Rattle.std.specs.Prelude.{ℕ, ◌≤◌, ◌<◌, ◌≡◌, List, length}
+-- Document 01, "Language form": a call's `Result` as the paper's number, place and values; one definition serves every call.
+use Rattle.std.specs.Prelude.{◌⊎◌, ℕ, ◌≤◌, ◌<◌, ◌≡◌, Result, Ok, Err, List, [], length, false}
 use Rattle.std.proofs.lemmas.List.Edits.{sets}
-use Rattle.rules.specs.Checks.{Checked, refused, taken, go_on}
-use Rattle.rules.specs.Records.{CurveRecord, PairOf, read_curve, read_divisor, divisor_bytes}
-use Rattle.rules.specs.Calls.{Answer as RuleAnswer, Result, Reply, refusal, done, deliver, from_one}
+use Rattle.rules.specs.Checks.{Checked, refused, taken}
+use Rattle.rules.specs.Records.{CurveRecord, read_curve, read_divisor, divisor_bytes}
+use Rattle.rules.specs.Calls.{Answer as RuleAnswer, Result as RuleResult, Reply, done, stop}
 use Rattle.rules.proofs.Calls.Written.{Written}
+use Rattle.refusals.specs.declared.Refused.{Refused}
+use Rattle.refusals.specs.Refusal.{number_of}
 use Rattle.divisor.specs.declared.Divisor.{Divisor}
 use Rattle.divisor.specs.Divisors.{pair, Held}
 use Rattle.curve.specs.declared.Curve.{Curve}
-use Rattle.curve.specs.Curves.{Sound, Holds}
+use Rattle.curve.specs.Curves.{Holds}
 use Rattle.curve.specs.Record.{record_of}
-use Rattle.call_answer.specs.declared.Answer.{Answer}
-use Rattle.call_answer.specs.declared.Answer.TheVariants.{Done, Refused}
-use Rattle.call_answer.specs.declared.Made.{Made}
-use Rattle.call_answer.specs.declared.Made.TheVariants.{Done as DoneMade, Refused as RefusedMade}
-use Rattle.call_answer.specs.declared.CurveAndDivisor.{CurveAndDivisor}
-use Rattle.call_answer.specs.declared.CurveAndDivisor.TheVariants.{Taken, Refused as RefusedFirst}
+use Rattle.record_divisor.specs.Read.{DivisorIs}
 
--- number, place and length of an answer; and the call's own two numbers, 0 and 0 on a refusal
-abbrev pub Values : Type 0
-Values = RuleAnswer × (ℕ × ℕ)
+-- ---- a call's whole reply, by what it answers and the output as it returns: `none` for its own numbers where it refuses
+abbrev pub reply : {T N : Type 0} → N → (T → ℕ × N) → Result T Refused → List ℕ → Reply N
+reply none view (Ok t) o = record { answer = done (view t).0; out = o; own = (view t).1 }
+reply none view (Err r) o = stop none o (number_of r.by) r.place
 
-abbrev pub values_of : Answer → Values
-values_of (Done n i j) = (done n, (i, j))
-values_of (Refused n k) = (refusal n k, (0, 0))
+-- the rule's, of a call that answers the length that it wrote; and of a check, which writes nothing
+abbrev pub Wrote : Result ℕ Refused → List ℕ → Written → Type 0
+Wrote r o rule = reply tt (λ n. (n, tt)) r o ≡ rule
 
--- the values and the output as the call returns are the rule's; `two` has the call's own numbers as two, 0 where it has fewer
-pub record AnswerIs {N : Type 0} (two : N → ℕ × ℕ) (r : Answer) (out : List ℕ) (rule : Reply N) : Type 0 where
-  pub values : values_of r ≡ (rule.answer, two rule.own)
-  pub bytes : out ≡ rule.out
+-- what a call makes, before it is delivered: a divisor on the curve that was read, or the rule's refusal
+abbrev pub Makes : Result (Curve × Divisor) Refused → Checked (RuleResult (Unit {0})) → Type 0
+Makes (Ok x) rule = Held x.0.prime.m x.1 × (rule ≡ taken (record { bytes = divisor_bytes x.0.prime.m.p (pair x.0.prime.m x.1); own = tt }))
+Makes (Err r) rule = rule ≡ refused (number_of r.by) r.place
 
--- of a call with no numbers of its own; and of a check, which writes nothing besides
-abbrev pub Wrote : Answer → List ℕ → Written → Type 0
-Wrote r out rule = AnswerIs (λ (x : Unit {0}). (0, 0)) r out rule
-
-abbrev pub CheckIs : Answer → RuleAnswer → Type 0
-CheckIs r rule = values_of r ≡ (rule, (0, 0))
-
--- ---- what a call makes, as the rule has it; `Makes` is of a call with no numbers of its own
-abbrev pub result_of : Made → Checked (Result (ℕ × ℕ))
-result_of (DoneMade d m i j) = taken (record { bytes = divisor_bytes m.p (pair m d); own = (i, j) })
-result_of (RefusedMade n k) = refused n k
-
-abbrev pub AllHeld : Made → Type 0
-AllHeld (DoneMade d m i j) = Held m d
-AllHeld (RefusedMade n k) = Unit {0}
-
-abbrev pub by_two : {N : Type 0} → (N → ℕ × ℕ) → Checked (Result N) → Checked (Result (ℕ × ℕ))
-by_two two x = go_on x (λ r. taken (record { bytes = r.bytes; own = two r.own }))
-
-pub record MadeIs {N : Type 0} (two : N → ℕ × ℕ) (r : Made) (rule : Checked (Result N)) : Type 0 where
-  pub held : AllHeld r
-  pub is : result_of r ≡ by_two two rule
-
-abbrev pub Makes : Made → Checked (Result (Unit {0})) → Type 0
-Makes r rule = MadeIs (λ (x : Unit {0}). (0, 0)) r rule
-
-abbrev pub Delivered : Made → List ℕ → Answer → List ℕ → Type 0
-Delivered made out r o = AnswerIs (λ (x : ℕ × ℕ). x) r o (deliver (0, 0) out (result_of made))
-
--- the divisor that was read
-abbrev pub same_divisor : List ℕ → List ℕ → Checked (Result (Unit {0}))
-same_divisor s a = from_one (λ c x. x) s a
+abbrev pub CheckIs : Result (Unit {0}) Refused → RuleAnswer → Type 0
+CheckIs r rule = (reply tt (λ x. (0, x)) r []).answer ≡ rule
 
 -- bytes put at the front of an output where they fit; n is how many
 pub record PutIs (out bytes o : List ℕ) (n : ℕ) : Type 0 where
@@ -72,18 +39,24 @@ pub record PutIs (out bytes o : List ℕ) (n : ℕ) : Type 0 where
   pub all : (n ≡ 0 → ⊥) → n ≡ length bytes
   pub put : (n ≡ 0 → ⊥) → o ≡ sets out 0 bytes
 
--- ---- a curve and the first divisor on it
-abbrev pub FirstRead : Type 0
-FirstRead = (c : CurveRecord) × PairOf c
+-- ---- a divisor at a place; a curve and the first divisor on it
+abbrev pub ReadIs : Curve → ℕ → List ℕ → Result Divisor Refused → Type 0
+ReadIs c k a (Ok d) = Holds c d × (read_divisor (record_of c) k a ≡ taken (pair c.prime.m d))
+ReadIs c k a (Err r) = read_divisor (record_of c) k a ≡ refused (number_of r.by) r.place
 
-abbrev pub one_rule : List ℕ → List ℕ → Checked FirstRead
-one_rule s a = go_on (read_curve s) (λ c. go_on (read_divisor c 1 a) (λ x. taken (c, x)))
+-- a record of a batch, at a place of its own
+abbrev pub RecordIs : Curve → List ℕ → ℕ → ℕ → Result Divisor Refused → Type 0
+RecordIs c s a k (Ok d) = DivisorIs c false s a (Ok d)
+RecordIs c s a k (Err r) = DivisorIs c false s a (Err r.by) × (r.place ≡ k)
 
 pub record Firsts (s a : List ℕ) (c : Curve) (d : Divisor) : Type 0 where
-  pub sound : Sound c
   pub holds : Holds c d
-  pub is : one_rule s a ≡ taken (record_of c, pair c.m d)
+  pub curve : read_curve s ≡ taken (record_of c)
+  pub divisor : read_divisor (record_of c) 1 a ≡ taken (pair c.prime.m d)
 
-abbrev pub OneIs : List ℕ → List ℕ → CurveAndDivisor → Type 0
-OneIs s a (Taken c d) = Firsts s a c d
-OneIs s a (RefusedFirst n k) = one_rule s a ≡ refused n k
+abbrev pub NoFirst : List ℕ → List ℕ → ℕ → ℕ → Type 0
+NoFirst s a n k = (read_curve s ≡ refused n k) ⊎ ((c : CurveRecord) × (read_curve s ≡ taken c) × (read_divisor c 1 a ≡ refused n k))
+
+abbrev pub OneIs : List ℕ → List ℕ → Result (Curve × Divisor) Refused → Type 0
+OneIs s a (Ok x) = Firsts s a x.0 x.1
+OneIs s a (Err r) = NoFirst s a (number_of r.by) r.place

@@ -1,115 +1,88 @@
-// The calls inside Rattle, in the shape of document 01: records in as bytes, each checked here and once; an enum out, and the result at the
+// The calls inside Rattle, in the shape of document 01: records in as bytes, each checked here and once; a `Result` out, and what is made at the
 // front of the output. Every promise is an equation with the call's rule. Here: what reads and what writes, the checks and the rewrites.
 #![tactic(auto)]
 
-ghost use Rattle.rules.specs.Calls.{check_curve, check_divisor, rewrite_curve, rewrite_divisor};
-ghost use Rattle.call_answer.specs.Answers.{CheckIs, OneIs, AllHeld, Delivered, Makes, Wrote, same_divisor};
+ghost use Rattle.std.specs.Prelude.{◌≤◌, length};
+ghost use Rattle.rules.specs.Calls.{check_curve, check_divisor, rewrite_curve, rewrite_divisor, write};
+ghost use Rattle.rules.specs.Records.{divisor_bytes};
+ghost use Rattle.divisor.specs.Divisors.{Held, pair};
+ghost use Rattle.call_answer.specs.Answers.{ReadIs, RecordIs, OneIs, CheckIs, Wrote};
 
 use curve::Curve;
 use divisor::Divisor;
 use field::Modulus;
-use record_curve::CurveRead;
-use record_divisor::DivisorRead;
+use refusals::{Refusal, Refused};
 
-// What a call answers: done, with the length written and the call's own two numbers, 0 where it has fewer; or a number and its place.
-#[derive(Clone, Copy)]
-pub enum Answer {
-    Done(u64, u64, u64),
-    Refused(u64, u64),
+// The divisor record that is the whole of a, at its place.
+pub fn read_divisor(c: Curve, place: u64, a: &[u8]) -> Result<Divisor, Refused>
+    ensures { ReadIs c place a.now result }
+{
+    record_divisor::divisor_at(c, true, a, 0).map_err(|by| by.at(place))
 }
 
-// A curve and the first divisor on it, or a number and its place.
-#[derive(Clone, Copy)]
-pub enum CurveAndDivisor {
-    Taken(Curve, Divisor),
-    Refused(u64, u64),
+// The divisor record at a of a batch, whatever follows it, at its place.
+pub fn record_at(c: Curve, s: &[u8], a: usize, place: u64) -> Result<Divisor, Refused>
+    requires { a ≤ length s.now }
+    ensures { RecordIs c s.now a place result }
+{
+    record_divisor::divisor_at(c, false, s, a).map_err(|by| by.at(place))
 }
 
-pub fn read_curve_and_divisor(curve: &[u8], a: &[u8]) -> CurveAndDivisor
+pub fn read_curve_and_divisor(curve: &[u8], a: &[u8]) -> Result<(Curve, Divisor), Refused>
     ensures { OneIs curve.now a.now result }
 {
-    match record_curve::read_curve(curve) {
-        CurveRead::Taken(c) => match record_divisor::divisor_at(c, true, a, 0) {
-            DivisorRead::Taken(d) => CurveAndDivisor::Taken(c, d),
-            DivisorRead::Refused(n) => CurveAndDivisor::Refused(n, 1),
-        },
-        CurveRead::Refused(n) => CurveAndDivisor::Refused(n, 0),
-    }
+    let c = record_curve::read_curve(curve)?;
+    let x = read_divisor(c, 1, a)?;
+    Ok((c, x))
 }
 
-// What a call makes: a divisor under its modulus with the call's own two numbers, 0 where it has fewer; or a number and its place.
-#[derive(Clone, Copy)]
-pub enum Made {
-    Done(Divisor, Modulus, u64, u64),
-    Refused(u64, u64),
-}
-
-// What was made at the front of the output, and the answer: 13 where the output is shorter. What is refused leaves it as it is.
-pub fn deliver(made: Made, out: &mut [u8]) -> Answer
-    requires { AllHeld made }
-    ensures { Delivered made out.old result out.new }
+// A divisor at the front of the output, and its length there: refused where the output is shorter, which leaves it as it is.
+#[tactic(auto, using(crate::proofs::Written::deliver_short, crate::proofs::Written::deliver_whole))]
+pub fn deliver(d: Divisor, m: Modulus, out: &mut [u8]) -> Result<u64, Refused>
+    requires { Held m d }
+    ensures { Wrote result out.new (write out.old (divisor_bytes m.p (pair m d))) }
 {
-    match made {
-        Made::Done(d, m, i, j) => {
-            let n = record_numbers::write::record_length(d);
-            if out.len() < n {
-                return Answer::Refused(refusals::OUTPUT_LENGTH, 0);
-            }
-            record_numbers::write::write_divisor(d, m, out);
-            Answer::Done(n as u64, i, j)
-        }
-        Made::Refused(n, k) => Answer::Refused(n, k),
+    let n = record_numbers::write::record_length(d);
+    if out.len() < n {
+        return Err(Refusal::OutputLength.at(0));
     }
+    record_numbers::write::write_divisor(d, m, out);
+    Ok(n as u64)
 }
 
-pub fn check_curve(curve: &[u8]) -> Answer
+#[tactic(auto, unfolding(rules::specs::Calls::check_curve))]
+pub fn check_curve(curve: &[u8]) -> Result<(), Refused>
     ensures { CheckIs result (check_curve curve.now) }
 {
-    match record_curve::read_curve(curve) {
-        CurveRead::Taken(_c) => Answer::Done(0, 0, 0),
-        CurveRead::Refused(n) => Answer::Refused(n, 0),
-    }
+    record_curve::read_curve(curve)?;
+    Ok(())
 }
 
-pub fn check_divisor(curve: &[u8], a: &[u8]) -> Answer
+#[tactic(auto, unfolding(rules::specs::Calls::check_divisor))]
+pub fn check_divisor(curve: &[u8], a: &[u8]) -> Result<(), Refused>
     ensures { CheckIs result (check_divisor curve.now a.now) }
 {
-    match read_curve_and_divisor(curve, a) {
-        CurveAndDivisor::Taken(_c, _d) => Answer::Done(0, 0, 0),
-        CurveAndDivisor::Refused(n, k) => Answer::Refused(n, k),
-    }
+    read_curve_and_divisor(curve, a)?;
+    Ok(())
 }
 
 // What was read and checked is written as it stood.
-pub fn rewrite_curve(curve: &[u8], out: &mut [u8]) -> Answer
+#[tactic(auto, unfolding(rules::specs::Calls::rewrite_curve))]
+pub fn rewrite_curve(curve: &[u8], out: &mut [u8]) -> Result<u64, Refused>
     ensures { Wrote result out.new (rewrite_curve curve.now out.old) }
 {
-    match record_curve::read_curve(curve) {
-        CurveRead::Taken(_c) => {
-            if out.len() < curve.len() {
-                return Answer::Refused(refusals::OUTPUT_LENGTH, 0);
-            }
-            record_bytes::write_bytes(out, 0, curve);
-            Answer::Done(curve.len() as u64, 0, 0)
-        }
-        CurveRead::Refused(n) => Answer::Refused(n, 0),
+    record_curve::read_curve(curve)?;
+    if out.len() < curve.len() {
+        return Err(Refusal::OutputLength.at(0));
     }
+    record_bytes::write_bytes(out, 0, curve);
+    Ok(curve.len() as u64)
 }
 
-fn read_again(curve: &[u8], a: &[u8]) -> Made
-    ensures { Makes result (same_divisor curve.now a.now) }
-{
-    match read_curve_and_divisor(curve, a) {
-        CurveAndDivisor::Taken(c, d) => {
-            let m = c.m;
-            Made::Done(d, m, 0, 0)
-        }
-        CurveAndDivisor::Refused(n, k) => Made::Refused(n, k),
-    }
-}
-
-pub fn rewrite_divisor(curve: &[u8], a: &[u8], out: &mut [u8]) -> Answer
+#[tactic(auto, unfolding(rules::specs::Calls::rewrite_divisor))]
+pub fn rewrite_divisor(curve: &[u8], a: &[u8], out: &mut [u8]) -> Result<u64, Refused>
     ensures { Wrote result out.new (rewrite_divisor curve.now a.now out.old) }
 {
-    deliver(read_again(curve, a), out)
+    let (c, x) = read_curve_and_divisor(curve, a)?;
+    deliver(x, c.prime.m, out)
 }

@@ -4,23 +4,16 @@ ghost use Rattle.rules.specs.Records.{us_at};
 ghost use Rattle.rules.specs.Calls.{repeat_call};
 ghost use Rattle.rules.specs.First.{FirstIs};
 ghost use Rattle.field.specs.Primes.{Decides};
-ghost use Rattle.curve.specs.Curves.{Sound};
 ghost use Rattle.call_batch.specs.repeat.Repeats.{repeat_on, RepeatIs};
 ghost use Rattle.call_batch.specs.repeat.Chains.{mix, chain_of, Whole, Excludes, lowest32, lowest64};
 ghost use Rattle.call_batch.specs.repeat.Rows.{Row, SameAs, SameIn, Rows, places_of};
 
-use call_answer::Answer;
+use crate::places::Repeat;
 use curve::Curve;
-use record_curve::CurveRead;
-use record_divisor::DivisorRead;
-
-#[derive(Clone, Copy)]
-pub enum Repeat {
-    Pair(usize, usize),
-    Nothing,
-}
+use refusals::{Refusal, Refused};
 
 // One more number in a hash of 32 bits.
+#[tactic(auto, unfolding(crate::specs::repeat::Chains::mix))]
 fn mixed(h: u64, x: u64) -> u64
     requires { h < 4294967296 }
     ensures { result ≡ mix h x }
@@ -35,31 +28,28 @@ fn chain(s: &[u8], a: usize) -> usize
 {
     let w = record_bytes::wide(s[a]) as usize;
     let mut h: u64 = 0;
-    let mut k: usize = 0;
-    while k < w {
+    for k in 0..w {
         h = mixed(h, record_bytes::read64(s, a + 1 + 8 * k));
-        k += 1;
     }
     (h / 1048576) as usize
 }
 
-// Four bytes as a number, the lowest first, and eight: what the machine reads at once, and numbers that are only compared need no other order.
-fn low32(s: &[u8], a: usize) -> u64
-    requires { a + 4 ≤ length s.now }
-    ensures within { result < 4294967296 }
-    ensures word { result ≡ lowest32 s.now a }
-{
-    record_bytes::wide(s[a])
-        + 256
-            * (record_bytes::wide(s[a + 1])
-                + 256 * (record_bytes::wide(s[a + 2]) + 256 * record_bytes::wide(s[a + 3])))
-}
-
+// Eight bytes as a number, the lowest first: what the machine reads at once, and numbers that are only compared need no other order.
+#[tactic(auto, unfolding(crate::specs::repeat::Chains::lowest64))]
 fn low64(s: &[u8], a: usize) -> u64
     requires { a + 8 ≤ length s.now }
     ensures { result ≡ lowest64 s.now a }
 {
-    low32(s, a) + 4294967296 * low32(s, a + 4)
+    u64::from_le_bytes([
+        s[a],
+        s[a + 1],
+        s[a + 2],
+        s[a + 3],
+        s[a + 4],
+        s[a + 5],
+        s[a + 6],
+        s[a + 7],
+    ])
 }
 
 // Whether the records at a and b may be of one meter, by their bytes: good records have one form, so that weight and u must be the same.
@@ -91,85 +81,75 @@ fn may_be_same(s: &[u8], a: usize, b: usize) -> bool
 
 // Whether the records at a and b are of one meter, by what is read there again.
 fn alike(c: Curve, s: &[u8], a: usize, b: usize) -> bool
-    requires { Sound c × (Row c s.now a × Row c s.now b) }
+    requires { Row c s.now a × Row c s.now b }
     ensures { Decides result (SameAs c s.now a b) }
 {
-    match record_divisor::divisor_at(c, false, s, a) {
-        DivisorRead::Taken(x) => match record_divisor::divisor_at(c, false, s, b) {
-            DivisorRead::Taken(y) => divisor_repeat::same(x, y, c.m),
-            DivisorRead::Refused(_) => false,
-        },
-        DivisorRead::Refused(_) => false,
-    }
+    let Ok(x) = record_divisor::divisor_at(c, false, s, a) else {
+        return false;
+    };
+    let Ok(y) = record_divisor::divisor_at(c, false, s, b) else {
+        return false;
+    };
+    divisor_repeat::same(x, y, c.prime.m)
 }
 
-// Of the first n records: least j, then least i < j, counted from 0. Each stands in its chain, the latest first: head has 1 and the place of a chain's
-// latest, before of each the one before it, and 0 where there is none. Both loops stop at the first pair of the same.
-fn search(c: Curve, s: &[u8], places: &[usize], n: usize) -> Repeat
-    requires { Sound c × Rows c s.now places.now n }
+// Of the first n records: least j, then least i < j. Each stands in its chain, the latest first: head has 1 and the place of a chain's latest, before of each
+// the one before it, and 0 where there is none. Both loops stop at the first pair of the same.
+fn search(c: Curve, s: &[u8], places: &[usize], n: usize) -> Option<Repeat>
+    requires { Rows c s.now places.now n }
     ensures { FirstIs (SameIn c s.now places.now) n (places_of result) }
 {
     let mut head = [0u16; refusals::MOST];
     let mut before = [0u16; refusals::MOST];
-    let mut answer = Repeat::Nothing;
-    let mut j: usize = 0;
-    'search: while j < n {
+    let mut answer = None;
+    'search: for j in 0..n {
         let a = places[j];
         let b = chain(s, a);
         let last = head[b];
         let mut i = last;
+        // No range: each step down the chain is read from `before`.
         while i > 0 {
             let x = (i as usize) - 1;
             i = before[x];
-            if may_be_same(s, places[x], a) {
-                if alike(c, s, places[x], a) {
-                    answer = Repeat::Pair(x, j);
-                    break 'search;
-                }
+            if may_be_same(s, places[x], a) && alike(c, s, places[x], a) {
+                answer = Some(Repeat {
+                    first: (x + 1) as u64,
+                    second: (j + 1) as u64,
+                });
+                break 'search;
             }
         }
         before[j] = last;
-        j += 1;
-        head[b] = j as u16;
+        head[b] = (j + 1) as u16;
     }
     answer
 }
 
-// The first repeat of a batch on a curve that was taken: where its records begin.
-pub fn repeat_on(c: Curve, s: &[u8]) -> Answer
-    requires { Sound c }
+// The first repeat of a batch on a curve that was taken: where its records begin. Each record says how long it is: no `for`.
+pub fn repeat_on(c: Curve, s: &[u8]) -> Result<Option<Repeat>, Refused>
     ensures { RepeatIs result (repeat_on c s.now) }
 {
     let mut places = [0usize; refusals::MOST];
     let mut n: usize = 0;
     let mut a: usize = 0;
+    // No range: each record says how long it is.
     while a < s.len() {
         if n == refusals::MOST {
-            return Answer::Refused(refusals::FULL, 0);
+            return Err(Refusal::Full.at(0));
         }
-        match record_divisor::divisor_at(c, false, s, a) {
-            DivisorRead::Taken(_x) => {
-                places[n] = a;
-            }
-            DivisorRead::Refused(number) => {
-                return Answer::Refused(number, (n + 1) as u64);
-            }
-        }
+        call_answer::record_at(c, s, a, (n + 1) as u64)?;
+        places[n] = a;
         a = a + 1 + 16 * (record_bytes::wide(s[a]) as usize);
         n += 1;
     }
-    match search(c, s, &places, n) {
-        Repeat::Pair(i, j) => Answer::Done(0, (i + 1) as u64, (j + 1) as u64),
-        Repeat::Nothing => Answer::Done(0, 0, 0),
-    }
+    Ok(search(c, s, &places, n))
 }
 
-// Its own numbers are the two places, counted from 1, both 0 where nothing is repeated.
-pub fn first_repeat(curve: &[u8], batch: &[u8]) -> Answer
+// None where nothing is repeated.
+#[tactic(auto, unfolding(rules::specs::Calls::repeat_call))]
+pub fn first_repeat(curve: &[u8], batch: &[u8]) -> Result<Option<Repeat>, Refused>
     ensures { RepeatIs result (repeat_call curve.now batch.now) }
 {
-    match record_curve::read_curve(curve) {
-        CurveRead::Taken(c) => repeat_on(c, batch),
-        CurveRead::Refused(n) => Answer::Refused(n, 0),
-    }
+    let c = record_curve::read_curve(curve)?;
+    repeat_on(c, batch)
 }

@@ -1,18 +1,18 @@
 -- W-211: a training curve as code reads it, and what the call comes to on it.
-use Rattle.std.specs.Prelude.{◌≡◌, List, ℕ}
+use Rattle.std.specs.Prelude.{◌≡◌, Result as Outcome, Ok, Err, List, ℕ}
+use Rattle.refusals.specs.declared.Refusal.{Refusal}
+use Rattle.refusals.specs.Refusal.{number_of}
 use Rattle.rules.specs.Checks.{Checked, refused, taken, go_on}
 use Rattle.rules.specs.Records.{CurveRecord, PairOf, read_divisor, divisor_bytes}
 use Rattle.rules.specs.Census.{next}
 use Rattle.rules.specs.Calls.{Result, read_training}
 use Rattle.rules.proofs.Calls.Written.{only}
-use Rattle.curve.specs.Curves.{Sound}
+use Rattle.curve.specs.declared.Curve.{Curve}
 use Rattle.curve.specs.Record.{record_of}
-use Rattle.record_curve.specs.declared.CurveRead.{CurveRead}
-use Rattle.record_curve.specs.declared.CurveRead.TheVariants.{Taken, Refused}
 
-abbrev pub TrainingIs : List ℕ → CurveRead → Type 0
-TrainingIs s (Taken c) = Sound c × (read_training s ≡ taken (record_of c))
-TrainingIs s (Refused n) = read_training s ≡ refused n 0
+abbrev pub TrainingIs : List ℕ → Outcome Curve Refusal → Type 0
+TrainingIs s (Ok c) = read_training s ≡ taken (record_of c)
+TrainingIs s (Err by) = read_training s ≡ refused (number_of by) 0
 
 -- the record of the next one after x, or 24
 abbrev pub next_result : (c : CurveRecord) → PairOf c → Checked (Result (Unit {0}))

@@ -1,39 +1,52 @@
-// What every multiplication reads, checks and makes, whichever the engine: the call but for the multiple itself.
+// What every multiplication reads, checks, makes and writes, whichever the engine: the call but for the multiple itself.
+ghost use Rattle.std.specs.Prelude.{◌≡◌};
+ghost use Rattle.rules.specs.Calls.{put};
 ghost use Rattle.divisor.specs.Divisors.{Held};
-ghost use Rattle.call_multiply.specs.factors.Multiples.{FactorsIs, MultipleMade, key_result};
+ghost use Rattle.call_multiply.specs.factors.Multiples.{FactorsIs, MultipleIs, KeyIs, key_result, multiple_result};
 
-use call_answer::{CurveAndDivisor, Made};
+use crate::Multiplied;
+use curve::Curve;
+use divisor::Divisor;
 use field::Modulus;
 use multiple_affine::promise::Multiple;
+use refusals::{Refusal, Refused};
 
 // Number 12 where the scalar is too long, then 19 where the divisor is neutral.
-pub fn read_factors(curve: &[u8], a: &[u8], scalar: &[u8]) -> CurveAndDivisor
+#[tactic(auto, using(crate::proofs::factors::Multiples::factors_empty, crate::proofs::factors::Multiples::factors_taken))]
+pub fn read_factors(curve: &[u8], a: &[u8], scalar: &[u8]) -> Result<(Curve, Divisor), Refused>
     ensures { FactorsIs curve.now a.now scalar.now result }
 {
-    match call_answer::read_curve_and_divisor(curve, a) {
-        CurveAndDivisor::Taken(c, d) => {
-            if refusals::MOST_SCALAR < scalar.len() {
-                return CurveAndDivisor::Refused(refusals::SCALAR_LENGTH, 0);
-            }
-            let given = d.weight();
-            if given == 0 {
-                return CurveAndDivisor::Refused(refusals::EMPTY_KEY, 0);
-            }
-            CurveAndDivisor::Taken(c, d)
-        }
-        CurveAndDivisor::Refused(n, k) => CurveAndDivisor::Refused(n, k),
+    let (c, d) = call_answer::read_curve_and_divisor(curve, a)?;
+    if refusals::MOST_SCALAR < scalar.len() {
+        return Err(Refusal::ScalarLength.at(0));
     }
+    if d.weight() == 0 {
+        return Err(Refusal::EmptyKey.at(0));
+    }
+    Ok((c, d))
 }
 
 // A multiple with its doublings and additions: number 19 where it is neutral.
-pub fn key_of(y: Multiple, m: Modulus) -> Made
+#[tactic(auto, using(crate::proofs::factors::Multiples::key_empty, crate::proofs::factors::Multiples::key_made))]
+pub fn key_of(y: Multiple, m: Modulus) -> Result<Multiple, Refused>
     requires { Held m y.divisor }
-    ensures { MultipleMade result (key_result y m) }
+    ensures { KeyIs m result (key_result y m) }
 {
-    let e = y.divisor;
-    let w = e.weight();
-    if w == 0 {
-        return Made::Refused(refusals::EMPTY_KEY, 0);
+    if y.divisor.weight() == 0 {
+        return Err(Refusal::EmptyKey.at(0));
     }
-    Made::Done(e, m, y.doublings, y.additions)
+    Ok(y)
+}
+
+// A multiple at the front of the output, its length there and its counts.
+pub fn deliver(y: Multiple, m: Modulus, out: &mut [u8]) -> Result<Multiplied, Refused>
+    requires { Held m y.divisor }
+    ensures { MultipleIs result out.new (put (0, 0) out.old (multiple_result y m)) }
+{
+    let length = call_answer::deliver(y.divisor, m, out)?;
+    Ok(Multiplied {
+        length,
+        doublings: y.doublings,
+        additions: y.additions,
+    })
 }

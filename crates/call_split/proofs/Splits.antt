@@ -5,56 +5,49 @@ use mathlib.Core.List.{List, [], ◌++◌, append_assoc, append-nil}
 use native.Mathlib.Omega.{arith}
 use lib.ListN.{length, take, drop, length-append, length-drop}
 use lib.Seq.{sets, sets-eq, take_at, drop_at, drop-drop, take_all, drop-length}
-use Rattle.rules.specs.Checks.{Checked, taken, go_on}
+use Rattle.rules.specs.Checks.{taken, go_on}
 use Rattle.rules.specs.Records.{PairOf, divisor_bytes}
 use Rattle.rules.specs.Split.{split_root}
-use Rattle.rules.specs.Calls.{Result, deliver, write, split_result, split_call}
-use Rattle.rules.proofs.Calls.Refusals.{on_taken, on_refused}
+use Rattle.rules.specs.Calls.{deliver, write, split_result, split_call}
 use Rattle.rules.proofs.Calls.SplitRoots.{NoSplit, split_at, split_none}
 use Rattle.field.specs.declared.Modulus.{Modulus}
 use Rattle.divisor.specs.declared.Divisor.{Divisor}
-use Rattle.divisor.specs.declared.Divisor.TheVariants.{Neutral, One, Two, Three}
 use Rattle.divisor.specs.Divisors.{weight_of, pair}
 use Rattle.curve.specs.declared.Curve.{Curve}
 use Rattle.curve.specs.Record.{record_of}
-use Rattle.divisor_split.specs.Splits.{PartsOf}
-use Rattle.call_answer.specs.declared.Answer.{Answer}
-use Rattle.call_answer.specs.declared.Answer.TheVariants.{Done, Refused}
-use Rattle.call_answer.specs.declared.CurveAndDivisor.TheVariants.{Taken, Refused as RefusedFirst}
-use Rattle.call_answer.specs.Answers.{FirstRead, OneIs, Wrote}
-use Rattle.call_answer.proofs.Firsts.{one_stops, one_goes}
-use Rattle.call_answer.proofs.Written.{divisor_length, refused_as, goes_on, put_none, put_all, wrote_none, wrote_all}
+use Rattle.divisor_split.specs.Splits.{PartsOf, SplitIs}
+use Rattle.std.specs.Prelude.{Option, Some, None, Result as Outcome, Ok, Err, ok_or}
+use Rattle.refusals.specs.declared.Refusal.{Refusal}
+use Rattle.refusals.specs.declared.Refused.{Refused}
+use Rattle.refusals.specs.declared.Refusal.TheVariants.{NoRoot, OutputLength}
+use Rattle.call_answer.specs.Answers.{Firsts, Wrote}
+use Rattle.call_answer.proofs.Written.{divisor_length, wrote_none, wrote_all}
 
-module _ (s a out : List ℕ) where
-  parts : FirstRead → Checked (Result (Unit {0}))
-  parts p = go_on (split_root p.0.p p.1) (λ y. taken (split_result p.0 p.1 y))
+-- ---- a divisor that was read, split or not
+module _ (s a out : List ℕ) (c : Curve) (x : Divisor) (h : Firsts s a c x) where
+  abbrev p : ℕ
+  p = c.prime.m.p
 
-  pub split_refused : {n k : ℕ} → OneIs s a (RefusedFirst n k) → Wrote (Refused n k) out (split_call s a out)
-  unfolding parts split_call
-  split_refused {n} {k} h = refused_as (ap (deliver tt out) (one_stops parts s a n k h))
+  abbrev d : PairOf (record_of c)
+  d = pair c.prime.m x
 
-  module _ (c : Curve) (x : Divisor) (h : OneIs s a (Taken c x)) where
-    abbrev p : ℕ
-    p = c.m.p
+  pos : 0 < p
+  pos = omega (arith, c.prime.m.odd)
 
-    abbrev d : PairOf (record_of c)
-    d = pair c.m x
+  goes : split_call s a out ≡ deliver tt out (go_on (split_root p d) (λ y. taken (split_result (record_of c) d y)))
+  unfolding split_call
+  goes = rw (h.curve, h.divisor) refl
 
-    pos : 0 < p
-    pos = omega (arith, h.sound.good.ring.from)
+  nowhere : NoSplit p d → Wrote (Err (record { by = NoRoot; place = 0 })) out (split_call s a out)
+  nowhere n = sym (goes ∙ ap (λ t. deliver tt out (go_on t (λ y. taken (split_result (record_of c) d y)))) (split_none p d pos n))
 
-    came : {r : Checked (Result (Unit {0}))} → parts (record_of c, d) ≡ r → split_call s a out ≡ deliver tt out r
-    unfolding parts split_call
-    came e = ap (deliver tt out) (one_goes parts s a (record_of c, d) h.is ∙ e)
+  -- behind `ok_or`
+  pub split_nowhere : (o : Option (Divisor × Divisor)) (by : Refusal) → SplitIs c.prime.m x o → Err by ≡ ok_or o NoRoot → Wrote (Err (record { by = by; place = 0 })) out (split_call s a out)
+  split_nowhere None by n e = let q : by ≡ NoRoot = cc in rw q (nowhere n)
+  split_nowhere (Some y) by n e = absurd (cc)
 
-    pub split_nowhere : NoSplit p d → Wrote (Refused 26 0) out (split_call s a out)
-    unfolding parts
-    split_nowhere n = refused_as (came (on_refused _ (λ y. taken (split_result (record_of c) d y)) (split_none p d pos n)))
-
-    pub split_done : {r : Answer} {o : List ℕ} {e f : Divisor} → PartsOf c.m x e f → Wrote r o (write out (divisor_bytes p (pair c.m e) ++ divisor_bytes p (pair c.m f))) → Wrote r o (split_call s a out)
-    unfolding parts
-    split_done k w = goes_on (came (on_taken _ (λ y. taken (split_result (record_of c) d y)) (split_at p d pos k.y k.at))
-        ∙ ap₂ (λ s t. write out (divisor_bytes p s ++ divisor_bytes p t)) (sym k.first.is) (sym k.second.is)) w
+  pub split_done : (r : Outcome ℕ Refused) (o : List ℕ) (e f : Divisor) → PartsOf c.prime.m x e f → Wrote r o (write out (divisor_bytes p (pair c.prime.m e) ++ divisor_bytes p (pair c.prime.m f))) → Wrote r o (split_call s a out)
+  split_done r o e f k w = w ∙ sym (goes ∙ ap (λ t. deliver tt out (go_on t (λ y. taken (split_result (record_of c) d y)))) (split_at p d pos k.y k.at) ∙ ap₂ (λ s t. write out (divisor_bytes p s ++ divisor_bytes p t)) (sym k.first.is) (sym k.second.is))
 
 -- ---- one behind the other
 module _ (out a b : List ℕ) (n : ℕ) (long : length a ≡ n) (room : n + length b ≤ length out) where
@@ -90,17 +83,9 @@ module _ (m : Modulus) (e f : Divisor) (out : List ℕ) {i j : ℕ} (hi : i ≡ 
   together : length (one ++ two) ≡ i + j
   together = omega (arith, length-append one two, divisor_length m e, divisor_length m f)
 
-  pub both_none : length out < i + j → Wrote (Refused 13 0) out (write out (one ++ two))
-  both_none l = wrote_none out (one ++ two) (put_none out (one ++ two) together l) tt tt {two = λ (x : Unit {0}). (0, 0)} refl refl
+  pub both_none : length out < i + j → Wrote (Err (record { by = OutputLength; place = 0 })) out (write out (one ++ two))
+  both_none l = wrote_none out (one ++ two) together l
 
   pub both_all : (o y : List ℕ) → i + j ≤ length out → o ≡ sets out 0 one → y ≡ sets (take (length o - i) (drop i o)) 0 two
-      → Wrote (Done (i + j) 0 0) (take i o ++ (y ++ drop (length o - i) (drop i o))) (write out (one ++ two))
-  both_all o y l h k = wrote_all out (one ++ two) (put_all out (one ++ two) together (omega arith) l
-      (put_back out one two i (divisor_length m e ∙ sym hi) (omega (arith, divisor_length m f)) o y h k)) tt tt (λ (x : Unit {0}). (0, 0)) (λ z. omega arith)
-
--- a weight is small
-pub light : (d : Divisor) → weight_of d ≤ 3
-light Neutral = omega arith
-light (One d) = omega arith
-light (Two d) = omega arith
-light (Three d) = omega arith
+      → Wrote (Ok (i + j)) (take i o ++ (y ++ drop (length o - i) (drop i o))) (write out (one ++ two))
+  both_all o y l h k = wrote_all out (one ++ two) together l (put_back out one two i (divisor_length m e ∙ sym hi) (omega (arith, divisor_length m f)) o y h k)

@@ -5,62 +5,53 @@ ghost use Rattle.rules.specs.Calls.{double_call, opposite_call, add_call};
 ghost use Rattle.call_answer.specs.Answers.{Makes, Wrote};
 ghost use Rattle.call_sum.specs.Sums.{doubling, opposing, adding};
 
-use call_answer::{Answer, CurveAndDivisor, Made};
-use record_divisor::DivisorRead;
+use call_answer::{deliver, read_curve_and_divisor, read_divisor};
+use curve::Curve;
+use divisor::Divisor;
+use refusals::Refused;
 
-fn doubled(curve: &[u8], a: &[u8]) -> Made
+fn doubled(curve: &[u8], a: &[u8]) -> Result<(Curve, Divisor), Refused>
     ensures { Makes result (doubling curve.now a.now) }
 {
-    match call_answer::read_curve_and_divisor(curve, a) {
-        CurveAndDivisor::Taken(c, x) => {
-            let m = c.m;
-            Made::Done(jacobian::double(c, x), m, 0, 0)
-        }
-        CurveAndDivisor::Refused(n, k) => Made::Refused(n, k),
-    }
+    let (c, x) = read_curve_and_divisor(curve, a)?;
+    Ok((c, jacobian::double(c, x)))
 }
 
-pub fn double(curve: &[u8], a: &[u8], out: &mut [u8]) -> Answer
+#[tactic(auto, unfolding(rules::specs::Calls::double_call))]
+pub fn double(curve: &[u8], a: &[u8], out: &mut [u8]) -> Result<u64, Refused>
     ensures { Wrote result out.new (double_call curve.now a.now out.old) }
 {
-    call_answer::deliver(doubled(curve, a), out)
+    let (c, d) = doubled(curve, a)?;
+    deliver(d, c.prime.m, out)
 }
 
-fn opposed(curve: &[u8], a: &[u8]) -> Made
+fn opposed(curve: &[u8], a: &[u8]) -> Result<(Curve, Divisor), Refused>
     ensures { Makes result (opposing curve.now a.now) }
 {
-    match call_answer::read_curve_and_divisor(curve, a) {
-        CurveAndDivisor::Taken(c, x) => {
-            let m = c.m;
-            Made::Done(jacobian::opposite(c, x), m, 0, 0)
-        }
-        CurveAndDivisor::Refused(n, k) => Made::Refused(n, k),
-    }
+    let (c, x) = read_curve_and_divisor(curve, a)?;
+    Ok((c, jacobian::opposite(c, x)))
 }
 
-pub fn opposite(curve: &[u8], a: &[u8], out: &mut [u8]) -> Answer
+#[tactic(auto, unfolding(rules::specs::Calls::opposite_call))]
+pub fn opposite(curve: &[u8], a: &[u8], out: &mut [u8]) -> Result<u64, Refused>
     ensures { Wrote result out.new (opposite_call curve.now a.now out.old) }
 {
-    call_answer::deliver(opposed(curve, a), out)
+    let (c, d) = opposed(curve, a)?;
+    deliver(d, c.prime.m, out)
 }
 
-fn added(curve: &[u8], a: &[u8], b: &[u8]) -> Made
+fn added(curve: &[u8], a: &[u8], b: &[u8]) -> Result<(Curve, Divisor), Refused>
     ensures { Makes result (adding curve.now a.now b.now) }
 {
-    match call_answer::read_curve_and_divisor(curve, a) {
-        CurveAndDivisor::Taken(c, x) => match record_divisor::divisor_at(c, true, b, 0) {
-            DivisorRead::Taken(y) => {
-                let m = c.m;
-                Made::Done(jacobian::sum(c, x, y), m, 0, 0)
-            }
-            DivisorRead::Refused(n) => Made::Refused(n, 2),
-        },
-        CurveAndDivisor::Refused(n, k) => Made::Refused(n, k),
-    }
+    let (c, x) = read_curve_and_divisor(curve, a)?;
+    let y = read_divisor(c, 2, b)?;
+    Ok((c, jacobian::sum(c, x, y)))
 }
 
-pub fn add(curve: &[u8], a: &[u8], b: &[u8], out: &mut [u8]) -> Answer
+#[tactic(auto, unfolding(rules::specs::Calls::add_call))]
+pub fn add(curve: &[u8], a: &[u8], b: &[u8], out: &mut [u8]) -> Result<u64, Refused>
     ensures { Wrote result out.new (add_call curve.now a.now b.now out.old) }
 {
-    call_answer::deliver(added(curve, a, b), out)
+    let (c, d) = added(curve, a, b)?;
+    deliver(d, c.prime.m, out)
 }

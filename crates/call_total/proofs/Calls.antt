@@ -1,25 +1,28 @@
--- What `total_call` comes to, by what its parts answer: the curve, and the batch on it.
+-- What `total_call` comes to, by what its parts answer: the curve, the batch on it, and what is written.
 use Prim.Native.Nat.{ℕ}
-use mathlib.Core.Path.{◌≡◌, refl, ap, ◌∙◌}
+use mathlib.Core.Path.{◌≡◌, sym, ap, ◌∙◌}
 use mathlib.Core.List.{List}
+use Rattle.std.specs.Prelude.{Ok, Err}
 use Rattle.rules.specs.Pair.{neutral}
 use Rattle.rules.specs.Sum.{sum}
 use Rattle.rules.specs.Checks.{Checked, taken, go_on}
-use Rattle.rules.specs.Records.{CurveRecord, PairOf, curve, divisor_bytes}
+use Rattle.rules.specs.Records.{CurveRecord, PairOf, curve, read_curve, divisor_bytes}
 use Rattle.rules.specs.Lists.{Batch, batch}
-use Rattle.rules.specs.Calls.{Result}
+use Rattle.rules.specs.Calls.{Result, deliver, done, stop, write, total_call}
 use Rattle.rules.proofs.Calls.Refusals.{on_taken, on_refused}
-use Rattle.divisor.specs.declared.Divisor.{Divisor}
+use Rattle.refusals.specs.declared.Refusal.{Refusal}
+use Rattle.refusals.specs.declared.Refused.{Refused}
+use Rattle.refusals.specs.Refusal.{number_of}
+use Rattle.divisor.specs.Divisors.{pair}
 use Rattle.curve.specs.declared.Curve.{Curve}
 use Rattle.curve.specs.Record.{record_of}
-use Rattle.record_curve.specs.declared.CurveRead.TheVariants.{Taken as TakenCurve, Refused as RefusedCurve}
 use Rattle.record_curve.specs.Read.{CurveIs}
-use Rattle.call_answer.specs.declared.Made.TheVariants.{Done as DoneMade, Refused as RefusedMade}
-use Rattle.call_answer.proofs.Written.{made_refused, made_done}
-use Rattle.call_total.specs.declared.TotalRead.TheVariants.{Done, Refused}
-use Rattle.call_total.specs.Totals.{TotalIs, TotalMade, totalling}
+use Rattle.call_answer.specs.Answers.{Wrote}
+use Rattle.call_answer.proofs.Owned.{owned, not_owned}
+use Rattle.call_total.specs.declared.Total.{Total}
+use Rattle.call_total.specs.Totals.{TotalIs}
 
-module _ (s b : List ℕ) where
+module _ (s b out : List ℕ) where
   -- what follows on a curve that was taken
   abbrev after : (c : CurveRecord) → Checked (Batch (PairOf c)) → Checked (Result ℕ)
   after c x = go_on x (λ y. taken (record { bytes = divisor_bytes c.p y.result; own = y.count }))
@@ -27,15 +30,26 @@ module _ (s b : List ℕ) where
   abbrev next : CurveRecord → Checked (Result ℕ)
   next c = after c (batch c (sum (curve c)) b neutral)
 
-  pub no_curve : {n : ℕ} → CurveIs s (RefusedCurve n) → TotalMade (RefusedMade n 0) (totalling s b)
-  no_curve h = made_refused (on_refused _ next h)
+  call_is : {x : Checked (Result ℕ)} → go_on (read_curve s) next ≡ x → total_call s b out ≡ deliver 0 out x
+  unfolding total_call
+  call_is e = ap (deliver 0 out) e
 
-  module _ (c : Curve) (h : CurveIs s (TakenCurve c)) where
-    rule_is : totalling s b ≡ next (record_of c)
-    rule_is = on_taken _ next h.1
+  pub no_curve : (by : Refusal) → CurveIs s (Err by) → stop 0 out (number_of by) 0 ≡ total_call s b out
+  no_curve by h = sym (call_is (on_refused _ next h))
 
-    pub no_total : {n k : ℕ} → TotalIs c b (Refused n k) → TotalMade (RefusedMade n k) (totalling s b)
-    no_total is = made_refused (rule_is ∙ ap (after (record_of c)) is)
+  module _ (c : Curve) (h : CurveIs s (Ok c)) where
+    on_curve : {x : Checked (Batch (PairOf (record_of c)))} → batch (record_of c) (sum (curve (record_of c))) b neutral ≡ x → total_call s b out ≡ deliver 0 out (after (record_of c) x)
+    on_curve e = call_is (on_taken _ next h ∙ ap (after (record_of c)) e)
 
-    pub total_made : (d : Divisor) (k : ℕ) → TotalIs c b (Done d k) → TotalMade (DoneMade d c.m k 0) (totalling s b)
-    total_made d k is = made_done d c.m k is.0.held refl (rule_is ∙ ap (after (record_of c)) is.1)
+    pub no_total : (r : Refused) → TotalIs c b (Err r) → stop 0 out (number_of r.by) r.place ≡ total_call s b out
+    no_total r is = sym (on_curve is)
+
+    module _ (t : Total) (is : TotalIs c b (Ok t)) where
+      abbrev bytes : List ℕ
+      bytes = divisor_bytes c.prime.m.p (pair c.prime.m t.divisor)
+
+      pub no_room : (r : Refused) {o : List ℕ} → Wrote (Err r) o (write out bytes) → stop 0 o (number_of r.by) r.place ≡ total_call s b out
+      no_room r e = not_owned 0 t.count out bytes r e ∙ sym (on_curve is.1)
+
+      pub written : {n : ℕ} {o : List ℕ} → Wrote (Ok n) o (write out bytes) → record { answer = done n; out = o; own = t.count } ≡ total_call s b out
+      written e = owned 0 t.count out bytes e ∙ sym (on_curve is.1)

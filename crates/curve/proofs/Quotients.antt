@@ -17,7 +17,7 @@ use Rattle.divisor.specs.declared.Duo.{Duo}
 use Rattle.divisor.specs.declared.Trio.{Trio}
 use Rattle.curve.specs.division.Turns.{K, AllKept, two, three}
 use Rattle.curve.specs.declared.Curve.{Curve}
-use Rattle.curve.specs.Curves.{above, Sound}
+use Rattle.curve.specs.Curves.{above}
 use Rattle.curve.specs.Rests.{Rests}
 use Rattle.curve.specs.Quotient.{Quotient}
 use Rattle.curve.proofs.Squares.{square_two, square_three}
@@ -80,8 +80,8 @@ module _ (F : CRing) where
       (k1 ∙ ap (λ (t : A). f1 ⊖ (t ⊗ v1 ⊕ q1 ⊗ u0) ⊖ q0 ⊗ u1) hw ∙ ring F (f1 ∷ v0 ∷ v1 ∷ q1 ∷ u0 ∷ q0 ∷ u1 ∷ []) (search quote depth 40) refl)
       (k2 ∙ ap (λ (t : A). f2 ⊖ (v0 ⊗ t ⊕ v1 ⊗ v1) ⊖ (q2 ⊗ u0 ⊕ q1 ⊗ u1) ⊖ q0 ⊗ u2) hx ∙ ring F (f2 ∷ v0 ∷ v1 ∷ v2 ∷ q2 ∷ u0 ∷ q1 ∷ u1 ∷ q0 ∷ u2 ∷ []) (search quote depth 40) refl)
 
-module _ (c : Curve) (h : Sound c) where
-  open K c.m use {El as A, add as ◌⊕◌, mul as ◌⊗◌, neg as opp, one as 𝟙}
+module _ (c : Curve) where
+  open K c.prime.m use {El as A, add as ◌⊕◌, mul as ◌⊗◌, neg as opp, one as 𝟙}
 
   infixl 65 ◌⊕◌
   infixl 65 ◌⊟◌
@@ -90,9 +90,9 @@ module _ (c : Curve) (h : Sound c) where
   a ⊟ b = a ⊕ opp b
 
   abbrev e : Residue → A
-  e x = el c.m x
+  e x = el c.prime.m x
 
-  pub quotient_three : (d : Cubic) (w2 q3 : Residue) (q : Trio) → AllKept c.m (three q) → e w2 ≡ e d.v2 ⊕ e d.v2 → e q3 ≡ e c.f6 ⊟ e d.u2
+  pub quotient_three : (d : Cubic) (w2 q3 : Residue) (q : Trio) → AllKept c.prime.m (three q) → e w2 ≡ e d.v2 ⊕ e d.v2 → e q3 ≡ e c.f6 ⊟ e d.u2
       → e q.c2 ≡ e c.f5 ⊟ e d.u1 ⊟ e q3 ⊗ e d.u2 → e q.c1 ≡ e c.f4 ⊟ e d.u0 ⊟ (e d.v2 ⊗ e d.v2 ⊕ e q3 ⊗ e d.u1) ⊟ e q.c2 ⊗ e d.u2
       → e q.c0 ≡ e c.f3 ⊟ (e d.v1 ⊗ e w2 ⊕ e q3 ⊗ e d.u0) ⊟ (e q.c2 ⊗ e d.u1 ⊕ e q.c1 ⊗ e d.u2) → Quotient c d q
   quotient_three d w2 q3 q k hx h3 h2 h1 h0 = record {
@@ -102,28 +102,28 @@ module _ (c : Curve) (h : Sound c) where
     q0 = h0 ∙ ap₂ (λ (s t : A). e c.f3 ⊟ (e d.v1 ⊗ s ⊕ t ⊗ e d.u0) ⊟ (e q.c2 ⊗ e d.u1 ⊕ e q.c1 ⊗ e d.u2)) hx h3;
   }
 
-  pub quotients_two : (d : Quadratic) (r : Duo) → c.g ≡ 2 → AllKept c.m (two r)
-      → remainder (K c.m) (e d.u0 ∷ e d.u1 ∷ []) ((e c.f0 ⊟ e d.v0 ⊗ e d.v0) ∷ (e c.f1 ⊟ (e d.v0 ⊕ e d.v0) ⊗ e d.v1) ∷ (e c.f2 ⊟ e d.v1 ⊗ e d.v1) ∷ e c.f3 ∷ e c.f4 ∷ 𝟙 ∷ []) ≡ e r.c0 ∷ e r.c1 ∷ []
+  pub quotients_two : (d : Quadratic) (r : Duo) → c.g ≡ 2 → AllKept c.prime.m (two r)
+      → remainder (K c.prime.m) (e d.u0 ∷ e d.u1 ∷ []) ((e c.f0 ⊟ e d.v0 ⊗ e d.v0) ∷ (e c.f1 ⊟ (e d.v0 ⊕ e d.v0) ⊗ e d.v1) ∷ (e c.f2 ⊟ e d.v1 ⊗ e d.v1) ∷ e c.f3 ∷ e c.f4 ∷ 𝟙 ∷ []) ≡ e r.c0 ∷ e r.c1 ∷ []
       → Rests c (Two d) (two r)
   unfolding pair whole
   quotients_two d r g k q = record {
-    list = (e c.f0 ⊟ e d.v0 ⊗ e d.v0) ∷ (e c.f1 ⊟ (e d.v0 ⊕ e d.v0) ⊗ e d.v1) ∷ (e c.f2 ⊟ e d.v1 ⊗ e d.v1) ∷ e c.f3 ∷ e c.f4 ∷ (elements c.m (above c) ++ (𝟙 ∷ []));
-    is = square_two (K c.m) (e c.f3 ∷ e c.f4 ∷ elements c.m (above c)) (e c.f0) (e d.v0) (e c.f1) (e c.f2) (e d.v1);
+    list = (e c.f0 ⊟ e d.v0 ⊗ e d.v0) ∷ (e c.f1 ⊟ (e d.v0 ⊕ e d.v0) ⊗ e d.v1) ∷ (e c.f2 ⊟ e d.v1 ⊗ e d.v1) ∷ e c.f3 ∷ e c.f4 ∷ (elements c.prime.m (above c) ++ (𝟙 ∷ []));
+    is = square_two (K c.prime.m) (e c.f3 ∷ e c.f4 ∷ elements c.prime.m (above c)) (e c.f0) (e d.v0) (e c.f1) (e c.f2) (e d.v1);
     leaves = record {
       kept = k;
-      is = sym (in_two c h (λ l. remainder (K c.m) (e d.u0 ∷ e d.u1 ∷ []) ((e c.f0 ⊟ e d.v0 ⊗ e d.v0) ∷ (e c.f1 ⊟ (e d.v0 ⊕ e d.v0) ⊗ e d.v1) ∷ (e c.f2 ⊟ e d.v1 ⊗ e d.v1) ∷ e c.f3 ∷ e c.f4 ∷ (l ++ (𝟙 ∷ []))) ≡ e r.c0 ∷ e r.c1 ∷ []) g q);
+      is = sym (in_two c (λ l. remainder (K c.prime.m) (e d.u0 ∷ e d.u1 ∷ []) ((e c.f0 ⊟ e d.v0 ⊗ e d.v0) ∷ (e c.f1 ⊟ (e d.v0 ⊕ e d.v0) ⊗ e d.v1) ∷ (e c.f2 ⊟ e d.v1 ⊗ e d.v1) ∷ e c.f3 ∷ e c.f4 ∷ (l ++ (𝟙 ∷ []))) ≡ e r.c0 ∷ e r.c1 ∷ []) g q);
     };
   }
 
-  pub quotients_three : (d : Cubic) (r : Trio) → c.g ≡ 3 → AllKept c.m (three r)
-      → remainder (K c.m) (e d.u0 ∷ e d.u1 ∷ e d.u2 ∷ []) ((e c.f0 ⊟ e d.v0 ⊗ e d.v0) ∷ (e c.f1 ⊟ (e d.v0 ⊕ e d.v0) ⊗ e d.v1) ∷ (e c.f2 ⊟ e d.v1 ⊗ e d.v1 ⊟ (e d.v0 ⊕ e d.v0) ⊗ e d.v2) ∷ (e c.f3 ⊟ (e d.v1 ⊕ e d.v1) ⊗ e d.v2) ∷ (e c.f4 ⊟ e d.v2 ⊗ e d.v2) ∷ e c.f5 ∷ e c.f6 ∷ 𝟙 ∷ []) ≡ e r.c0 ∷ e r.c1 ∷ e r.c2 ∷ []
+  pub quotients_three : (d : Cubic) (r : Trio) → c.g ≡ 3 → AllKept c.prime.m (three r)
+      → remainder (K c.prime.m) (e d.u0 ∷ e d.u1 ∷ e d.u2 ∷ []) ((e c.f0 ⊟ e d.v0 ⊗ e d.v0) ∷ (e c.f1 ⊟ (e d.v0 ⊕ e d.v0) ⊗ e d.v1) ∷ (e c.f2 ⊟ e d.v1 ⊗ e d.v1 ⊟ (e d.v0 ⊕ e d.v0) ⊗ e d.v2) ∷ (e c.f3 ⊟ (e d.v1 ⊕ e d.v1) ⊗ e d.v2) ∷ (e c.f4 ⊟ e d.v2 ⊗ e d.v2) ∷ e c.f5 ∷ e c.f6 ∷ 𝟙 ∷ []) ≡ e r.c0 ∷ e r.c1 ∷ e r.c2 ∷ []
       → Rests c (Three d) (three r)
   unfolding pair whole
   quotients_three d r g k q = record {
-    list = (e c.f0 ⊟ e d.v0 ⊗ e d.v0) ∷ (e c.f1 ⊟ (e d.v0 ⊕ e d.v0) ⊗ e d.v1) ∷ (e c.f2 ⊟ e d.v1 ⊗ e d.v1 ⊟ (e d.v0 ⊕ e d.v0) ⊗ e d.v2) ∷ (e c.f3 ⊟ (e d.v1 ⊕ e d.v1) ⊗ e d.v2) ∷ (e c.f4 ⊟ e d.v2 ⊗ e d.v2) ∷ (elements c.m (above c) ++ (𝟙 ∷ []));
-    is = square_three (K c.m) (elements c.m (above c)) (e c.f0) (e d.v0) (e c.f1) (e c.f2) (e d.v1) (e c.f3) (e c.f4) (e d.v2);
+    list = (e c.f0 ⊟ e d.v0 ⊗ e d.v0) ∷ (e c.f1 ⊟ (e d.v0 ⊕ e d.v0) ⊗ e d.v1) ∷ (e c.f2 ⊟ e d.v1 ⊗ e d.v1 ⊟ (e d.v0 ⊕ e d.v0) ⊗ e d.v2) ∷ (e c.f3 ⊟ (e d.v1 ⊕ e d.v1) ⊗ e d.v2) ∷ (e c.f4 ⊟ e d.v2 ⊗ e d.v2) ∷ (elements c.prime.m (above c) ++ (𝟙 ∷ []));
+    is = square_three (K c.prime.m) (elements c.prime.m (above c)) (e c.f0) (e d.v0) (e c.f1) (e c.f2) (e d.v1) (e c.f3) (e c.f4) (e d.v2);
     leaves = record {
       kept = k;
-      is = sym (in_three c h (λ l. remainder (K c.m) (e d.u0 ∷ e d.u1 ∷ e d.u2 ∷ []) ((e c.f0 ⊟ e d.v0 ⊗ e d.v0) ∷ (e c.f1 ⊟ (e d.v0 ⊕ e d.v0) ⊗ e d.v1) ∷ (e c.f2 ⊟ e d.v1 ⊗ e d.v1 ⊟ (e d.v0 ⊕ e d.v0) ⊗ e d.v2) ∷ (e c.f3 ⊟ (e d.v1 ⊕ e d.v1) ⊗ e d.v2) ∷ (e c.f4 ⊟ e d.v2 ⊗ e d.v2) ∷ (l ++ (𝟙 ∷ []))) ≡ e r.c0 ∷ e r.c1 ∷ e r.c2 ∷ []) (λ z. omega arith) q);
+      is = sym (in_three c (λ l. remainder (K c.prime.m) (e d.u0 ∷ e d.u1 ∷ e d.u2 ∷ []) ((e c.f0 ⊟ e d.v0 ⊗ e d.v0) ∷ (e c.f1 ⊟ (e d.v0 ⊕ e d.v0) ⊗ e d.v1) ∷ (e c.f2 ⊟ e d.v1 ⊗ e d.v1 ⊟ (e d.v0 ⊕ e d.v0) ⊗ e d.v2) ∷ (e c.f3 ⊟ (e d.v1 ⊕ e d.v1) ⊗ e d.v2) ∷ (e c.f4 ⊟ e d.v2 ⊗ e d.v2) ∷ (l ++ (𝟙 ∷ []))) ≡ e r.c0 ∷ e r.c1 ∷ e r.c2 ∷ []) (λ z. omega arith) q);
     };
   }

@@ -1,3 +1,4 @@
+pub mod Equations
 pub mod Curves
 pub mod Quotient
 pub mod Record

@@ -4,4 +4,4 @@ use Rattle.curve.specs.declared.Curve.{Curve}
 use Rattle.curve.specs.Curves.{curve_of}
 
 abbrev pub record_of : Curve → CurveRecord
-record_of c = record { p = c.m.p; g = c.g; low = (curve_of c).low }
+record_of c = record { p = c.prime.m.p; g = c.g; low = (curve_of c).low }

@@ -16,13 +16,13 @@ use Rattle.curve.specs.Curves.{above, curve_of}
 
 -- of f from f_5 on, and from f_4 on, the leading 1 behind them
 abbrev pub TopOne : Curve → Linear → Residue → Type 0
-TopOne c d r = Leaves c.m (One d) (elements c.m (above c) ++ ((K c.m).one ∷ [])) (r ∷ [])
+TopOne c d r = Leaves c.prime.m (One d) (elements c.prime.m (above c) ++ ((K c.prime.m).one ∷ [])) (r ∷ [])
 
 abbrev pub TopTwo : Curve → Quadratic → Duo → Type 0
-TopTwo c d r = Leaves c.m (Two d) (el c.m c.f4 ∷ (elements c.m (above c) ++ ((K c.m).one ∷ []))) (two r)
+TopTwo c d r = Leaves c.prime.m (Two d) (el c.prime.m c.f4 ∷ (elements c.prime.m (above c) ++ ((K c.prime.m).one ∷ []))) (two r)
 
 -- r is what f - v² leaves
 pub record Rests (c : Curve) (d : Divisor) (r : List Residue) : Type 0 where
-  pub list : List (K c.m).El
-  pub is : pol (K c.m) list ≡ f_minus_v² (curve_of c) (pair c.m d)
-  pub leaves : Leaves c.m d list r
+  pub list : List (K c.prime.m).El
+  pub is : pol (K c.prime.m) list ≡ f_minus_v² (curve_of c) (pair c.prime.m d)
+  pub leaves : Leaves c.prime.m d list r

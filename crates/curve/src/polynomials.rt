@@ -1,19 +1,18 @@
-// Polynomials of a few coefficients, and a curve's f as one: made only where a polynomial is needed, for the plain sum and for the test of a curve.
+// Polynomials of a few coefficients, and an equation's f as one: made only where a polynomial is needed, for the plain sum and for the test of a curve.
 ghost use Rattle.std.specs.Prelude.{[], ◌∷◌};
 ghost use Rattle.algebra.proofs.Zmod.Zmod.{zmod};
 ghost use Rattle.algebra.proofs.List.Value.{pol as list-pol};
-ghost use Rattle.field.specs.Residues.{el, Good, Settled};
+ghost use Rattle.field.specs.Residues.{el, Settled};
 ghost use Rattle.poly.specs.Polys.{Is};
-ghost use Rattle.curve.specs.Curves.{Shaped};
-ghost use Rattle.curve.specs.polynomials.Few.{OfCurve};
+ghost use Rattle.curve.specs.polynomials.Few.{OfEquation};
 
-use crate::Curve;
+use crate::Equation;
 use field::{Modulus, Residue};
 use poly::Poly;
 
 // a + b * x.
 pub fn line(a: Residue, b: Residue, m: Modulus) -> Poly
-    requires { Good m × Settled m a × Settled m b }
+    requires { Settled m a × Settled m b }
     ensures { Is m result (list-pol (zmod m.p) (el m a ∷ el m b ∷ [])) 2 }
 {
     Poly::constant(a, m).put(1, b, m)
@@ -21,18 +20,17 @@ pub fn line(a: Residue, b: Residue, m: Modulus) -> Poly
 
 // a + b * x + c * x^2.
 pub fn parabola(a: Residue, b: Residue, c: Residue, m: Modulus) -> Poly
-    requires { Good m × Settled m a × Settled m b × Settled m c }
+    requires { Settled m a × Settled m b × Settled m c }
     ensures { Is m result (list-pol (zmod m.p) (el m a ∷ el m b ∷ el m c ∷ [])) 3 }
 {
     line(a, b, m).put(2, c, m)
 }
 
 // f, its leading 1 too.
-pub fn f_of(c: Curve) -> Poly
-    requires { Shaped c }
-    ensures { OfCurve c result }
+pub fn f_of(c: Equation) -> Poly
+    ensures { OfEquation c result }
 {
-    let m = c.m;
+    let m = c.prime.m;
     let g = c.g;
     let o = Residue::one(m);
     let a = parabola(c.f0, c.f1, c.f2, m)

@@ -9,7 +9,6 @@ use Rattle.algebra.proofs.Zmod.PrimeField.{modulo}
 use Rattle.rules.specs.Pair.{Pair, neutral}
 use Rattle.field.specs.declared.Modulus.{Modulus}
 use Rattle.field.specs.declared.Residue.{Residue}
-use Rattle.field.specs.Residues.{Good}
 use Rattle.field.proofs.Laws.{settled_unique}
 use Rattle.field.proofs.Raw.{plain}
 use Rattle.divisor.specs.declared.Divisor.{Divisor}
@@ -82,8 +81,8 @@ module _ (m : Modulus) where
       (elements_inj (us a) (us b) h.u k.u (ap (λ (x : Pair (modulo m.p)). x.u) e))
       (elements_inj (vs a) (vs b) h.v k.v (ap (λ (x : Pair (modulo m.p)). x.v) e))
 
-  pub neutral_held : Good m → Held m Neutral
-  neutral_held g = record { good = g; u = tt; v = tt }
+  pub neutral_held : Held m Neutral
+  neutral_held = record { u = tt; v = tt }
 
   pub neutral_is : pair m Neutral ≡ neutral
   unfolding pair

@@ -34,7 +34,7 @@ module _ (m : Modulus) where
   opposed_by : (d e : Divisor) → Held m d → us e ≡ us d → (elements m (vs e) ≡ neg_l (zmod m.p) (elements m (vs d))) × AllSettled m (vs e) → Opposed m d e
   unfolding pair opposite
   opposed_by d e h p t = record {
-    held = record { good = h.good; u = subst (AllSettled m) (sym p) h.u; v = t.1 };
+    held = record { u = subst (AllSettled m) (sym p) h.u; v = t.1 };
     is = ap₂ (λ u v. record { u = u; v = v }) (ap (elements m) p) t.0;
   }
 

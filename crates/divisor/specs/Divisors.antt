@@ -5,7 +5,7 @@ use Rattle.algebra.proofs.Zmod.PrimeField.{modulo}
 use Rattle.rules.specs.Pair.{Pair, opposite}
 use Rattle.field.specs.declared.Modulus.{Modulus}
 use Rattle.field.specs.declared.Residue.{Residue}
-use Rattle.field.specs.Residues.{el, Good, Settled}
+use Rattle.field.specs.Residues.{el, Settled}
 use Rattle.divisor.specs.declared.Divisor.{Divisor}
 use Rattle.divisor.specs.declared.Divisor.TheVariants.{Neutral, One, Two, Three}
 
@@ -49,7 +49,6 @@ module _ (m : Modulus) where
   AllSettled (r ∷ l) = Settled m r × AllSettled l
 
   pub record Held (d : Divisor) : Type 0 where
-    pub good : Good m
     pub u : AllSettled (us d)
     pub v : AllSettled (vs d)
 

@@ -9,14 +9,14 @@ ghost use Rattle.divisor.specs.Divisors.{Held, weight_of, RowOf, Opposed};
 use field::{Modulus, Residue};
 
 // u = x + u0, v = v0.
-#[derive(Clone, Copy)]
+#[derive(Clone, Copy, Debug, PartialEq, Eq)]
 pub struct Linear {
     pub u0: Residue,
     pub v0: Residue,
 }
 
 // u = x² + u1 x + u0, v = v1 x + v0.
-#[derive(Clone, Copy)]
+#[derive(Clone, Copy, Debug, PartialEq, Eq)]
 pub struct Quadratic {
     pub u0: Residue,
     pub u1: Residue,
@@ -25,7 +25,7 @@ pub struct Quadratic {
 }
 
 // u = x³ + u2 x² + u1 x + u0, v = v2 x² + v1 x + v0.
-#[derive(Clone, Copy)]
+#[derive(Clone, Copy, Debug, PartialEq, Eq)]
 pub struct Cubic {
     pub u0: Residue,
     pub u1: Residue,
@@ -36,20 +36,20 @@ pub struct Cubic {
 }
 
 // What sums and divisions by u make on the way: c0 + c1 x, and c0 + c1 x + c2 x².
-#[derive(Clone, Copy)]
+#[derive(Clone, Copy, Debug, PartialEq, Eq)]
 pub struct Duo {
     pub c0: Residue,
     pub c1: Residue,
 }
 
-#[derive(Clone, Copy)]
+#[derive(Clone, Copy, Debug, PartialEq, Eq)]
 pub struct Trio {
     pub c0: Residue,
     pub c1: Residue,
     pub c2: Residue,
 }
 
-#[derive(Clone, Copy)]
+#[derive(Clone, Copy, Debug, PartialEq, Eq)]
 pub enum Divisor {
     Neutral,
     One(Linear),
@@ -85,34 +85,25 @@ impl Divisor {
     }
 
     // The coefficients in a row, those of u first, then those of v; what stands behind them isn't promised. Where this row and the weight
-    // will do, nothing else need know the four cases.
+    // will do, nothing else need know the four cases. An array with the weight beside it, where a Vec would ask for memory.
     pub fn row(self) -> [Residue; 6]
         ensures { RowOf self result }
     {
         let z = Residue::zero();
         match self {
             Divisor::Neutral => [z; 6],
-            Divisor::One(d) => {
-                let u0 = d.u0;
-                let v0 = d.v0;
-                [u0, v0, z, z, z, z]
-            }
-            Divisor::Two(d) => {
-                let u0 = d.u0;
-                let u1 = d.u1;
-                let v0 = d.v0;
-                let v1 = d.v1;
-                [u0, u1, v0, v1, z, z]
-            }
-            Divisor::Three(d) => {
-                let u0 = d.u0;
-                let u1 = d.u1;
-                let u2 = d.u2;
-                let v0 = d.v0;
-                let v1 = d.v1;
-                let v2 = d.v2;
-                [u0, u1, u2, v0, v1, v2]
-            }
+            Divisor::One(Linear { u0, v0 }) => [u0, v0, z, z, z, z],
+            Divisor::Two(Quadratic { u0, u1, v0, v1 }) => [u0, u1, v0, v1, z, z],
+            Divisor::Three(
+                Cubic {
+                    u0,
+                    u1,
+                    u2,
+                    v0,
+                    v1,
+                    v2,
+                },
+            ) => [u0, u1, u2, v0, v1, v2],
         }
     }
 
@@ -121,34 +112,25 @@ impl Divisor {
         requires { w ≤ 3 }
         ensures { (weight_of result ≡ w) × RowOf result r }
     {
-        let a = r[0];
-        let b = r[1];
-        let c = r[2];
-        let d = r[3];
-        if w == 0 {
-            return Divisor::neutral();
-        }
-        if w == 1 {
-            return Divisor::One(Linear { u0: a, v0: b });
-        }
-        if w == 2 {
-            return Divisor::Two(Quadratic {
+        let [a, b, c, d, e, f] = r;
+        match w {
+            0 => Divisor::Neutral,
+            1 => Divisor::One(Linear { u0: a, v0: b }),
+            2 => Divisor::Two(Quadratic {
                 u0: a,
                 u1: b,
                 v0: c,
                 v1: d,
-            });
+            }),
+            _ => Divisor::Three(Cubic {
+                u0: a,
+                u1: b,
+                u2: c,
+                v0: d,
+                v1: e,
+                v2: f,
+            }),
         }
-        let e = r[4];
-        let f = r[5];
-        Divisor::Three(Cubic {
-            u0: a,
-            u1: b,
-            u2: c,
-            v0: d,
-            v1: e,
-            v2: f,
-        })
     }
 
     // The same u, and -v.
@@ -157,12 +139,9 @@ impl Divisor {
         ensures { Opposed m self result }
     {
         let w = self.weight();
-        let n = 2 * w;
         let mut r = self.row();
-        let mut k = w;
-        while k < n {
+        for k in w..2 * w {
             r[k] = negate_settled(r[k], m);
-            k += 1;
         }
         Divisor::of_row(w, r)
     }

@@ -1,6 +1,7 @@
 -- One turn of a counter over a row of residues, from the last number to the first. Gives: adding one to an element (`raised`), what the loop keeps (`Clearing`) from its begin to its ends: a number that was raised, or none.
 use Prim.Native.Nat.{ℕ, zero, suc, ◌+◌, ◌-◌, ◌≤◌, ◌<◌}
 use mathlib.Core.Path.{◌≡◌, refl, sym, ap, ap₂, ◌∙◌, subst}
+use Rattle.std.specs.Prelude.{Some}
 use mathlib.Core.List.{List, [], ◌∷◌, ◌++◌}
 use native.Mathlib.Decide.{ℕ_discrete}
 use native.Mathlib.Omega.{arith}
@@ -12,7 +13,6 @@ use Rattle.field.specs.declared.Modulus.{Modulus}
 use Rattle.field.specs.declared.Residue.{Residue}
 use Rattle.field.specs.Residues.{el, Settled, Stands, Settles}
 use Rattle.divisor.specs.Divisors.{AllSettled}
-use Rattle.divisor.proofs.Rows.{settled_at}
 use Rattle.divisor_census.specs.Rows.{digits, Rowed, RaisedAt, RaisedIs}
 
 -- ---- one more, in Z/p
@@ -74,15 +74,6 @@ module _ (m : Modulus) where
   past : (n : ℕ) (l : List Residue) → Rowed m n l → drop n (take n l) ≡ []
   past n l h = ap (λ k. drop k (take n l)) (sym (first_long n l h)) ∙ drop-length (take n l)
 
-  pub clear_begin : (n : ℕ) (l : List Residue) → Rowed m n l → Clearing n l l n
-  clear_begin n l h = record {
-    within = omega arith;
-    rowed = h;
-    same = refl;
-    zeros = ap (digits m) (past n l h) ∙ ap (λ k. replicate k 0) {x = 0} {y = n - n} (omega arith);
-    tops = subst (λ t. Tops p (digits m t)) (sym (past n l h)) tt;
-  }
-
   -- place j, the next one down
   module _ (n : ℕ) (l row : List Residue) (long : length l ≡ 6) (k : ℕ) (h : Clearing n l row k) (j : ℕ) (e : k ≡ suc j) (z : Residue) where
     abbrev old : Residue
@@ -93,12 +84,6 @@ module _ (m : Modulus) where
 
     in_l : j < length (take n l)
     in_l = omega (arith, length-take-le n l (omega (arith, h.rowed.within)), h.within)
-
-    at_row : get_or (take n row) j z ≡ old
-    at_row = get_or-take n row j z (omega (arith, h.within))
-
-    pub old_settled : Settled m old
-    old_settled = subst (Settled m) at_row (settled_at m (take n row) j z h.rowed.settled in_n)
 
     -- the same number stood there
     at_l : get_or (take n l) j z ≡ old
@@ -116,14 +101,13 @@ module _ (m : Modulus) where
 
       pub new_rowed : Rowed m n new
       new_rowed = record {
-        good = h.rowed.good;
         within = h.rowed.within;
         long = length-set row j x ∙ h.rowed.long;
         settled = subst (AllSettled m) (sym (take-set-lt n row j x (omega (arith, h.within)))) (settled_set (take n row) j x h.rowed.settled s.settled);
       }
 
       some : 0 < p
-      some = omega (arith, h.rowed.good.ring.from)
+      some = omega (arith, m.odd.from)
 
       was_at : take n l ≡ take j (take n l) ++ (old ∷ drop k (take n l))
       was_at = split_at (take n l) j z in_l ∙ ap₂ (λ y i. take j (take n l) ++ (y ∷ drop i (take n l))) at_l (sym e)
@@ -141,8 +125,8 @@ module _ (m : Modulus) where
         tops = subst (λ t. Tops p (digits m t)) (sym (ap (drop j) was_at ∙ drop_at (take j (take n l)) (old ∷ drop k (take n l)) j (front_long (take n l) in_l))) (top p some (el m old) (sym s.is ∙ q), h.tops);
       }
 
-      pub clear_stop : (el m x ≡ (zmod p).zer → ⊥) → RaisedIs m n l (record { row = new; at = j + 1 })
-      clear_stop q = record { rowed = new_rowed; some = λ _. there; none = λ i. absurd (omega arith) }
+      pub clear_stop : (el m x ≡ (zmod p).zer → ⊥) → RaisedIs m n l (Some new)
+      clear_stop q = (new_rowed, there)
         where
           nonzero : (zmod p).add (el m old) (zmod p).one ≡ (zmod p).zer → ⊥
           nonzero i = q (s.is ∙ i)
@@ -153,7 +137,7 @@ module _ (m : Modulus) where
           sizes : n - k ≡ length behind
           sizes = sym (length_digits (drop k (take n l)) ∙ length-drop k (take n l) ∙ ap (λ i. i - k) (length-take-le n l (omega (arith, h.rowed.within))))
 
-          there : RaisedAt m (digits m (take n l)) (digits m (take n new)) (j + 1)
+          there : RaisedAt m (digits m (take n l)) (digits m (take n new))
           there = record {
             front = digits m (take j (take n l));
             number = num p (el m old);
@@ -162,11 +146,7 @@ module _ (m : Modulus) where
             is = ap (digits m) new_is ∙ digits_append (take j (take n row)) (x ∷ drop k (take n row)) ∙ ap₂ (λ a b. digits m a ++ b) front_same (ap₂ ◌∷◌ (ap (num p) s.is ∙ raised p some (el m old) nonzero) (h.zeros ∙ ap (λ i. replicate i 0) sizes));
             below = not_top p some (el m old) nonzero;
             tops = h.tops;
-            place = omega (arith, length_digits (take j (take n l)), front_long (take n l) in_l);
           }
-
-  pub clear_end : (n : ℕ) (l row : List Residue) (k : ℕ) → Clearing n l row k → k ≤ 0 → RaisedIs m n l (record { row = row; at = 0 })
-  clear_end n l row k h z = record { rowed = h.rowed; some = λ q. absurd (q refl); none = λ q. let e : k ≡ 0 = omega arith in subst (λ i. Tops p (digits m (drop i (take n l)))) e h.tops }
 
   -- one added, and brought below p
   pub one_more : (a : Residue) {o y x : Residue} → Settles m o (zmod p).one → Stands m y ((zmod p).add (el m a) (el m o)) → Settles m x (el m y) → Settles m x ((zmod p).add (el m a) (zmod p).one)

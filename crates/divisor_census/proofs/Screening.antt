@@ -11,7 +11,7 @@ use Rattle.algebra.proofs.Ring.CRing.{CRing}
 use Rattle.algebra.proofs.Ring.Quote.{ring, quote}
 use Rattle.algebra.proofs.List.Ops.{remainder, whole}
 use Rattle.algebra.proofs.List.Division.{no_rest}
-use Rattle.algebra.proofs.Zmod.Zmod.{zmod, emb, num, emb_num, num_lt}
+use Rattle.algebra.proofs.Zmod.Zmod.{zmod, emb, num, emb_num}
 use Rattle.field.specs.declared.Modulus.{Modulus}
 use Rattle.field.specs.declared.Residue.{Residue}
 use Rattle.field.specs.Residues.{el, Settled, Settles}
@@ -58,8 +58,8 @@ module _ (F : CRing) where
       same : v2 ⊗ (c2 ⊗ v2 ⊕ c1) ⊕ c0 ≡ f0 ⊖ (v0 ⊗ v0 ⊕ q0 ⊗ u0)
       same = rw (k0, k1, k2, hq, ha, hb) (ring F (f0 ∷ f3 ∷ f4 ∷ u0 ∷ u1 ∷ u2 ∷ v0 ∷ v1 ∷ v2 ∷ q3 ∷ q2 ∷ []) (search quote depth 40) refl)
 
-module _ (c : Curve) (g : c.g ≡ 3) (d : Cubic) (s : Screen) (ready : Ready c.m s) where
-  open zmod c.m.p use {El as A, add as ◌⊕◌, mul as ◌⊗◌, neg as opp, zer as 𝟘}
+module _ (c : Curve) (g : c.g ≡ 3) (d : Cubic) (s : Screen) (ready : Ready c.prime.m s) where
+  open zmod c.prime.m.p use {El as A, add as ◌⊕◌, mul as ◌⊗◌, neg as opp, zer as 𝟘}
 
   infixl 65 ◌⊕◌
   infixl 65 ◌⊟◌
@@ -68,10 +68,10 @@ module _ (c : Curve) (g : c.g ≡ 3) (d : Cubic) (s : Screen) (ready : Ready c.m
   a ⊟ b = a ⊕ opp b
 
   abbrev e : Residue → A
-  e r = el c.m r
+  e r = el c.prime.m r
 
-  top_is : elements c.m (above c) ≡ e c.f5 ∷ e c.f6 ∷ []
-  top_is = ap (λ (n : ℕ). elements c.m (take (n + n - 4) (c.f5 ∷ c.f6 ∷ []))) g
+  top_is : elements c.prime.m (above c) ≡ e c.f5 ∷ e c.f6 ∷ []
+  top_is = ap (λ (n : ℕ). elements c.prime.m (take (n + n - 4) (c.f5 ∷ c.f6 ∷ []))) g
 
   pub screens_by : (q3 q2 a b q : Residue) → e q3 ≡ e c.f6 ⊟ e d.u2 → e q2 ≡ e c.f5 ⊟ e d.u1 ⊟ e q3 ⊗ e d.u2 → e a ≡ e c.f4 ⊟ e d.u0 ⊟ (e q3 ⊗ e d.u1 ⊕ e q2 ⊗ e d.u2)
       → e b ≡ e c.f3 ⊟ (e q3 ⊗ e d.u0 ⊕ e q2 ⊗ e d.u1) → e q ≡ e b ⊟ e a ⊗ e d.u2
@@ -81,37 +81,34 @@ module _ (c : Curve) (g : c.g ≡ 3) (d : Cubic) (s : Screen) (ready : Ready c.m
   screens_by q3 q2 a b q h3 h2 ha hb hq k0 k1 k2 = record {
     ready = ready;
     zero = λ v2 x.
-        let t : List A = elements c.m (above c) in
+        let t : List A = elements c.prime.m (above c) in
         let us : List A = e d.u0 ∷ e d.u1 ∷ e d.u2 ∷ [] in
-        first_left (zmod c.m.p) _ _ _ _ _ v2 _ _ _ _ _ _ _ _ _ _ _ _ _ _ _ h3 h2 ha hb hq k0 k1 k2
-        (subst (λ (l : List A). remainder (zmod c.m.p) us ((e c.f0 ⊟ e d.v0 ⊗ e d.v0) ∷ (e c.f1 ⊟ (e d.v0 ⊕ e d.v0) ⊗ e d.v1) ∷ (e c.f2 ⊟ e d.v1 ⊗ e d.v1 ⊟ (e d.v0 ⊕ e d.v0) ⊗ v2) ∷ (e c.f3 ⊟ (e d.v1 ⊕ e d.v1) ⊗ v2) ∷ (e c.f4 ⊟ v2 ⊗ v2) ∷ whole (zmod c.m.p) l) ≡ 𝟘 ∷ 𝟘 ∷ 𝟘 ∷ []) top_is
-        (no_rest (zmod c.m.p) us _ x.factor (square_three (zmod c.m.p) t (e c.f0) (e d.v0) (e c.f1) (e c.f2) (e d.v1) (e c.f3) (e c.f4) v2 ∙ x.is)));
+        first_left (zmod c.prime.m.p) _ _ _ _ _ v2 _ _ _ _ _ _ _ _ _ _ _ _ _ _ _ h3 h2 ha hb hq k0 k1 k2
+        (subst (λ (l : List A). remainder (zmod c.prime.m.p) us ((e c.f0 ⊟ e d.v0 ⊗ e d.v0) ∷ (e c.f1 ⊟ (e d.v0 ⊕ e d.v0) ⊗ e d.v1) ∷ (e c.f2 ⊟ e d.v1 ⊗ e d.v1 ⊟ (e d.v0 ⊕ e d.v0) ⊗ v2) ∷ (e c.f3 ⊟ (e d.v1 ⊕ e d.v1) ⊗ v2) ∷ (e c.f4 ⊟ v2 ⊗ v2) ∷ whole (zmod c.prime.m.p) l) ≡ 𝟘 ∷ 𝟘 ∷ 𝟘 ∷ []) top_is
+        (no_rest (zmod c.prime.m.p) us _ x.factor (square_three (zmod c.prime.m.p) t (e c.f0) (e d.v0) (e c.f1) (e c.f2) (e d.v1) (e c.f3) (e c.f4) v2 ∙ x.is)));
   }
 
 module _ (m : Modulus) where
   pub passes_by : (s : Screen) (t : Residue) {z : (zmod m.p).El} → z ≡ value m s (el m t) → (b : Bool) → Decides b (z ≡ (zmod m.p).zer) → Decides b (value m s (el m t) ≡ (zmod m.p).zer)
   passes_by s t e b h = subst (λ (y : (zmod m.p).El). Decides b (y ≡ (zmod m.p).zer)) e h
 
-  -- ---- the search: so many numbers are left above x
-  pub record Passing (s : Screen) (t x : Residue) (left : ℕ) : Type 0 where
+  -- ---- the search: n is x's number
+  pub record Passing (s : Screen) (t x : Residue) (n : ℕ) : Type 0 where
     pub passed : Passed m s t x
-    pub is : suc (num m.p (el m x) + left) ≡ m.p
+    pub is : num m.p (el m x) ≡ n
 
-  pub pass_begin : (s : Screen) (t : Residue) → Settled m t → {n p : ℕ} → n ≡ num m.p (el m t) → p ≡ m.p → Passing s t t (p - 1 - n)
-  pass_begin s t h {n} {p} e q = record {
-    passed = record { settled = h; from = omega arith; none = λ k l u. absurd (omega arith) };
-    is = omega (arith, num_lt m.p (omega (arith, h.below)) (el m t));
-  }
+  pub pass_begin : (s : Screen) (t : Residue) → Settled m t → {n : ℕ} → n ≡ num m.p (el m t) → Passing s t t n
+  pass_begin s t h {n} e = record { passed = record { settled = h; from = omega arith; none = λ k l u. absurd (omega arith) }; is = sym e }
 
-  pub pass_turn : (s : Screen) (t x : Residue) (left : ℕ) → Passing s t x left → 0 < left → value m s (el m x) ≢ (zmod m.p).zer → (y : Residue) → Settles m y ((zmod m.p).add (el m x) (zmod m.p).one) → Passing s t y (left - 1)
-  pass_turn s t x left h l n y hy = record {
+  pub pass_turn : (s : Screen) (t x : Residue) (n : ℕ) → Passing s t x n → suc n < m.p → value m s (el m x) ≢ (zmod m.p).zer → (y : Residue) → Settles m y ((zmod m.p).add (el m x) (zmod m.p).one) → Passing s t y (n + 1)
+  pass_turn s t x n h l ne y hy = record {
     passed = record { settled = hy.settled; from = omega (arith, next, h.passed.from); none = λ k a u. go k a (omega (arith, next, u)) (dec_lt k (num m.p (el m x))) };
     is = omega (arith, next, h.is);
   }
     where
       next : num m.p (el m y) ≡ suc (num m.p (el m x))
-      next = ap (num m.p) hy.is ∙ raised_below m.p (omega (arith, h.is)) (el m x) (omega (arith, h.is))
+      next = ap (num m.p) hy.is ∙ raised_below m.p (omega (arith, l)) (el m x) (omega (arith, h.is, l))
 
       go : (k : ℕ) → num m.p (el m t) ≤ k → k ≤ num m.p (el m x) → Dec (k < num m.p (el m x)) → value m s (emb m.p k) ≢ (zmod m.p).zer
       go k a u (yes i) = h.passed.none k a i
-      go k a u (no i) = let e : k ≡ num m.p (el m x) = omega arith in λ z. n (ap (value m s) (sym (ap (emb m.p) e ∙ emb_num m.p (el m x))) ∙ z)
+      go k a u (no i) = let e : k ≡ num m.p (el m x) = omega arith in λ z. ne (ap (value m s) (sym (ap (emb m.p) e ∙ emb_num m.p (el m x))) ∙ z)

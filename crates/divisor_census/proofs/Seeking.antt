@@ -1,6 +1,7 @@
 -- The walk over the candidates. Gives: a divisor of a row is the rule's pair of the row's numbers (`row_pair`); what the rule answers by what stands behind a divisor (`next_behind`), and by what is ahead of a candidate, from the walk's begin to its ends (`Seeking`).
 use Prim.Native.Nat.{ℕ, zero, suc, ◌+◌, ◌*◌, ◌≤◌, ◌<◌}
 use mathlib.Core.Path.{◌≡◌, refl, sym, ap, ap₂, ◌∙◌, subst}
+use Rattle.std.specs.Prelude.{Some, None}
 use mathlib.Core.List.{List, [], ◌∷◌, ◌++◌}
 use mathlib.Core.Bool.{Bool}
 use native.Mathlib.Omega.{arith}
@@ -21,12 +22,11 @@ use Rattle.field.proofs.Decide.{otherwise}
 use Rattle.divisor.specs.declared.Divisor.{Divisor}
 use Rattle.divisor.specs.Divisors.{weight_of, us, vs, elements as values, pair, AllSettled, RowOf, Held}
 use Rattle.divisor.proofs.Laws.{weight_is, weight_is_v}
-use Rattle.divisor.proofs.Rows.{settled_both, row_u, row_v}
+use Rattle.divisor.proofs.Rows.{row_u, row_v}
 use Rattle.curve.specs.declared.Curve.{Curve}
-use Rattle.curve.specs.Curves.{curve_of, Sound, Holds, Divided}
+use Rattle.curve.specs.Curves.{curve_of, Holds, Divided}
 use Rattle.curve.specs.Record.{record_of}
 use Rattle.divisor_census.specs.declared.Candidate.{Candidate}
-use Rattle.divisor_census.specs.declared.Next.TheVariants.{Found, Last}
 use Rattle.divisor_census.specs.Rows.{digits, Rowed, row_of, on, Advanced, NextIs}
 use Rattle.divisor_census.specs.Screens.{tried, stands, Skipped}
 use Rattle.divisor_census.proofs.Raising.{length_digits}
@@ -79,10 +79,7 @@ module _ (m : Modulus) where
         v_is = ap (values m) (row_v d l h w e ∙ back) ∙ sym (digits_values (drop w (take (2 * w) l))) ∙ ap (elements m.p) (sym (digits_drop w (take (2 * w) l)))
 
     pub row_held : Rowed m (2 * w) l → Held m d
-    row_held r = let t = settled_front (us d) (vs d) (subst (AllSettled m) whole r.settled) in record { good = r.good; u = t.0; v = t.1 }
-
-    pub held_row : Held m d → length l ≡ 6 → w ≤ 3 → Rowed m (2 * w) l
-    held_row k long u = record { good = k.good; within = omega arith; long = long; settled = subst (AllSettled m) (sym whole) (settled_both m (us d) (vs d) k.u k.v) }
+    row_held r = let t = settled_front (us d) (vs d) (subst (AllSettled m) whole r.settled) in record { u = t.0; v = t.1 }
 
 -- ---- the walk
 module _ (c : Curve) where
@@ -94,37 +91,34 @@ module _ (c : Curve) where
 
   -- what is ahead of (w, l) answers as what was ahead of (w₀, l₀)
   pub record Seeking (w₀ : ℕ) (l₀ : List Residue) (w : ℕ) (l : List Residue) : Type 0 where
-    pub rowed : w ≤ 3 → Rowed c.m (2 * w) l
+    pub rowed : w ≤ 3 → Rowed c.prime.m (2 * w) l
     pub is : first (stands c w l) ≡ first (stands c w₀ l₀)
 
-module _ (c : Curve) (sound : Sound c) where
-  some : 0 < c.m.p
-  some = omega (arith, sound.good.ring.from)
+module _ (c : Curve) where
+  some : 0 < c.prime.m.p
+  some = omega (arith, c.prime.m.odd.from)
 
-  long_row : (w : ℕ) (l : List Residue) → length l ≡ 6 → w ≤ 3 → length (row_of c.m w l) ≡ w + w
-  long_row w l e u = length_digits c.m (take (2 * w) l) ∙ length-take-le (2 * w) l (omega arith) ∙ omega arith
+  long_row : (w : ℕ) (l : List Residue) → length l ≡ 6 → w ≤ 3 → length (row_of c.prime.m w l) ≡ w + w
+  long_row w l e u = length_digits c.prime.m (take (2 * w) l) ∙ length-take-le (2 * w) l (omega arith) ∙ omega arith
 
   -- the rule's answer by what stands behind a divisor of the row l
   pub next_behind : (d : Divisor) → Holds c d → (w : ℕ) → w ≡ weight_of d → (l : List Residue) → RowOf d l → length l ≡ 6 → w ≤ 3
-      → next (R c) (pair c.m d) ≡ first (passing (T c) (later (R c) w (row_of c.m w l)))
-  next_behind d h w e l r long u = go (pairs_split (R c) w (row_of c.m w l) light (long_row w l long u) (digits_small c.m some (take (2 * w) l)))
+      → next (R c) (pair c.prime.m d) ≡ first (passing (T c) (later (R c) w (row_of c.prime.m w l)))
+  next_behind d h w e l r long u = go (pairs_split (R c) w (row_of c.prime.m w l) light (long_row w l long u) (digits_small c.prime.m some (take (2 * w) l)))
     where
       light : w ≤ c.g
-      light = omega (arith, h.valid.small, weight_is c.m d, e)
+      light = omega (arith, h.valid.small, weight_is c.prime.m d, e)
 
-      is : pair c.m d ≡ pair_from (R c) w (row_of c.m w l)
-      is = row_pair c.m d w (sym e) l r c.g (curve_of c).low long u
+      is : pair c.prime.m d ≡ pair_from (R c) w (row_of c.prime.m w l)
+      is = row_pair c.prime.m d w (sym e) l r c.g (curve_of c).low long u
 
-      go : (a : List (PairOf (R c))) × (pairs (R c) ≡ a ++ (pair_from (R c) w (row_of c.m w l) ∷ later (R c) w (row_of c.m w l))) → next (R c) (pair c.m d) ≡ first (passing (T c) (later (R c) w (row_of c.m w l)))
-      go t = next_is (R c) some (omega (arith, sound.good.ring.turns.most)) t.0 (pair c.m d) (later (R c) w (row_of c.m w l)) (t.1 ∙ ap (λ x. t.0 ++ (x ∷ later (R c) w (row_of c.m w l))) (sym is)) ((on_curve_test (curve_of c) (pair c.m d)).1 h.valid.divides)
-
-  pub seek_begin : (w : ℕ) (l : List Residue) (t : Candidate) → Advanced c.m w l t → Seeking c t.weight t.row t.weight t.row
-  seek_begin w l t h = record { rowed = h.rowed; is = refl }
+      go : (a : List (PairOf (R c))) × (pairs (R c) ≡ a ++ (pair_from (R c) w (row_of c.prime.m w l) ∷ later (R c) w (row_of c.prime.m w l))) → next (R c) (pair c.prime.m d) ≡ first (passing (T c) (later (R c) w (row_of c.prime.m w l)))
+      go t = next_is (R c) some (omega (arith, c.prime.m.odd.most)) t.0 (pair c.prime.m d) (later (R c) w (row_of c.prime.m w l)) (t.1 ∙ ap (λ x. t.0 ++ (x ∷ later (R c) w (row_of c.prime.m w l))) (sym is)) ((on_curve_test (curve_of c) (pair c.prime.m d)).1 h.valid.divides)
 
   -- the walk's begin, behind d
-  pub seek_from : (d : Divisor) → Holds c d → (w : ℕ) → w ≡ weight_of d → (l : List Residue) → RowOf d l → length l ≡ 6 → w ≤ 3 → (t : Candidate) → Advanced c.m w l t
-      → next (R c) (pair c.m d) ≡ first (stands c t.weight t.row)
-  seek_from d h w e l r long u t a = next_behind d h w e l r long u ∙ ap (λ s. first (passing (T c) s)) (a.is c.g (curve_of c).low sound.most (omega (arith, h.valid.small, weight_is c.m d, e)))
+  pub seek_from : (d : Divisor) → Holds c d → (w : ℕ) → w ≡ weight_of d → (l : List Residue) → RowOf d l → length l ≡ 6 → w ≤ 3 → (t : Candidate) → Advanced c.prime.m w l t
+      → next (R c) (pair c.prime.m d) ≡ first (stands c t.weight t.row)
+  seek_from d h w e l r long u t a = next_behind d h w e l r long u ∙ ap (λ s. first (passing (T c) s)) (a.is c.g (curve_of c).low c.genus.most (omega (arith, h.valid.small, weight_is c.prime.m d, e)))
 
   module _ (w₀ : ℕ) (l₀ : List Residue) (w : ℕ) (l : List Residue) (h : Seeking c w₀ l₀ w l) where
     -- past what the screen turns away
@@ -133,33 +127,33 @@ module _ (c : Curve) (sound : Sound c) where
 
     module _ (light : w ≤ c.g) (x : Divisor) (e : weight_of x ≡ w) (r : RowOf x l) where
       three : w ≤ 3
-      three = omega (arith, sound.most)
+      three = omega (arith, c.genus.most)
 
-      is : pair c.m x ≡ pair_from (R c) w (row_of c.m w l)
-      is = row_pair c.m x w e l r c.g (curve_of c).low (h.rowed three).long three
+      is : pair c.prime.m x ≡ pair_from (R c) w (row_of c.prime.m w l)
+      is = row_pair c.prime.m x w e l r c.g (curve_of c).low (h.rowed three).long three
 
-      here : tried c w l ≡ pair c.m x ∷ later (R c) w (row_of c.m w l)
-      here = ahead_in (R c) w (row_of c.m w l) light ∙ ap (λ t. t ∷ later (R c) w (row_of c.m w l)) (sym is)
+      here : tried c w l ≡ pair c.prime.m x ∷ later (R c) w (row_of c.prime.m w l)
+      here = ahead_in (R c) w (row_of c.prime.m w l) light ∙ ap (λ t. t ∷ later (R c) w (row_of c.prime.m w l)) (sym is)
 
-      pub seek_held : Held c.m x
-      seek_held = row_held c.m x w e l r (h.rowed three)
+      pub seek_held : Held c.prime.m x
+      seek_held = row_held c.prime.m x w e l r (h.rowed three)
 
-      pub seek_found : (d : Divisor) → next (R c) (pair c.m d) ≡ first (stands c w₀ l₀) → Divided c x → NextIs c d (Found x)
+      pub seek_found : (d : Divisor) → next (R c) (pair c.prime.m d) ≡ first (stands c w₀ l₀) → Divided c x → NextIs c d (Some x)
       seek_found d n q = (
-        record { held = seek_held; valid = record { fits = weight_is_v c.m x ∙ sym (weight_is c.m x); small = omega (arith, weight_is c.m x, e); divides = q } },
-        n ∙ sym h.is ∙ ap (λ t. first (passing (T c) t)) here ∙ ap first (passing_yes (T c) (pair c.m x) _ ((on_curve_test (curve_of c) (pair c.m x)).1 q)),
+        record { held = seek_held; valid = record { fits = weight_is_v c.prime.m x ∙ sym (weight_is c.prime.m x); small = omega (arith, weight_is c.prime.m x, e); divides = q } },
+        n ∙ sym h.is ∙ ap (λ t. first (passing (T c) t)) here ∙ ap first (passing_yes (T c) (pair c.prime.m x) _ ((on_curve_test (curve_of c) (pair c.prime.m x)).1 q)),
       )
 
-      module _ (q : Divided c x → ⊥) (t : Candidate) (a : Advanced c.m w l t) where
+      module _ (q : Divided c x → ⊥) (t : Candidate) (a : Advanced c.prime.m w l t) where
         skipped : stands c w l ≡ stands c t.weight t.row
-        skipped = ap (passing (T c)) here ∙ passing_no (T c) (pair c.m x) _ (otherwise ((T c) (pair c.m x)) (λ y. q ((on_curve_test (curve_of c) (pair c.m x)).0 y))) ∙ ap (passing (T c)) (a.is c.g (curve_of c).low sound.most light)
+        skipped = ap (passing (T c)) here ∙ passing_no (T c) (pair c.prime.m x) _ (otherwise ((T c) (pair c.prime.m x)) (λ y. q ((on_curve_test (curve_of c) (pair c.prime.m x)).0 y))) ∙ ap (passing (T c)) (a.is c.g (curve_of c).low c.genus.most light)
 
         pub seek_turn : Seeking c w₀ l₀ t.weight t.row
         seek_turn = record { rowed = a.rowed; is = ap first (sym skipped) ∙ h.is }
 
         pub seek_less : length (tried c t.weight t.row) < length (tried c w l)
-        seek_less = omega (arith, ap length here, ap length (a.is c.g (curve_of c).low sound.most light))
+        seek_less = omega (arith, ap length here, ap length (a.is c.g (curve_of c).low c.genus.most light))
 
-    pub seek_end : c.g < w → (d : Divisor) → next (R c) (pair c.m d) ≡ first (stands c w₀ l₀) → NextIs c d Last
+    pub seek_end : c.g < w → (d : Divisor) → next (R c) (pair c.prime.m d) ≡ first (stands c w₀ l₀) → NextIs c d None
     unfolding passing
-    seek_end u d n = n ∙ sym h.is ∙ ap (λ t. first (passing (T c) t)) (ahead_out (R c) w (row_of c.m w l) u)
+    seek_end u d n = n ∙ sym h.is ∙ ap (λ t. first (passing (T c) t)) (ahead_out (R c) w (row_of c.prime.m w l) u)

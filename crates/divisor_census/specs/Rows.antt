@@ -1,5 +1,5 @@
 -- W-211: a divisor's numbers as a counter. What the steps of the walk over all divisors promise, in the words of the rule's list.
-use Rattle.std.specs.Prelude.{ℕ, suc, ◌*◌, ◌≤◌, ◌<◌, ◌≡◌, List, [], ◌∷◌, ◌++◌, leb, length, take, replicate}
+use Rattle.std.specs.Prelude.{ℕ, Option, Some, None, suc, ◌*◌, ◌≤◌, ◌<◌, ◌≡◌, List, [], ◌∷◌, ◌++◌, leb, length, take, replicate}
 use Rattle.algebra.proofs.Zmod.Zmod.{zmod, num}
 use Rattle.rules.specs.Checks.{refused, taken, choose}
 use Rattle.rules.specs.Records.{CurveRecord, PairOf}
@@ -8,16 +8,13 @@ use Rattle.rules.proofs.Census.Rows.{Tops}
 use Rattle.rules.proofs.Census.Pairs.{later}
 use Rattle.field.specs.declared.Modulus.{Modulus}
 use Rattle.field.specs.declared.Residue.{Residue}
-use Rattle.field.specs.Residues.{el, Good}
+use Rattle.field.specs.Residues.{el}
 use Rattle.divisor.specs.declared.Divisor.{Divisor}
 use Rattle.divisor.specs.Divisors.{pair, AllSettled}
 use Rattle.curve.specs.declared.Curve.{Curve}
 use Rattle.curve.specs.Curves.{Holds}
 use Rattle.curve.specs.Record.{record_of}
-use Rattle.divisor_census.specs.declared.Raised.{Raised}
 use Rattle.divisor_census.specs.declared.Candidate.{Candidate}
-use Rattle.divisor_census.specs.declared.Next.{Next}
-use Rattle.divisor_census.specs.declared.Next.TheVariants.{Found, Last}
 
 module _ (m : Modulus) where
   -- the numbers of a row of residues
@@ -27,13 +24,12 @@ module _ (m : Modulus) where
 
   -- the first n of six residues count
   pub record Rowed (n : ℕ) (l : List Residue) : Type 0 where
-    pub good : Good m
     pub within : n ≤ 6
     pub long : length l ≡ 6
     pub settled : AllSettled m (take n l)
 
-  -- the last number that can be raised, the one at place k counted from 1, is raised, with zeros behind it
-  pub record RaisedAt (l r : List ℕ) (k : ℕ) : Type 0 where
+  -- the last number that can be raised is raised, with zeros behind it
+  pub record RaisedAt (l r : List ℕ) : Type 0 where
     pub front : List ℕ
     pub number : ℕ
     pub behind : List ℕ
@@ -41,13 +37,11 @@ module _ (m : Modulus) where
     pub is : r ≡ front ++ (suc number ∷ replicate (length behind) 0)
     pub below : suc number < m.p
     pub tops : Tops m.p behind
-    pub place : k ≡ suc (length front)
 
-  -- of the first n; at is 0 where none can be raised
-  pub record RaisedIs (n : ℕ) (l : List Residue) (r : Raised) : Type 0 where
-    pub rowed : Rowed n r.row
-    pub some : (r.at ≡ 0 → ⊥) → RaisedAt (digits (take n l)) (digits (take n r.row)) r.at
-    pub none : r.at ≡ 0 → Tops m.p (digits (take n l))
+  -- of the first n, or None where none can be raised
+  abbrev pub RaisedIs : ℕ → List Residue → Option (List Residue) → Type 0
+  RaisedIs n l (Some r) = Rowed n r × RaisedAt (digits (take n l)) (digits (take n r))
+  RaisedIs n l None = Tops m.p (digits (take n l))
 
 -- what is tried from here on: this one and those behind it, and nothing past weight g
 unfoldable pub ahead : (c : CurveRecord) → ℕ → List ℕ → List (PairOf c)
@@ -68,6 +62,6 @@ module _ (m : Modulus) where
     pub is : (g : ℕ) (low : List (zmod m.p).El) → g ≤ 3 → w ≤ g → later (on g low) w (row_of w l) ≡ ahead (on g low) t.weight (row_of t.weight t.row)
 
 -- the next valid divisor is the rule's
-abbrev pub NextIs : Curve → Divisor → Next → Type 0
-NextIs c d (Found y) = Holds c y × (next (record_of c) (pair c.m d) ≡ taken (pair c.m y))
-NextIs c d Last = next (record_of c) (pair c.m d) ≡ refused 24 0
+abbrev pub NextIs : Curve → Divisor → Option Divisor → Type 0
+NextIs c d (Some y) = Holds c y × (next (record_of c) (pair c.prime.m d) ≡ taken (pair c.prime.m y))
+NextIs c d None = next (record_of c) (pair c.prime.m d) ≡ refused 24 0

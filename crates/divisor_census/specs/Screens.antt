@@ -34,23 +34,23 @@ module _ (m : Modulus) where
     pub none : (n : ℕ) → num m.p (el m t) ≤ n → n < num m.p (el m x) → value s (emb m.p n) ≢ (zmod m.p).zer
 
 -- d with a in the place of v_2
-abbrev pub ended : (c : Curve) → Cubic → (zmod c.m.p).El → Pair (modulo c.m.p)
-ended c d a = record { u = el c.m d.u0 ∷ el c.m d.u1 ∷ el c.m d.u2 ∷ []; v = el c.m d.v0 ∷ el c.m d.v1 ∷ a ∷ [] }
+abbrev pub ended : (c : Curve) → Cubic → (zmod c.prime.m.p).El → Pair (modulo c.prime.m.p)
+ended c d a = record { u = el c.prime.m d.u0 ∷ el c.prime.m d.u1 ∷ el c.prime.m d.u2 ∷ []; v = el c.prime.m d.v0 ∷ el c.prime.m d.v1 ∷ a ∷ [] }
 
 -- where u divides f - v², the screen is zero
 pub record Screens (c : Curve) (d : Cubic) (s : Screen) : Type 0 where
-  pub ready : Ready c.m s
-  pub zero : (a : (zmod c.m.p).El) → Divides (Kx (curve_of c)) (u_of (curve_of c) (ended c d a)) (f_minus_v² (curve_of c) (ended c d a)) → value c.m s a ≡ (zmod c.m.p).zer
+  pub ready : Ready c.prime.m s
+  pub zero : (a : (zmod c.prime.m.p).El) → Divides (Kx (curve_of c)) (u_of (curve_of c) (ended c d a)) (f_minus_v² (curve_of c) (ended c d a)) → value c.prime.m s a ≡ (zmod c.prime.m.p).zer
 
 -- what is tried on the curve from this candidate on, and what of it is valid
 abbrev pub tried : (c : Curve) → ℕ → List Residue → List (PairOf (record_of c))
-tried c w l = ahead (record_of c) w (row_of c.m w l)
+tried c w l = ahead (record_of c) w (row_of c.prime.m w l)
 
 abbrev pub stands : (c : Curve) → ℕ → List Residue → List (PairOf (record_of c))
 stands c w l = passing (is_on_curve (curve_of c)) (tried c w l)
 
 -- from l to r nothing valid was passed over
 pub record Skipped (c : Curve) (w : ℕ) (l r : List Residue) : Type 0 where
-  pub rowed : Rowed c.m (2 * w) r
+  pub rowed : Rowed c.prime.m (2 * w) r
   pub same : stands c w r ≡ stands c w l
   pub fewer : length (tried c w r) ≤ length (tried c w l)

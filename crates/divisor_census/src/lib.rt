@@ -7,7 +7,7 @@ ghost use Rattle.algebra.proofs.Zmod.Zmod.{zmod};
 ghost use Rattle.field.specs.Primes.{Decides};
 ghost use Rattle.field.specs.Residues.{el, Settled};
 ghost use Rattle.divisor.specs.Divisors.{Held};
-ghost use Rattle.curve.specs.Curves.{Sound, Holds};
+ghost use Rattle.curve.specs.Curves.{Holds};
 ghost use Rattle.divisor_census.specs.Rows.{Rowed, RaisedIs, Advanced, NextIs};
 ghost use Rattle.divisor_census.specs.Screens.{value, Ready, Screens, Passed, Skipped};
 
@@ -15,46 +15,28 @@ use curve::Curve;
 use divisor::{Cubic, Divisor};
 use field::{Modulus, Residue};
 
-#[derive(Clone, Copy)]
-pub enum Next {
-    Found(Divisor),
-    Last,
-}
-
-// A row of numbers after one turn, and the place of the number that was raised, from 1; 0 where none could be.
-#[derive(Clone, Copy)]
-pub struct Raised {
-    pub row: [Residue; 6],
-    pub at: usize,
-}
-
 // What is tried on the curve: a weight w, and the first 2 w numbers of a row.
-#[derive(Clone, Copy)]
+#[derive(Clone, Copy, Debug, PartialEq, Eq)]
 pub struct Candidate {
     pub weight: usize,
     pub row: [Residue; 6],
 }
 
-// The last of the first n numbers that isn't p - 1 is raised by one, and those behind it are zero.
-fn raise(r: [Residue; 6], n: usize, m: Modulus) -> Raised
+// The last of the first n numbers that isn't p - 1 is raised by one, and those behind it are zero. None where each is p - 1.
+fn raise(r: [Residue; 6], n: usize, m: Modulus) -> Option<[Residue; 6]>
     requires { Rowed m n r }
     ensures { RaisedIs m n r result }
 {
     let one = Residue::one(m);
     let mut row = r;
-    let mut k = n;
-    while 0 < k {
-        k -= 1;
+    for k in (0..n).rev() {
         let x = row[k].add(one, m).settle(m);
         row[k] = x;
         if !x.is_zero(m) {
-            return Raised {
-                row: row,
-                at: k + 1,
-            };
+            return Some(row);
         }
     }
-    Raised { row: row, at: 0 }
+    None
 }
 
 // The candidate behind this one: the numbers raised, or the next weight from zeros on.
@@ -62,21 +44,18 @@ fn advance(w: usize, row: [Residue; 6], m: Modulus) -> Candidate
     requires { Rowed m (2 * w) row }
     ensures { Advanced m w row result }
 {
-    let b = raise(row, 2 * w, m);
-    if b.at == 0 {
-        let z = Residue::zero();
-        return Candidate {
+    match raise(row, 2 * w, m) {
+        Some(r) => Candidate { weight: w, row: r },
+        None => Candidate {
             weight: w + 1,
-            row: [z; 6],
-        };
+            row: [Residue::zero(); 6],
+        },
     }
-    let r = b.row;
-    Candidate { weight: w, row: r }
 }
 
 // Weight 3: of what f - v * v leaves when it is divided by u, the coefficient of x^0, as a polynomial in v2: c0 + c1 v2 + c2 v2². Where it isn't zero,
 // the divisor isn't valid; of p numbers v2 at most two pass, unless all do.
-#[derive(Clone, Copy)]
+#[derive(Clone, Copy, Debug, PartialEq, Eq)]
 pub struct Screen {
     pub c0: Residue,
     pub c1: Residue,
@@ -85,10 +64,10 @@ pub struct Screen {
 
 // By the quotient's coefficients, from the top: q3 and q2 have no v2 in them, q1 is a - v2², and q0 is q - 2 v1 v2 + u2 v2².
 fn screen_of(c: Curve, d: Cubic) -> Screen
-    requires { Sound c × ((c.g ≡ 3) × Held c.m (Divisor.Three d)) }
+    requires { (c.g ≡ 3) × Held c.prime.m (Divisor.Three d) }
     ensures { Screens c d result }
 {
-    let m = c.m;
+    let m = c.prime.m;
     let q3 = c.f6.sub(d.u2, m);
     let q2 = c.f5.sub(d.u1, m).sub(q3.mul(d.u2, m), m);
     let a = c.f4.sub(d.u0, m).sub(q3.dot(d.u1, q2, d.u2, m), m);
@@ -122,25 +101,23 @@ fn first_passing(s: Screen, t: Residue, m: Modulus) -> Residue
 {
     let one = Residue::one(m);
     let mut x = t;
-    let mut left = m.number() - 1 - t.number(m);
-    while 0 < left {
+    for _n in t.number(m)..m.number() - 1 {
         if passes(s, x, m) {
             return x;
         }
         x = x.add(one, m).settle(m);
-        left -= 1;
     }
     x
 }
 
 // A candidate's row, of weight 3 with its last number raised past those that the screen turns away.
 fn skip(c: Curve, w: usize, row: [Residue; 6]) -> [Residue; 6]
-    requires { Sound c × ((w ≤ c.g) × Rowed c.m (2 * w) row) }
+    requires { (w ≤ c.g) × Rowed c.prime.m (2 * w) row }
     ensures { Skipped c w row result }
 {
     match Divisor::of_row(w, row) {
         Divisor::Three(d) => {
-            let m = c.m;
+            let m = c.prime.m;
             let mut r = row;
             r[5] = first_passing(screen_of(c, d), d.v2, m);
             r
@@ -149,25 +126,21 @@ fn skip(c: Curve, w: usize, row: [Residue; 6]) -> [Residue; 6]
     }
 }
 
-// The next valid divisor, in order of weight and then of the numbers, those of u first.
-pub fn next_valid(c: Curve, d: Divisor) -> Next
-    requires { Sound c × Holds c d }
+// The next valid divisor, in order of weight and then of the numbers, those of u first. None behind the last.
+pub fn next_valid(c: Curve, d: Divisor) -> Option<Divisor>
+    requires { Holds c d }
     ensures { NextIs c d result }
 {
-    let m = c.m;
-    let g = c.g;
-    let first = advance(d.weight(), d.row(), m);
-    let mut w = first.weight;
-    let mut row = first.row;
-    while w <= g {
-        let r = skip(c, w, row);
-        let x = Divisor::of_row(w, r);
+    let m = c.prime.m;
+    let mut t = advance(d.weight(), d.row(), m);
+    // Each turn goes on from the candidate before, past those that the screen turns away: no range counts them.
+    while t.weight <= c.g {
+        let r = skip(c, t.weight, t.row);
+        let x = Divisor::of_row(t.weight, r);
         if c.contains(x) {
-            return Next::Found(x);
+            return Some(x);
         }
-        let t = advance(w, r, m);
-        w = t.weight;
-        row = t.row;
+        t = advance(t.weight, r, m);
     }
-    Next::Last
+    None
 }

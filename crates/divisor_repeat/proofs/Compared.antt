@@ -19,11 +19,12 @@ use Rattle.rules.proofs.Calls.Same.{zeros, neg_zeros}
 use Rattle.field.specs.declared.Modulus.{Modulus}
 use Rattle.field.specs.declared.Residue.{Residue}
 use Rattle.field.specs.Primes.{Decides}
-use Rattle.field.specs.Residues.{el, Good, Settles, Everywhere}
+use Rattle.field.specs.Residues.{el, Settles, Everywhere}
 use Rattle.divisor.specs.declared.Divisor.{Divisor}
-use Rattle.divisor.specs.declared.Divisor.TheVariants.{One, Two, Three}
+use Rattle.divisor.specs.declared.Divisor.TheVariants.{Neutral, One, Two, Three}
 use Rattle.divisor.specs.declared.Linear.{Linear}
 use Rattle.divisor.specs.declared.Quadratic.{Quadratic}
+use Rattle.divisor.specs.declared.Cubic.{Cubic}
 use Rattle.divisor.specs.Divisors.{weight_of, pair, Held}
 use Rattle.divisor.proofs.Laws.{weight_is, weight_is_v}
 use Rattle.divisor_repeat.proofs.alike.Compared.{decides_as, same_u}
@@ -64,6 +65,47 @@ module _ (K : Arith) where
   same_padding n a b (inl e) = inl (ap (padded K n) e)
   same_padding n a b (inr e) = inr (ap (padded K n) e ∙ sym (padded_opposite n b))
 
+-- ---- of two weights
+weight_none : (b : Divisor) → 0 ≡ weight_of b → b ≡ Neutral
+weight_none Neutral e = refl
+weight_none (One y) e = absurd (omega arith)
+weight_none (Two y) e = absurd (omega arith)
+weight_none (Three y) e = absurd (omega arith)
+
+weight_one : (b : Divisor) → 1 ≡ weight_of b → (y : Linear) × (b ≡ One y)
+weight_one (One y) e = (y, refl)
+weight_one Neutral e = absurd (omega arith)
+weight_one (Two y) e = absurd (omega arith)
+weight_one (Three y) e = absurd (omega arith)
+
+weight_two : (b : Divisor) → 2 ≡ weight_of b → (y : Quadratic) × (b ≡ Two y)
+weight_two (Two y) e = (y, refl)
+weight_two Neutral e = absurd (omega arith)
+weight_two (One y) e = absurd (omega arith)
+weight_two (Three y) e = absurd (omega arith)
+
+weight_three : (b : Divisor) → 3 ≡ weight_of b → (y : Cubic) × (b ≡ Three y)
+weight_three (Three y) e = (y, refl)
+weight_three Neutral e = absurd (omega arith)
+weight_three (One y) e = absurd (omega arith)
+weight_three (Two y) e = absurd (omega arith)
+
+module _ (m : Modulus) (a b : Divisor) where
+  one_weight : Same (pair m a) (pair m b) → weight_of a ≡ weight_of b
+  one_weight s = sym (weight_is m a) ∙ ap length (same_u (modulo m.p) (pair m a) (pair m b) s) ∙ weight_is m b
+
+  pub not_neutral : a ≡ Neutral → (b ≡ Neutral → ⊥) → Same (pair m a) (pair m b) → ⊥
+  not_neutral e n s = n (weight_none b (sym (ap weight_of e) ∙ one_weight s))
+
+  pub not_one : {x : Linear} → a ≡ One x → ((y : Linear) → b ≡ One y → ⊥) → Same (pair m a) (pair m b) → ⊥
+  not_one e n s = let w = weight_one b (sym (ap weight_of e) ∙ one_weight s) in n w.0 w.1
+
+  pub not_two : {x : Quadratic} → a ≡ Two x → ((y : Quadratic) → b ≡ Two y → ⊥) → Same (pair m a) (pair m b) → ⊥
+  not_two e n s = let w = weight_two b (sym (ap weight_of e) ∙ one_weight s) in n w.0 w.1
+
+  pub not_three : {x : Cubic} → a ≡ Three x → ((y : Cubic) → b ≡ Three y → ⊥) → Same (pair m a) (pair m b) → ⊥
+  not_three e n s = let w = weight_three b (sym (ap weight_of e) ∙ one_weight s) in n w.0 w.1
+
 module _ (m : Modulus) where
   -- a and b, whose cases are d and e
   module _ {a b d e : Divisor} (h : Held m a × Held m b) (ia : a ≡ d) (ib : b ≡ e) where
@@ -72,10 +114,6 @@ module _ (m : Modulus) where
 
     pub held_cases : Held m d × Held m e
     held_cases = (subst (Held m) ia h.0, subst (Held m) ib h.1)
-
-    -- of two weights
-    pub two_weights : (weight_of d ≡ weight_of e → ⊥) → Same (pair m a) (pair m b) → ⊥
-    two_weights n s = n (sym (ap weight_of ia) ∙ sym (weight_is m a) ∙ ap length (same_u (modulo m.p) (pair m a) (pair m b) s) ∙ weight_is m b ∙ ap weight_of ib)
 
     -- of one weight, d and e with n zeros behind
     module _ (n : ℕ) (w : weight_of d ≡ weight_of e) {d' e' : Divisor} (pd : Pads n d d') (pe : Pads n e e') where
@@ -98,21 +136,21 @@ module _ (m : Modulus) where
           from s = rw (pd.is m held_cases.0, pe.is m held_cases.1) (same_padding K n (pair m d) (pair m e) s)
 
 -- ---- the zeros in code
-module _ (z : Residue) (h : Everywhere z 0) (m : Modulus) (g : Good m) where
+module _ (z : Residue) (h : Everywhere z 0) (m : Modulus) where
   zero_settles : Settles m z (zmod m.p).zer
-  zero_settles = let k = h m g.ring (omega (arith, g.ring.from)) in record { settled = k.settled; is = k.is ∙ emb_zero m.p }
+  zero_settles = let k = h m (omega (arith, m.odd.from)) in record { settled = k.settled; is = k.is ∙ emb_zero m.p }
 
 module _ (z : Residue) (h : Everywhere z 0) where
   pub pads_one : (d : Linear) → Pads 2 (One d) (Three (record { u0 = d.u0; u1 = z; u2 = z; v0 = d.v0; v1 = z; v2 = z }))
   unfolding pair
   pads_one d = record {
-    held = λ m k. let s = (zero_settles z h m k.good).settled in record { good = k.good; u = (k.u.0, (s, (s, tt))); v = (k.v.0, (s, (s, tt))) };
-    is = λ m k. ap (λ t. record { u = el m d.u0 ∷ t ∷ t ∷ []; v = el m d.v0 ∷ t ∷ t ∷ [] }) (zero_settles z h m k.good).is;
+    held = λ m k. let s = (zero_settles z h m).settled in record { u = (k.u.0, (s, (s, tt))); v = (k.v.0, (s, (s, tt))) };
+    is = λ m k. ap (λ t. record { u = el m d.u0 ∷ t ∷ t ∷ []; v = el m d.v0 ∷ t ∷ t ∷ [] }) (zero_settles z h m).is;
   }
 
   pub pads_two : (d : Quadratic) → Pads 1 (Two d) (Three (record { u0 = d.u0; u1 = d.u1; u2 = z; v0 = d.v0; v1 = d.v1; v2 = z }))
   unfolding pair
   pads_two d = record {
-    held = λ m k. let s = (zero_settles z h m k.good).settled in record { good = k.good; u = (k.u.0, (k.u.1.0, (s, tt))); v = (k.v.0, (k.v.1.0, (s, tt))) };
-    is = λ m k. ap (λ t. record { u = el m d.u0 ∷ el m d.u1 ∷ t ∷ []; v = el m d.v0 ∷ el m d.v1 ∷ t ∷ [] }) (zero_settles z h m k.good).is;
+    held = λ m k. let s = (zero_settles z h m).settled in record { u = (k.u.0, (k.u.1.0, (s, tt))); v = (k.v.0, (k.v.1.0, (s, tt))) };
+    is = λ m k. ap (λ t. record { u = el m d.u0 ∷ el m d.u1 ∷ t ∷ []; v = el m d.v0 ∷ el m d.v1 ∷ t ∷ [] }) (zero_settles z h m).is;
   }

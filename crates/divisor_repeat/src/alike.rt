@@ -6,8 +6,7 @@ ghost use Rattle.rules.specs.Lists.{Same};
 ghost use Rattle.field.specs.Primes.{Decides};
 ghost use Rattle.field.specs.Residues.{el, Settled};
 ghost use Rattle.divisor.specs.declared.Divisor.TheVariants.{Three};
-ghost use Rattle.divisor.specs.Divisors.{AllSettled, elements, pair, Held};
-ghost use Rattle.divisor_repeat.specs.alike.Three.{three};
+ghost use Rattle.divisor.specs.Divisors.{us, vs, elements, pair, Held};
 
 use divisor::Cubic;
 use field::{Modulus, Residue};
@@ -20,46 +19,26 @@ fn cancels(a: Residue, b: Residue, m: Modulus) -> bool
     a.add(b, m).settle(m).is_zero(m)
 }
 
-// Whether three residues are equal to three, one by one.
-fn all_equal(
-    a0: Residue,
-    a1: Residue,
-    a2: Residue,
-    b0: Residue,
-    b1: Residue,
-    b2: Residue,
-    m: Modulus,
-) -> bool
-    requires { AllSettled m (three a0 a1 a2) × AllSettled m (three b0 b1 b2) }
-    ensures { Decides result (elements m (three a0 a1 a2) ≡ elements m (three b0 b1 b2)) }
+// Whether they have one u: below p, one element is one number.
+fn equal_u(a: Cubic, b: Cubic) -> bool
+    ensures { Decides result (us (Three a) ≡ us (Three b)) }
 {
-    if a0.equal(b0, m) {
-        if a1.equal(b1, m) {
-            return a2.equal(b2, m);
-        }
-    }
-    false
+    a.u0 == b.u0 && a.u1 == b.u1 && a.u2 == b.u2
 }
 
-// Whether they are the opposites of them.
-fn all_opposite(
-    a0: Residue,
-    a1: Residue,
-    a2: Residue,
-    b0: Residue,
-    b1: Residue,
-    b2: Residue,
-    m: Modulus,
-) -> bool
-    requires { AllSettled m (three a0 a1 a2) × AllSettled m (three b0 b1 b2) }
-    ensures { Decides result (elements m (three a0 a1 a2) ≡ neg_l (zmod m.p) (elements m (three b0 b1 b2))) }
+fn equal_v(a: Cubic, b: Cubic) -> bool
+    ensures { Decides result (vs (Three a) ≡ vs (Three b)) }
 {
-    if cancels(a0, b0, m) {
-        if cancels(a1, b1, m) {
-            return cancels(a2, b2, m);
-        }
-    }
-    false
+    a.v0 == b.v0 && a.v1 == b.v1 && a.v2 == b.v2
+}
+
+// Whether the v of one is the opposite of the other's.
+#[tactic(auto, unfolding(algebra::proofs::List::Ops::neg_l))]
+fn opposite_v(a: Cubic, b: Cubic, m: Modulus) -> bool
+    requires { Held m (Three a) × Held m (Three b) }
+    ensures { Decides result (elements m (vs (Three a)) ≡ neg_l (zmod m.p) (elements m (vs (Three b)))) }
+{
+    cancels(a.v0, b.v0, m) && cancels(a.v1, b.v1, m) && cancels(a.v2, b.v2, m)
 }
 
 // u is compared once, and then v or -v.
@@ -67,11 +46,11 @@ pub fn same_cubics(a: Cubic, b: Cubic, m: Modulus) -> bool
     requires { Held m (Three a) × Held m (Three b) }
     ensures { Decides result (Same (pair m (Three a)) (pair m (Three b))) }
 {
-    if all_equal(a.u0, a.u1, a.u2, b.u0, b.u1, b.u2, m) {
-        if all_equal(a.v0, a.v1, a.v2, b.v0, b.v1, b.v2, m) {
-            return true;
-        }
-        return all_opposite(a.v0, a.v1, a.v2, b.v0, b.v1, b.v2, m);
+    if !equal_u(a, b) {
+        return false;
     }
-    false
+    if equal_v(a, b) {
+        return true;
+    }
+    opposite_v(a, b, m)
 }

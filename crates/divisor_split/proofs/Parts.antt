@@ -10,6 +10,7 @@ use Rattle.algebra.proofs.Ring.CRing.{add_neg, zer_mul, eq_of_sub}
 use Rattle.algebra.proofs.Ring.Field.{no_zero_divisors}
 use Rattle.algebra.proofs.Zmod.Zmod.{zmod, zmod_dec, emb, num}
 use Rattle.algebra.proofs.Zmod.PrimeField.{modulo, mul_inv, one_ne_zero}
+use Rattle.algebra.proofs.Zmod.Prime.{Prime}
 use Rattle.algebra.proofs.List.Value.{mon}
 use Rattle.algebra.proofs.List.Ops.{remainder}
 use Rattle.rules.specs.Roots.Roots.{value}
@@ -22,7 +23,7 @@ use Rattle.rules.proofs.Cantor.Split.{rest_is}
 use Rattle.rules.proofs.Calls.SplitRoots.{NoSplit}
 use Rattle.field.specs.declared.Modulus.{Modulus}
 use Rattle.field.specs.declared.Residue.{Residue}
-use Rattle.field.specs.Residues.{el, Good, Settles, Stands}
+use Rattle.field.specs.Residues.{el, Settles, Stands}
 use Rattle.field.proofs.Laws.{residue_field, settled_kept}
 use Rattle.divisor.specs.declared.Divisor.{Divisor}
 use Rattle.divisor.specs.declared.Divisor.TheVariants.{Neutral, One, Two, Three}
@@ -37,7 +38,31 @@ use Rattle.poly_root.specs.Roots.{LargestRoot}
 use Rattle.divisor_split.specs.Splits.{PartAt, RestAt, PartsOf}
 use Rattle.divisor_split.proofs.Products.{product2, product3}
 
-module _ (m : Modulus) (good : Good m) where
+module _ (m : Modulus) where
+  open zmod m.p use {El as A, neg, zer as 𝟘}
+
+  pub neutral_none : NoSplit m.p (pair m Neutral)
+  unfolding pair
+  neutral_none = inl (omega arith)
+
+  pub one_none : (d : Linear) → NoSplit m.p (pair m (One d))
+  unfolding pair
+  one_none d = inl (omega arith)
+
+  -- ---- the part at y: its u0 is -y, its v0 what is left of v
+  pub point_is : (d : Divisor) {y : A} {a : Linear} {r : Residue} → Settles m a.u0 (neg y) → Leaves m (One a) (elements m (vs d)) (r ∷ []) → Settles m a.v0 (el m r) → PartAt m d y (One a)
+  unfolding pair part_at
+  point_is d {y} {a} {r} hu left hv = record {
+    held = record { u = (hu.settled, tt); v = (hv.settled, tt) };
+    is = ap₂ (λ (s : A) (l : List A). record { u = s ∷ []; v = l }) hu.is
+        (ap (λ (s : A). s ∷ []) hv.is ∙ left.is ∙ ap (λ (s : A). remainder (zmod m.p) (s ∷ []) (elements m (vs d))) hu.is);
+  }
+
+  u0_is : (d : Divisor) {y : A} {a : Linear} → PartAt m d y (One a) → el m a.u0 ≡ neg y
+  unfolding pair part_at
+  u0_is d h = ap (λ (x : Pair (modulo m.p)). get_or x.u 0 𝟘) h.is
+
+module _ (m : Modulus) (prime : Prime m.p) where
   abbrev p : ℕ
   p = m.p
 
@@ -50,28 +75,7 @@ module _ (m : Modulus) (good : Good m) where
   E = record { K = modulo p; g = 0; low = [] }
 
   over : OverField E
-  over = record { mul_inv = mul_inv p good.prime; one_ne = one_ne_zero p good.prime }
-
-  pub neutral_none : NoSplit p (pair m Neutral)
-  unfolding pair
-  neutral_none = inl (omega arith)
-
-  pub one_none : (d : Linear) → NoSplit p (pair m (One d))
-  unfolding pair
-  one_none d = inl (omega arith)
-
-  -- ---- the part at y: its u0 is -y, its v0 what is left of v
-  pub point_is : (d : Divisor) {y : A} {a : Linear} {r : Residue} → Settles m a.u0 (neg y) → Leaves m (One a) (elements m (vs d)) (r ∷ []) → Settles m a.v0 (el m r) → PartAt m d y (One a)
-  unfolding pair part_at
-  point_is d {y} {a} {r} hu left hv = record {
-    held = record { good = good; u = (hu.settled, tt); v = (hv.settled, tt) };
-    is = ap₂ (λ (s : A) (l : List A). record { u = s ∷ []; v = l }) hu.is
-        (ap (λ (s : A). s ∷ []) hv.is ∙ left.is ∙ ap (λ (s : A). remainder (zmod p) (s ∷ []) (elements m (vs d))) hu.is);
-  }
-
-  u0_is : (d : Divisor) {y : A} {a : Linear} → PartAt m d y (One a) → el m a.u0 ≡ neg y
-  unfolding pair part_at
-  u0_is d h = ap (λ (x : Pair (modulo p)). get_or x.u 0 𝟘) h.is
+  over = record { mul_inv = mul_inv p prime; one_ne = one_ne_zero p prime }
 
   -- ---- the rest at a root y: u is its u and x - y multiplied, and its v what is left of v
   pub rest_from : (d b : Divisor) (y : A) {r : List Residue} → value (zmod p) (elements m (us d)) y ≡ 𝟘 → Held m b → length (elements m (us d)) ≡ 1 + length (elements m (us b))
@@ -107,7 +111,7 @@ module _ (m : Modulus) (good : Good m) where
           go : Dec (y ⊕ neg (el m r) ≡ 𝟘) → Dec (y ⊕ neg (el m t) ≡ 𝟘) → (y ≡ el m r) ⊎ (y ≡ el m t)
           go (yes x) b = inl (eq_of_sub (zmod p) y (el m r) x)
           go (no x) (yes b) = inr (eq_of_sub (zmod p) y (el m t) b)
-          go (no x) (no b) = absurd (no_zero_divisors (residue_field m good) (y ⊕ neg (el m r)) (y ⊕ neg (el m t)) x b (sym (factors y) ∙ e))
+          go (no x) (no b) = absurd (no_zero_divisors (residue_field m prime) (y ⊕ neg (el m r)) (y ⊕ neg (el m t)) x b (sym (factors y) ∙ e))
 
       -- the part at t is the rest at r
       other_part : {b : Linear} → PartAt m (Two d) (el m t) (One b) → RestAt m (Two d) (el m r) (One b)
@@ -133,7 +137,7 @@ module _ (m : Modulus) (good : Good m) where
         where
           least : (z : A) → (z ≡ el m r) ⊎ (z ≡ el m t) → num p (neg (el m r)) ≤ num p (neg z)
           least z (inl e) = omega (arith, ap (λ (s : A). num p (neg s)) e)
-          least z (inr e) = omega (arith, l, ap (num p) (u0_is (Two d) ha), ap (num p) (u0_is (Two d) hb), ap (λ (s : A). num p (neg s)) e)
+          least z (inr e) = omega (arith, l, ap (num p) (u0_is m (Two d) ha), ap (num p) (u0_is m (Two d) hb), ap (λ (s : A). num p (neg s)) e)
 
   -- ---- weight 3
   module _ (d : Cubic) where
@@ -143,7 +147,7 @@ module _ (m : Modulus) (good : Good m) where
 
     pub three_rest : {y : A} {b : Quadratic} {r0 r1 : Residue} → value (zmod p) (elements m (us (Three d))) y ≡ 𝟘 → Settles m b.u1 (el m d.u2 ⊕ y) → Settles m b.u0 (y ⊗ (el m d.u2 ⊕ y) ⊕ el m d.u1)
         → Leaves m (Two b) (elements m (vs (Three d))) (r0 ∷ r1 ∷ []) → Settles m b.v0 (el m r0) → Settles m b.v1 (el m r1) → RestAt m (Three d) y (Two b)
-    three_rest {y} {b} root h1 h0 left k0 k1 = rest_from (Three d) (Two b) y root (record { good = good; u = (h0.settled, (h1.settled, tt)); v = (k0.settled, (k1.settled, tt)) }) refl
+    three_rest {y} {b} root h1 h0 left k0 k1 = rest_from (Three d) (Two b) y root (record { u = (h0.settled, (h1.settled, tt)); v = (k0.settled, (k1.settled, tt)) }) refl
         (product3 (zmod p) (el m d.u0) (el m d.u1) (el m d.u2) y root ∙ ap₂ (λ (s t : A). (Kx E).mul (mon (zmod p) (neg y ∷ [])) (mon (zmod p) (s ∷ t ∷ []))) (sym h0.is) (sym h1.is))
         left (ap₂ (λ (s t : A). s ∷ t ∷ []) k0.is k1.is)
 

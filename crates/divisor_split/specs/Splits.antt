@@ -1,5 +1,5 @@
 -- W-213: a divisor split in two, as the rules have it: the part at a root of u and the rest.
-use Rattle.std.specs.Prelude.{◌≡◌}
+use Rattle.std.specs.Prelude.{Option, Some, None, ◌≡◌}
 use Rattle.algebra.proofs.Zmod.Zmod.{zmod}
 use Rattle.algebra.proofs.Zmod.PrimeField.{modulo}
 use Rattle.rules.specs.Roots.Roots.{value}
@@ -10,8 +10,6 @@ use Rattle.field.specs.declared.Residue.{Residue}
 use Rattle.field.specs.Residues.{el, Kept}
 use Rattle.divisor.specs.declared.Divisor.{Divisor}
 use Rattle.divisor.specs.Divisors.{us, elements, pair, Held}
-use Rattle.divisor_split.specs.declared.Parted.{Parted}
-use Rattle.divisor_split.specs.declared.Parted.TheVariants.{Parts, NoParts}
 
 pub record ToTake (m : Modulus) (d : Divisor) (y : Residue) : Type 0 where
   pub held : Held m d
@@ -37,6 +35,6 @@ pub record PartsOf (m : Modulus) (d a b : Divisor) : Type 0 where
   pub first : PartAt m d y a
   pub second : RestAt m d y b
 
-abbrev pub SplitIs : Modulus → Divisor → Parted → Type 0
-SplitIs m d (Parts a b) = PartsOf m d a b
-SplitIs m d NoParts = NoSplit m.p (pair m d)
+abbrev pub SplitIs : Modulus → Divisor → Option (Divisor × Divisor) → Type 0
+SplitIs m d (Some (a, b)) = PartsOf m d a b
+SplitIs m d None = NoSplit m.p (pair m d)

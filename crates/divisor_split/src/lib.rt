@@ -6,17 +6,8 @@ ghost use Rattle.divisor.specs.Divisors.{Held};
 ghost use Rattle.divisor_split.specs.Splits.{ToTake, PartAt, ToDivide, RestAt, SplitIs};
 
 use divisor::{Cubic, Divisor, Linear, Quadratic};
-use field::{Modulus, Residue};
-use field_root::Roots;
-use poly_root::Found;
+use field::{Modulus, PrimeModulus, Residue};
 use poly_root::rests::MonicCubic;
-
-// The two parts, or that there is no root to split at.
-#[derive(Clone, Copy)]
-pub enum Parted {
-    Parts(Divisor, Divisor),
-    NoParts,
-}
 
 // The part of weight 1 at y: u is x - y, and v what is left of v there.
 fn point_of_two(d: Quadratic, y: Residue, m: Modulus) -> Linear
@@ -39,10 +30,11 @@ fn point_of_three(d: Cubic, y: Residue, m: Modulus) -> Linear
 }
 
 // What is left of weight 3 at a root y: u divided by x - y, and v modulo that.
-fn rest_of_three(d: Cubic, y: Residue, m: Modulus) -> Quadratic
-    requires { ToDivide m (Divisor.Three d) y }
-    ensures { RestAt m (Divisor.Three d) (el m y) (Divisor.Two result) }
+fn rest_of_three(d: Cubic, y: Residue, prime: PrimeModulus) -> Quadratic
+    requires { ToDivide prime.m (Divisor.Three d) y }
+    ensures { RestAt prime.m (Divisor.Three d) (el prime.m y) (Divisor.Two result) }
 {
+    let m = prime.m;
     let u1 = d.u2.add(y, m).settle(m);
     let u0 = y.mul(u1, m).add(d.u1, m).settle(m);
     let v1 = curve::division::less(d.v1, d.v2, u1, m).settle(m);
@@ -55,53 +47,44 @@ fn rest_of_three(d: Cubic, y: Residue, m: Modulus) -> Quadratic
     }
 }
 
-fn split_two(d: Quadratic, m: Modulus) -> Parted
-    requires { Held m (Divisor.Two d) }
-    ensures { SplitIs m (Divisor.Two d) result }
+fn split_two(d: Quadratic, prime: PrimeModulus) -> Option<(Divisor, Divisor)>
+    requires { Held prime.m (Divisor.Two d) }
+    ensures { SplitIs prime.m (Divisor.Two d) result }
 {
-    match field_root::quadratic(d.u1, d.u0, m) {
-        Roots::Both(r, t) => {
-            let a = point_of_two(d, r, m);
-            let b = point_of_two(d, t, m);
-            if b.u0.number(m) < a.u0.number(m) {
-                return Parted::Parts(Divisor::One(b), Divisor::One(a));
-            }
-            Parted::Parts(Divisor::One(a), Divisor::One(b))
-        }
-        Roots::Neither => Parted::NoParts,
+    let m = prime.m;
+    let (r, t) = field_root::quadratic(d.u1, d.u0, prime)?;
+    let a = point_of_two(d, r, m);
+    let b = point_of_two(d, t, m);
+    if b.u0.number(m) < a.u0.number(m) {
+        return Some((Divisor::One(b), Divisor::One(a)));
     }
+    Some((Divisor::One(a), Divisor::One(b)))
 }
 
-fn split_three(d: Cubic, m: Modulus) -> Parted
-    requires { Held m (Divisor.Three d) }
-    ensures { SplitIs m (Divisor.Three d) result }
+fn split_three(d: Cubic, prime: PrimeModulus) -> Option<(Divisor, Divisor)>
+    requires { Held prime.m (Divisor.Three d) }
+    ensures { SplitIs prime.m (Divisor.Three d) result }
 {
-    let u0 = d.u0;
-    let u1 = d.u1;
-    let u2 = d.u2;
     let u = MonicCubic {
-        u0: u0,
-        u1: u1,
-        u2: u2,
+        u0: d.u0,
+        u1: d.u1,
+        u2: d.u2,
     };
-    match poly_root::largest_root(u, m) {
-        Found::At(y) => {
-            let a = point_of_three(d, y, m);
-            let b = rest_of_three(d, y, m);
-            Parted::Parts(Divisor::One(a), Divisor::Two(b))
-        }
-        Found::Nowhere => Parted::NoParts,
-    }
+    let y = poly_root::largest_root(u, prime)?;
+    let a = point_of_three(d, y, prime.m);
+    let b = rest_of_three(d, y, prime);
+    Some((Divisor::One(a), Divisor::Two(b)))
 }
 
-pub fn split(d: Divisor, m: Modulus) -> Parted
-    requires { Held m d }
-    ensures { SplitIs m d result }
+// The two parts, or None where there is no root to split at.
+pub fn split(d: Divisor, prime: PrimeModulus) -> Option<(Divisor, Divisor)>
+    requires { Held prime.m d }
+    ensures { SplitIs prime.m d result }
 {
     match d {
-        Divisor::Neutral => Parted::NoParts,
-        Divisor::One(_) => Parted::NoParts,
-        Divisor::Two(x) => split_two(x, m),
-        Divisor::Three(x) => split_three(x, m),
+        Divisor::Neutral => None,
+        Divisor::One(_) => None,
+        Divisor::Two(x) => split_two(x, prime),
+        Divisor::Three(x) => split_three(x, prime),
     }
 }

@@ -1,3 +1,4 @@
+pub mod Ring
 pub mod Laws
 pub mod Raw
 pub mod Units

@@ -10,8 +10,9 @@ use Rattle.field_words.proofs.Modulo.{same_element}
 use Rattle.field.specs.declared.Modulus.{Modulus}
 use Rattle.field.specs.declared.Residue.{Residue}
 use Rattle.field_montgomery.specs.Back.{back}
-use Rattle.field.specs.Residues.{el, Ring, Kept, Settled, Stands, Settles, Halves}
+use Rattle.field.specs.Residues.{el, Kept, Settled, Stands, Settles, Halves}
 use Rattle.field_montgomery.specs.Constants.{Same}
+use Rattle.field.proofs.Ring.{Ring, ring_of}
 use Rattle.field.proofs.Laws.{positive, settled_unique, zero_at}
 
 module _ (m : Modulus) where
@@ -25,67 +26,70 @@ module _ (m : Modulus) where
   abbrev B : A
   B = back m.p m.turn
 
-  -- a number below 2p stands for its element
-  pub held : (n : ℕ) {x : A} → Ring m → n < p + p → emb p n ⊗ B ≡ x → Stands m (record { 0 = n }) x
-  unfolding el
-  held n g l e = record { kept = record { ring = g; below = l }; is = e }
+  g : Ring m
+  g = ring_of m
 
-  pub same_sum : (n k a x y : ℕ) → Ring m → n + k + p * x ≡ a + p * y → emb p n ⊕ emb p k ≡ emb p a
-  same_sum n k a x y g e = sym (emb_add p n k) ∙ same_element p (positive m g) (n + k) a x y e
+  -- a number below 2p stands for its element
+  pub held : (n : ℕ) {x : A} → n < p + p → emb p n ⊗ B ≡ x → Stands m (record { 0 = n }) x
+  unfolding el
+  held n l e = record { kept = record { below = l }; is = e }
+
+  pub same_sum : (n k a x y : ℕ) → n + k + p * x ≡ a + p * y → emb p n ⊕ emb p k ≡ emb p a
+  same_sum n k a x y e = sym (emb_add p n k) ∙ same_element p (positive m) (n + k) a x y e
 
   module _ (a : Residue) (h : Kept m a) where
     pub settle_is : {r : ℕ} → Same p a.0 r → Settles m (record { 0 = r }) (el m a)
     unfolding el
-    settle_is {r} s = record { settled = record { ring = h.ring; below = s.below }; is = ap (λ i. i ⊗ B) s.is }
+    settle_is {r} s = record { settled = record { below = s.below }; is = ap (λ i. i ⊗ B) s.is }
 
     pub neg_zero : a.0 ≡ 0 → Stands m a (ng (el m a))
     unfolding el
-    neg_zero e = let z : emb p a.0 ⊗ B ≡ 𝟘 = zero_at m h.ring e in record { kept = h; is = z ∙ sym (ap ng z ∙ neg_zer (zmod p)) }
+    neg_zero e = let z : emb p a.0 ⊗ B ≡ 𝟘 = zero_at m e in record { kept = h; is = z ∙ sym (ap ng z ∙ neg_zer (zmod p)) }
 
     pub neg_is : (a.0 ≡ 0 → ⊥) → Stands m (record { 0 = m.twice - a.0 }) (ng (el m a))
     unfolding el
-    neg_is ne = held (m.twice - a.0) h.ring (omega (arith, h.below, h.ring.twice)) (by (zmod p) B whole (ring (zmod p) (emb p (m.twice - a.0) ∷ emb p a.0 ∷ B ∷ []) (search quote depth 40) refl))
+    neg_is ne = held (m.twice - a.0) (omega (arith, h.below, g.twice)) (by (zmod p) B whole (ring (zmod p) (emb p (m.twice - a.0) ∷ emb p a.0 ∷ B ∷ []) (search quote depth 40) refl))
       where
         whole : emb p (m.twice - a.0) ⊕ emb p a.0 ≡ 𝟘
-        whole = same_sum (m.twice - a.0) a.0 0 0 2 h.ring (omega (arith, h.below, h.ring.twice)) ∙ emb_zero p
+        whole = same_sum (m.twice - a.0) a.0 0 0 2 (omega (arith, h.below, g.twice)) ∙ emb_zero p
 
     pub half_of : (n x : ℕ) → n + n ≡ a.0 + p * x → n < p + p → Halves m a (record { 0 = n })
     unfolding el
-    half_of n x e l = record { kept = record { ring = h.ring; below = l }; is = by (zmod p) B (same_sum n n a.0 0 x h.ring (omega arith)) (ring (zmod p) (emb p n ∷ emb p a.0 ∷ B ∷ []) (search quote depth 40) refl) }
+    half_of n x e l = record { kept = record { below = l }; is = by (zmod p) B (same_sum n n a.0 0 x (omega arith)) (ring (zmod p) (emb p n ∷ emb p a.0 ∷ B ∷ []) (search quote depth 40) refl) }
 
     pub half_even : a.0 % 2 ≡ 0 → Halves m a (record { 0 = a.0 / 2 })
     half_even e = half_of (a.0 / 2) 0 (omega arith) (omega (arith, h.below))
 
     pub half_odd : (a.0 % 2 ≡ 0 → ⊥) → Halves m a (record { 0 = (a.0 + p) / 2 })
-    half_odd e = half_of ((a.0 + p) / 2) 1 (omega (arith, h.ring.odd)) (omega (arith, h.below))
+    half_odd e = half_of ((a.0 + p) / 2) 1 (omega (arith, g.odd)) (omega (arith, h.below))
 
     module _ (b : Residue) (k : Kept m b) where
       pub sum_below : a.0 + b.0 < m.twice → Stands m (record { 0 = a.0 + b.0 }) (el m a ⊕ el m b)
       unfolding el
-      sum_below l = held (a.0 + b.0) h.ring (omega (arith, h.ring.twice)) (ap (λ i. i ⊗ B) (emb_add p a.0 b.0) ∙ (zmod p).add-mul (emb p a.0) (emb p b.0) B)
+      sum_below l = held (a.0 + b.0) (omega (arith, g.twice)) (ap (λ i. i ⊗ B) (emb_add p a.0 b.0) ∙ (zmod p).add-mul (emb p a.0) (emb p b.0) B)
 
       pub sum_past : m.twice ≤ a.0 + b.0 → Stands m (record { 0 = a.0 + b.0 - m.twice }) (el m a ⊕ el m b)
       unfolding el
-      sum_past l = held (a.0 + b.0 - m.twice) h.ring (omega (arith, h.below, k.below, h.ring.twice))
-          (ap (λ i. i ⊗ B) (same_element p (positive m h.ring) (a.0 + b.0 - m.twice) (a.0 + b.0) 2 0 (omega (arith, h.ring.twice)) ∙ emb_add p a.0 b.0) ∙ (zmod p).add-mul (emb p a.0) (emb p b.0) B)
+      sum_past l = held (a.0 + b.0 - m.twice) (omega (arith, h.below, k.below, g.twice))
+          (ap (λ i. i ⊗ B) (same_element p (positive m) (a.0 + b.0 - m.twice) (a.0 + b.0) 2 0 (omega (arith, g.twice)) ∙ emb_add p a.0 b.0) ∙ (zmod p).add-mul (emb p a.0) (emb p b.0) B)
 
       difference_of : (n x : ℕ) → n + b.0 ≡ a.0 + p * x → n < p + p → Stands m (record { 0 = n }) (el m a ⊕ ng (el m b))
       unfolding el
-      difference_of n x e l = held n h.ring l (by (zmod p) B (same_sum n b.0 a.0 0 x h.ring (omega arith)) (ring (zmod p) (emb p n ∷ emb p a.0 ∷ emb p b.0 ∷ B ∷ []) (search quote depth 40) refl))
+      difference_of n x e l = held n l (by (zmod p) B (same_sum n b.0 a.0 0 x (omega arith)) (ring (zmod p) (emb p n ∷ emb p a.0 ∷ emb p b.0 ∷ B ∷ []) (search quote depth 40) refl))
 
       pub difference_past : a.0 < b.0 → Stands m (record { 0 = a.0 + m.twice - b.0 }) (el m a ⊕ ng (el m b))
-      difference_past l = difference_of (a.0 + m.twice - b.0) 2 (omega (arith, k.below, h.ring.twice)) (omega (arith, k.below, h.ring.twice))
+      difference_past l = difference_of (a.0 + m.twice - b.0) 2 (omega (arith, k.below, g.twice)) (omega (arith, k.below, g.twice))
 
       pub difference_is : b.0 ≤ a.0 → Stands m (record { 0 = a.0 - b.0 }) (el m a ⊕ ng (el m b))
       difference_is l = difference_of (a.0 - b.0) 0 (omega arith) (omega (arith, h.below))
 
   pub zero_of : (a : Residue) → Settled m a → a.0 ≡ 0 → el m a ≡ 𝟘
   unfolding el
-  zero_of a h e = zero_at m h.ring e
+  zero_of a h e = zero_at m e
 
   pub zero_only : (a : Residue) → Settled m a → el m a ≡ 𝟘 → a.0 ≡ 0
   unfolding el
-  zero_only a h e = ap (λ (r : Residue). r.0) (settled_unique m a (record { 0 = 0 }) h (record { ring = h.ring; below = positive m h.ring }) (e ∙ sym (zero_at m h.ring (omega arith))))
+  zero_only a h e = ap (λ (r : Residue). r.0) (settled_unique m a (record { 0 = 0 }) h (record { below = positive m }) (e ∙ sym (zero_at m (omega arith))))
 
   pub equal_of : (a b : Residue) → a.0 ≡ b.0 → el m a ≡ el m b
   unfolding el

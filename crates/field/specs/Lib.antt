@@ -1,3 +1,4 @@
+pub mod Numbers
 pub mod Primes
 pub mod Residues
 pub mod Read

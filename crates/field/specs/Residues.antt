@@ -1,10 +1,7 @@
 -- What a residue stands for, and the ranges it may have. Document 01, "The records": a residue modulo p has a type of its own. A residue holds n
 -- for the element n/R of Z/p, R = 2^64 (Montgomery's form).
-use Rattle.std.specs.Prelude.{ℕ, ◌+◌, ◌*◌, ◌%◌, ◌≤◌, ◌<◌, ◌≡◌, ◌≢◌}
-use Rattle.algebra.proofs.Zmod.Prime.{Prime}
+use Rattle.std.specs.Prelude.{ℕ, ◌+◌, ◌<◌, ◌≡◌, ◌≢◌}
 use Rattle.algebra.proofs.Zmod.Zmod.{zmod, emb}
-use Rattle.field_words.specs.Words.{word}
-use Rattle.field_words.specs.Reduced.{Turns}
 use Rattle.field_montgomery.specs.Back.{back}
 use Rattle.field.specs.declared.Modulus.{Modulus}
 use Rattle.field.specs.declared.Residue.{Residue}
@@ -18,35 +15,11 @@ el m r = (zmod m.p).mul (emb m.p r.0) (back m.p m.turn)
 abbrev pub raw : Residue → ℕ
 raw r = r.0
 
--- a modulus to calculate with: an odd number with its constants, perhaps no prime
-pub record Ring (m : Modulus) : Type 0 where
-  pub turns : Turns m.p m.turn
-  pub from : 3 ≤ m.p
-  pub odd : m.p % 2 ≡ 1
-  pub twice : m.twice ≡ m.p + m.p
-  pub one_below : m.one < m.p
-  pub one_is : emb m.p m.one ≡ emb m.p word
-  pub square_below : m.square < m.p
-  pub square_is : emb m.p m.square ≡ emb m.p (word * word)
-  pub cube_below : m.cube < m.p
-  pub cube_is : emb m.p m.cube ≡ emb m.p (word * word * word)
-
--- and to divide with: a prime
-pub record Good (m : Modulus) : Type 0 where
-  pub ring : Ring m
-  pub prime : Prime m.p
-
 -- the range that arithmetic hands on, below 2p, and the one of what is compared, tested for zero, written or held in a divisor
 pub record Kept (m : Modulus) (r : Residue) : Type 0 where
-  pub ring : Ring m
   pub below : r.0 < m.p + m.p
 
 pub record Settled (m : Modulus) (r : Residue) : Type 0 where
-  pub ring : Ring m
-  pub below : r.0 < m.p
-
--- what a plain number, kept from an earlier call, is asked
-pub record InRange (m : Modulus) (r : Residue) : Type 0 where
   pub below : r.0 < m.p
 
 -- r is in range and stands for x
@@ -60,16 +33,15 @@ pub record Settles (m : Modulus) (r : Residue) (x : (zmod m.p).El) : Type 0 wher
 
 -- r stands for the whole number n under every modulus that it is below: in this form only 0 is written alike under all
 abbrev pub Everywhere : Residue → ℕ → Type 0
-Everywhere r n = (m : Modulus) → Ring m → n < m.p → Settles m r (emb m.p n)
+Everywhere r n = (m : Modulus) → n < m.p → Settles m r (emb m.p n)
 
 -- twice r is a
 pub record Halves (m : Modulus) (a r : Residue) : Type 0 where
   pub kept : Kept m r
   pub is : (zmod m.p).add (el m r) (el m r) ≡ el m a
 
--- what has an inverse, and an inverse of it
+-- what has an inverse, modulo a prime, and an inverse of it
 pub record HasInverse (m : Modulus) (r : Residue) : Type 0 where
-  pub good : Good m
   pub kept : Kept m r
   pub nonzero : el m r ≢ (zmod m.p).zer
 

@@ -4,19 +4,14 @@
 // A residue is `Kept`: below 2p, so that sums and products need no last step; or `Settled`: below p, to be compared, tested for zero or written.
 #![tactic(auto)]
 
-ghost use Rattle.std.specs.Prelude.{◌≡◌};
-ghost use Rattle.algebra.proofs.Ring.Power.{power};
-ghost use Rattle.algebra.proofs.Zmod.Zmod.{zmod, num};
-ghost use Rattle.field.specs.Residues.{el, Ring, Good, Kept, Settled, HasInverse, Stands, Settles, Halves, Inverts, Everywhere, InRange, raw};
-ghost use Rattle.field.specs.Constants.{Odd, OfNumber};
-ghost use Rattle.field.specs.Primes.{Decides, OddPrime};
-ghost use Rattle.field.specs.Read.{ModulusIs, ResidueIs};
+ghost use Rattle.algebra.proofs.Zmod.Prime.{Prime};
+ghost use Rattle.field.specs.Numbers.{Odd, Constants};
 
 // A number of its own kind, so that it can't be mixed with a plain count.
-#[derive(Clone, Copy)]
+#[derive(Clone, Copy, Debug, PartialEq, Eq)]
 pub struct Residue(u64);
 
-// p and 2p; 1/p modulo 2^64; 2^64, its square and its cube modulo p.
+// An odd p, perhaps no prime, with its constants: 2p; 1/p modulo 2^64; 2^64, its square and its cube modulo p.
 #[derive(Clone, Copy)]
 pub struct Modulus {
     p: u64,
@@ -25,29 +20,30 @@ pub struct Modulus {
     one: u64,
     square: u64,
     cube: u64,
+    pub ghost odd: { Odd p },
+    pub ghost constants: { Constants p twice turn one square cube },
 }
 
-// What a plain number is as a modulus, and as a residue.
+// A modulus that is prime: what is divided modulo.
 #[derive(Clone, Copy)]
-pub enum ModulusRead {
-    Modulo(Modulus),
-    NoPrime,
-}
-
-#[derive(Clone, Copy)]
-pub enum ResidueRead {
-    Below(Residue),
-    TooLarge,
+pub struct PrimeModulus {
+    pub m: Modulus,
+    pub ghost prime: { Prime m.p },
 }
 
 impl Modulus {
-    pub fn read(p: u64) -> ModulusRead
+    ghost use Rattle.std.specs.Prelude.{◌≡◌};
+    ghost use Rattle.field.specs.Constants.{OfNumber};
+    ghost use Rattle.field.specs.Read.{ModulusIs};
+
+    // p as a modulus, where it is an odd prime in range.
+    pub fn read(p: u64) -> Option<PrimeModulus>
         ensures { ModulusIs p result }
     {
         if field_primes::is_odd_prime(p) {
-            ModulusRead::Modulo(Modulus::of(p))
+            Some(PrimeModulus { m: Modulus::of(p) })
         } else {
-            ModulusRead::NoPrime
+            None
         }
     }
 
@@ -79,6 +75,13 @@ impl Modulus {
 }
 
 impl Residue {
+    ghost use Rattle.std.specs.Prelude.{◌≡◌};
+    ghost use Rattle.algebra.proofs.Ring.Power.{power};
+    ghost use Rattle.algebra.proofs.Zmod.Zmod.{zmod, num};
+    ghost use Rattle.field.specs.Residues.{el, Kept, Settled, HasInverse, Stands, Settles, Halves, Inverts, Everywhere, raw};
+    ghost use Rattle.field.specs.Primes.{Decides};
+    ghost use Rattle.field.specs.Read.{ResidueIs};
+
     pub fn zero() -> Residue
         ensures { Everywhere result 0 }
     {
@@ -86,22 +89,20 @@ impl Residue {
     }
 
     pub fn one(m: Modulus) -> Residue
-        requires { Ring m }
         ensures { Settles m result (zmod m.p).one }
     {
         Residue(m.one)
     }
 
     // The residue written as n, where n is below p.
-    pub fn read(n: u64, m: Modulus) -> ResidueRead
-        requires { Ring m }
+    pub fn read(n: u64, m: Modulus) -> Option<Residue>
         ensures { ResidueIs m n result }
     {
         if n < m.p {
             let x = field_words::product(n, m.square, m.p, m.turn);
-            ResidueRead::Below(Residue(field_montgomery::lower(x, m.p)))
+            Some(Residue(field_montgomery::lower(x, m.p)))
         } else {
-            ResidueRead::TooLarge
+            None
         }
     }
 
@@ -127,12 +128,9 @@ impl Residue {
 
     // Whether a plain number, kept from an earlier call, is one of m's.
     pub fn in_range(self, m: Modulus) -> bool
-        ensures { Decides result (InRange m self) }
+        ensures { Decides result (Settled m self) }
     {
-        if self.0 < m.p {
-            return true;
-        }
-        false
+        self.0 < m.p
     }
 
     // The same element, below p.
@@ -147,20 +145,14 @@ impl Residue {
         requires { Settled m self }
         ensures { Decides result (el m self ≡ (zmod m.p).zer) }
     {
-        if self.0 == 0 {
-            return true;
-        }
-        false
+        self.0 == 0
     }
 
     pub fn equal(self, other: Residue, m: Modulus) -> bool
         requires { Settled m self × Settled m other }
         ensures { Decides result (el m self ≡ el m other) }
     {
-        if self.0 == other.0 {
-            return true;
-        }
-        false
+        self.0 == other.0
     }
 
     pub fn is_one(self, m: Modulus) -> bool
@@ -270,10 +262,11 @@ impl Residue {
         Residue(field_montgomery::power(self.0, n, m.one, m.p, m.turn))
     }
 
-    pub fn inverse(self, m: Modulus) -> Residue
-        requires { HasInverse m self }
-        ensures { Inverts m self result }
+    pub fn inverse(self, prime: PrimeModulus) -> Residue
+        requires { HasInverse prime.m self }
+        ensures { Inverts prime.m self result }
     {
+        let m = prime.m;
         let x = field_montgomery::halving::almost(self.0, m.p);
         Residue(field_montgomery::finish(x.s, x.k, m.p, m.turn, m.square, m.cube))
     }

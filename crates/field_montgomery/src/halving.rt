@@ -20,6 +20,7 @@ pub fn almost(a: u64, p: u64) -> Shifted
     let mut v = a >> k;
     let mut r: u64 = 0;
     let mut s: u64 = 1;
+    // No range: how many turns there are hangs on the numbers.
     while u != v {
         if u < v {
             v = v - u;

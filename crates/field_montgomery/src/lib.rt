@@ -48,6 +48,7 @@ pub fn power(a: u64, n: u64, one: u64, p: u64, q: u64) -> u64
     let mut x = one;
     let mut y = a;
     let mut k = n;
+    // No range: the bits of n are taken off as they are read.
     while 0 < k {
         if k % 2 == 1 {
             x = field_words::product(x, y, p, q);

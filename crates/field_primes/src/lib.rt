@@ -64,6 +64,7 @@ pub fn is_odd_prime(p: u64) -> bool
     }
     let q = p as u32;
     let mut d: u32 = 7;
+    // No range: it ends at a square root, which is never computed.
     while d * d <= q {
         if divided(q, d) {
             return false;

@@ -5,10 +5,11 @@ use mathlib.Core.Logic.{◌≢◌}
 use native.Mathlib.Omega.{arith}
 use Rattle.algebra.proofs.Ring.Field.{Field}
 use Rattle.algebra.proofs.Ring.Power.{power}
+use Rattle.algebra.proofs.Zmod.Prime.{Prime}
 use Rattle.algebra.proofs.Zmod.Zmod.{zmod, emb_zero, emb_inj}
 use Rattle.field.specs.declared.Modulus.{Modulus}
 use Rattle.field.specs.declared.Residue.{Residue}
-use Rattle.field.specs.Residues.{el, Good, Kept, Stands}
+use Rattle.field.specs.Residues.{el, Kept, Stands}
 use Rattle.field.proofs.Laws.{residue_field}
 use Rattle.field_words.specs.Newton.{Zeros}
 use Rattle.rules.proofs.Roots.Tonelli.{Level, other_root, begin, keep, change, finish}
@@ -23,21 +24,18 @@ pub record Descending (m : Modulus) (j : ℕ) (x₀ b₀ c₀ : Residue) (i : �
   pub few : i < 64
   pub level : (A : (zmod m.p).El) → Level (zmod m.p) A j (el m x₀) (el m b₀) (el m c₀) → Level (zmod m.p) A i (el m x) (el m b) (el m c)
 
-module _ (m : Modulus) (good : Good m) where
+module _ (m : Modulus) (prime : Prime m.p) where
   abbrev p : ℕ
   p = m.p
 
   abbrev K : Field
-  K = residue_field m good
+  K = residue_field m prime
 
   abbrev half : ℕ
   half = (p - 1) / 2
 
   odd : 2 < p
-  odd = omega (arith, good.ring.from)
-
-  pub half_some : 0 < half
-  half_some = omega (arith, odd)
+  odd = omega (arith, m.odd.from)
 
   -- n = (p-1)/2 = q 2^i, q odd
   pub first_level : (a : Residue) (n : ℕ) → n ≡ half → (i : ℕ) (z x b c : Residue) → Zeros n i → ToRoot m a → LeastNonsquare m z
@@ -54,16 +52,13 @@ module _ (m : Modulus) (good : Good m) where
       z_ne e = absurd (omega (arith, l.from, emb_inj p (omega (arith, odd)) l.n 0 l.below (omega (arith, odd)) (sym l.is ∙ e ∙ sym (emb_zero p))))
 
       of_z : power (zmod p) (el m z) half ≡ (zmod p).neg (zmod p).one
-      of_z = other_root K (power (zmod p) (el m z) half) (power_half p good.prime odd (el m z) z_ne) (λ e. l.nonsquare (subst (Square p) l.is ((square_iff p good.prime odd (el m z) z_ne).1 e)))
+      of_z = other_root K (power (zmod p) (el m z) half) (power_half p prime odd (el m z) z_ne) (λ e. l.nonsquare (subst (Square p) l.is ((square_iff p prime odd (el m z) z_ne).1 e)))
 
       level : Level (zmod p) (el m a) i (power (zmod p) (el m a) ((n / 2 ^ i / 2) + 1)) (power (zmod p) (el m a) (2 * (n / 2 ^ i / 2) + 1)) (power (zmod p) (el m z) (2 * (n / 2 ^ i / 2) + 1))
-      level = begin K (el m a) (el m z) (n / 2 ^ i / 2) i (ap (power (zmod p) (el m a)) (sym whole) ∙ (square_iff p good.prime odd (el m a) s.unit.nonzero).0 s.square) (ap (power (zmod p) (el m z)) (sym whole) ∙ of_z)
+      level = begin K (el m a) (el m z) (n / 2 ^ i / 2) i (ap (power (zmod p) (el m a)) (sym whole) ∙ (square_iff p prime odd (el m a) s.unit.nonzero).0 s.square) (ap (power (zmod p) (el m z)) (sym whole) ∙ of_z)
 
       from : Level (zmod p) (el m a) i (power (zmod p) (el m a) ((n / 2 ^ i / 2) + 1)) (power (zmod p) (el m a) (n / 2 ^ i)) (power (zmod p) (el m z) (n / 2 ^ i)) → Level (zmod p) (el m a) i (el m x) (el m b) (el m c)
       from v = record { square = ap₂ (zmod p).mul hx.is hx.is ∙ v.square ∙ ap ((zmod p).mul (el m a)) (sym hb.is); of_b = ap (λ t. power (zmod p) t (2 ^ i)) hb.is ∙ v.of_b; of_c = ap (λ t. power (zmod p) t (2 ^ i)) hc.is ∙ v.of_c }
-
-  pub descending_begin : (i : ℕ) (x b c : Residue) → Kept m x → Kept m b → Kept m c → i < 64 → Descending m i x b c i x b c
-  descending_begin i x b c hx hb hc l = record { kept_x = hx; kept_b = hb; kept_c = hc; few = l; level = λ A h. h }
 
   module _ {j : ℕ} {x₀ b₀ c₀ x b c : Residue} {i : ℕ} (h : Descending m j x₀ b₀ c₀ i x b c) (some : 0 < i) (d : Residue) (hd : Stands m d ((zmod p).mul (el m c) (el m c))) (t : ℕ) (t_is : t ≡ 2 ^ (i - 1)) where
     above : (A : (zmod p).El) → Level (zmod p) A j (el m x₀) (el m b₀) (el m c₀) → Level (zmod p) A (suc (i - 1)) (el m x) (el m b) (el m c)

@@ -1,14 +1,10 @@
 -- W-213: squares modulo p, and the roots of a quadratic, as elements of Z/p: what the calls of this crate ask and promise.
-use Rattle.std.specs.Prelude.{ℕ, ◌≤◌, ◌<◌, ◌≡◌, ◌≢◌, [], ◌∷◌}
+use Rattle.std.specs.Prelude.{ℕ, Option, Some, None, ◌≤◌, ◌<◌, ◌≡◌, ◌≢◌, [], ◌∷◌}
 use Rattle.algebra.proofs.Zmod.Zmod.{zmod, emb}
 use Rattle.field.specs.declared.Modulus.{Modulus}
 use Rattle.field.specs.declared.Residue.{Residue}
 use Rattle.field.specs.Residues.{el, Kept, HasInverse}
 use Rattle.rules.specs.Roots.Roots.{value}
-use Rattle.field_root.specs.declared.Rooted.{Rooted}
-use Rattle.field_root.specs.declared.Rooted.TheVariants.{By, NoSquare}
-use Rattle.field_root.specs.declared.Roots.{Roots}
-use Rattle.field_root.specs.declared.Roots.TheVariants.{Both, Neither}
 
 -- x is a square
 abbrev pub Square : (p : ℕ) → (zmod p).El → Type 0
@@ -33,9 +29,9 @@ pub record RootOf (m : Modulus) (a r : Residue) : Type 0 where
   pub kept : Kept m r
   pub is : (zmod m.p).mul (el m r) (el m r) ≡ el m a
 
-abbrev pub RootIs : Modulus → Residue → Rooted → Type 0
-RootIs m a (By r) = RootOf m a r
-RootIs m a NoSquare = Square m.p (el m a) → ⊥
+abbrev pub RootIs : Modulus → Residue → Option Residue → Type 0
+RootIs m a (Some r) = RootOf m a r
+RootIs m a None = Square m.p (el m a) → ⊥
 
 -- x² + b x + c is (x - r) (x - t)
 pub record Splits (m : Modulus) (b c r t : Residue) : Type 0 where
@@ -45,6 +41,6 @@ pub record Splits (m : Modulus) (b c r t : Residue) : Type 0 where
   pub product : (zmod m.p).mul (el m r) (el m t) ≡ el m c
 
 -- both its roots, or it has none
-abbrev pub RootsAre : Modulus → Residue → Residue → Roots → Type 0
-RootsAre m b c (Both r t) = Splits m b c r t
-RootsAre m b c Neither = (y : (zmod m.p).El) → value (zmod m.p) (el m c ∷ el m b ∷ []) y ≢ (zmod m.p).zer
+abbrev pub RootsAre : Modulus → Residue → Residue → Option (Residue × Residue) → Type 0
+RootsAre m b c (Some (r, t)) = Splits m b c r t
+RootsAre m b c None = (y : (zmod m.p).El) → value (zmod m.p) (el m c ∷ el m b ∷ []) y ≢ (zmod m.p).zer

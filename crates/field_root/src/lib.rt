@@ -1,71 +1,53 @@
-// Square roots modulo a prime p by Tonelli and Shanks, with the least nonsquare, and the roots of a quadratic (W-213). Each search ends by a theorem of roots_laws: below p there is a number that isn't
-// a square; and a nonzero a is a square exactly when a^((p-1)/2) is 1.
+// Square roots modulo a prime p by Tonelli and Shanks, with the least nonsquare, and the roots of a quadratic (W-213). Each search ends by a theorem
+// of rules/proofs/Roots: below p there is a number that isn't a square; and a nonzero a is a square exactly when a^((p-1)/2) is 1.
 #![tactic(auto)]
 
 ghost use Rattle.std.specs.Prelude.{◌<◌, ◌≡◌};
-ghost use Rattle.algebra.proofs.Zmod.Zmod.{zmod};
 ghost use Rattle.field.specs.Primes.{Decides};
-ghost use Rattle.field.specs.Residues.{el, Good, Kept, HasInverse};
+ghost use Rattle.field.specs.Residues.{el, Kept, HasInverse};
 ghost use Rattle.field_root.specs.Squares.{Square, LeastNonsquare, ToRoot, RootOf, RootIs, RootsAre};
 
-use field::{Modulus, Residue};
-
-// A square root, or that there is none.
-#[derive(Clone, Copy)]
-pub enum Rooted {
-    By(Residue),
-    NoSquare,
-}
-
-// The roots of a quadratic, equal ones where it has a double root, or that it has none.
-#[derive(Clone, Copy)]
-pub enum Roots {
-    Both(Residue, Residue),
-    Neither,
-}
+use field::{PrimeModulus, Residue};
 
 // Whether a, other than 0, is a square.
-fn is_square(a: Residue, m: Modulus) -> bool
-    requires { HasInverse m a }
-    ensures { Decides result (Square m.p (el m a)) }
+fn is_square(a: Residue, prime: PrimeModulus) -> bool
+    requires { HasInverse prime.m a }
+    ensures { Decides result (Square prime.m.p (el prime.m a)) }
 {
+    let m = prime.m;
     let half = (m.number() - 1) / 2;
     a.power(half, m).is_one(m)
 }
 
 // The least of 2, 3, 4, .. that isn't a square.
-fn least_nonsquare(m: Modulus) -> Residue
-    requires { Good m }
-    ensures { LeastNonsquare m result }
+fn least_nonsquare(prime: PrimeModulus) -> Residue
+    ensures { LeastNonsquare prime.m result }
 {
+    let m = prime.m;
     let one = Residue::one(m);
-    let p = m.number();
     let mut z = one.add(one, m);
-    let mut n: u64 = 2;
-    while n < p {
-        if is_square(z, m) {
-            z = z.add(one, m);
-            n += 1;
-        } else {
+    for _n in 2..m.number() {
+        if !is_square(z, prime) {
             return z;
         }
+        z = z.add(one, m);
     }
     z
 }
 
 // A root of a square other than 0: x * x = a * b throughout, b to the 2^i is 1 and c to the 2^i is -1, until i is 0.
-fn root_of_square(a: Residue, m: Modulus) -> Residue
-    requires { ToRoot m a }
-    ensures { RootOf m a result }
+fn root_of_square(a: Residue, prime: PrimeModulus) -> Residue
+    requires { ToRoot prime.m a }
+    ensures { RootOf prime.m a result }
 {
+    let m = prime.m;
     let half = (m.number() - 1) / 2;
-    let mut i = field_words::twos(half);
-    let q = half >> i;
+    let twos = field_words::twos(half);
+    let q = half >> twos;
     let mut x = a.power(q / 2 + 1, m);
     let mut b = a.power(q, m);
-    let mut c = least_nonsquare(m).power(q, m);
-    while 0 < i {
-        i -= 1;
+    let mut c = least_nonsquare(prime).power(q, m);
+    for i in (0..twos).rev() {
         let d = c.sqr(m);
         if b.power(1u64 << i, m).is_one(m) {
             c = d;
@@ -78,32 +60,30 @@ fn root_of_square(a: Residue, m: Modulus) -> Residue
     x
 }
 
-fn square_root(a: Residue, m: Modulus) -> Rooted
-    requires { Good m × Kept m a }
-    ensures { RootIs m a result }
+// A square root of a, or None where a is no square.
+fn square_root(a: Residue, prime: PrimeModulus) -> Option<Residue>
+    requires { Kept prime.m a }
+    ensures { RootIs prime.m a result }
 {
-    if a.settle(m).is_zero(m) {
-        return Rooted::By(a);
+    if a.settle(prime.m).is_zero(prime.m) {
+        return Some(a);
     }
-    if is_square(a, m) {
-        return Rooted::By(root_of_square(a, m));
+    if is_square(a, prime) {
+        return Some(root_of_square(a, prime));
     }
-    Rooted::NoSquare
+    None
 }
 
-// The roots of x^2 + b x + c.
-pub fn quadratic(b: Residue, c: Residue, m: Modulus) -> Roots
-    requires { Good m × (Kept m b × Kept m c) }
-    ensures { RootsAre m b c result }
+// The roots of x^2 + b x + c, equal ones where it has a double root, or None where it has none.
+pub fn quadratic(b: Residue, c: Residue, prime: PrimeModulus) -> Option<(Residue, Residue)>
+    requires { Kept prime.m b × Kept prime.m c }
+    ensures { RootsAre prime.m b c result }
 {
+    let m = prime.m;
     let d = b.sqr(m).sub(c.dbl(m).dbl(m), m);
-    match square_root(d, m) {
-        Rooted::By(s) => {
-            let n = b.neg(m);
-            let r = n.add(s, m).half(m);
-            let t = n.sub(s, m).half(m);
-            Roots::Both(r, t)
-        }
-        Rooted::NoSquare => Roots::Neither,
-    }
+    let s = square_root(d, prime)?;
+    let n = b.neg(m);
+    let r = n.add(s, m).half(m);
+    let t = n.sub(s, m).half(m);
+    Some((r, t))
 }

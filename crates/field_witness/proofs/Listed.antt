@@ -1,14 +1,14 @@
 -- The loops over listed numbers. Gives: a number divided by a prime as often as it goes (`Out`), the list looked at one by one for primes that a number is made of (`Left`), and for powers that
 -- aren't 1 (`none_stop`, `none_turn`); and what a number's own test of primes says.
 use Prim.Native.Nat.{ℕ, zero, suc, ◌+◌, ◌*◌, ◌/◌, ◌%◌, ◌^◌, ◌≤◌, ◌<◌}
-use mathlib.Core.Path.{◌≡◌, refl, sym, ap, ap₂, ◌∙◌, subst}
+use mathlib.Core.Path.{◌≡◌, refl, sym, ap, ◌∙◌, subst}
 use mathlib.Core.List.{List, [], ◌∷◌}
 use mathlib.Core.Bool.{Bool, true, false, not, ◌&&◌, and-eq-true_iff, false≢true}
 use native.Mathlib.Omega.{arith}
 use native.Mathlib.Nat.{pow-zero, pow-suc, one-mul, mul_assoc, div-lt_self, div-add-mod}
 use lib.Dec.{ltb, eqb}
-use lib.ListN.{length, take, drop, get_or}
-use lib.Seq.{drop-cons, drop-length, get_or-take, length-take-le}
+use lib.ListN.{length, drop, get_or, drop_of_length-le}
+use lib.Seq.{drop-cons}
 use borrow.Author.Tests.{lt-ltb, ltb-true, eqb-true, eq-eqb}
 use Rattle.algebra.proofs.Zmod.Prime.{Prime, is_prime, prime_by_test, test_by_prime}
 use Rattle.field.specs.Primes.{Decides, OddPrime}
@@ -22,13 +22,12 @@ small_by q ne true h = record { is = h.is; small = omega (arith, h.small) }
 small_by q ne false h = λ s. h (record { is = s.is; odd = omega (arith, s.is.two, ne); small = omega (arith, s.small) })
 
 -- ---- one of a list after the other
-module _ (q : List ℕ) (k i : ℕ) (long : k ≤ length q) where
-  pub next : (z : ℕ) → i < k → drop i (take k q) ≡ get_or q i z ∷ drop (i + 1) (take k q)
-  next z h = drop-cons (take k q) i z (omega (arith, length-take-le k q long))
-      ∙ ap₂ (λ (x j : ℕ). x ∷ drop j (take k q)) {x = get_or (take k q) i z} {y = get_or q i z} {u = suc i} {v = i + 1} (get_or-take k q i z h) (omega arith)
+module _ (q : List ℕ) (i : ℕ) where
+  pub next : (z : ℕ) → i < length q → drop i q ≡ get_or q i z ∷ drop (i + 1) q
+  next z h = drop-cons q i z h ∙ ap (λ (j : ℕ). get_or q i z ∷ drop j q) {x = suc i} {y = i + 1} (omega arith)
 
-  pub at_end : k ≤ i → i ≤ k → drop i (take k q) ≡ []
-  at_end a b = ap (λ (j : ℕ). drop j (take k q)) {x = i} {y = length (take k q)} (omega (arith, length-take-le k q long)) ∙ drop-length (take k q)
+  pub at_end : length q ≤ i → drop i q ≡ []
+  at_end h = drop_of_length-le q h
 
 -- ---- n divided by q as often as it goes
 pub record Out (n q k : ℕ) : Type 0 where

@@ -2,15 +2,14 @@
 // modulo it are those of a ring.
 #![tactic(auto)]
 
-ghost use Rattle.std.specs.Prelude.{◌≤◌, ◌<◌, ◌≡◌, take};
+ghost use Rattle.std.specs.Prelude.{◌<◌, ◌≡◌};
 ghost use Rattle.algebra.proofs.Zmod.Zmod.{zmod};
 ghost use Rattle.field.specs.Constants.{Odd};
 ghost use Rattle.field.specs.Primes.{Decides};
 ghost use Rattle.field.specs.Residues.{el, Kept};
 ghost use Rattle.field_witness.specs.Witness.{SmallPrime, Stripped, MadeOf, AllSome, NoneBelow, Witnessed};
 
-use field::{Modulus, Residue, ResidueRead};
-use refusals::MOST_WITNESS;
+use field::{Modulus, Residue};
 
 // Whether q is a prime below 2^31.
 pub fn is_small_prime(q: u64) -> bool
@@ -28,21 +27,21 @@ fn without(n: u64, q: u64) -> u64
     ensures { Stripped n q result }
 {
     let mut k = n;
+    // No range: how often q goes is what is looked for.
     while k % q == 0 {
         k = k / q;
     }
     k
 }
 
-// Whether n is made up of powers of just the first k listed, primes below 2^31 that rise, each of them dividing it.
-fn is_made_of(n: u64, q: [u64; MOST_WITNESS], k: usize) -> bool
-    requires { (0 < n) × (k ≤ 15) }
-    ensures { Decides result (MadeOf n (take k q)) }
+// Whether n is made up of powers of just those listed, primes below 2^31 that rise, each of them dividing it.
+fn is_made_of(n: u64, q: &[u64]) -> bool
+    requires { 0 < n }
+    ensures { Decides result (MadeOf n q.now) }
 {
     let mut left = n;
     let mut last: u64 = 0;
-    let mut i: usize = 0;
-    while i < k {
+    for i in 0..q.len() {
         let x = q[i];
         if x <= last {
             return false;
@@ -55,43 +54,40 @@ fn is_made_of(n: u64, q: [u64; MOST_WITNESS], k: usize) -> bool
         }
         left = without(left, x);
         last = x;
-        i += 1;
     }
     left == 1
 }
 
-// Whether no power of a by n / q is 1, for each q of the first k listed.
-fn is_none_below(a: Residue, n: u64, q: [u64; MOST_WITNESS], k: usize, m: Modulus) -> bool
-    requires { Kept m a × ((k ≤ 15) × AllSome (take k q)) }
-    ensures { NoneBelow m a n (take k q) result }
+// Whether no power of a by n / q is 1, for each q listed.
+fn is_none_below(a: Residue, n: u64, q: &[u64], m: Modulus) -> bool
+    requires { Kept m a × AllSome q.now }
+    ensures { NoneBelow m a n q.now result }
 {
-    let mut j: usize = 0;
-    while j < k {
+    for j in 0..q.len() {
         if a.power(n / q[j], m).is_one(m) {
             return false;
         }
-        j += 1;
     }
     true
 }
 
-// Whether a and the first k listed numbers witness that p is prime.
-pub fn accepts(p: u64, a: u64, q: [u64; MOST_WITNESS], k: usize) -> bool
-    requires { Odd p × (k ≤ 15) }
-    ensures { Decides result (Witnessed p a (take k q)) }
+// Whether a and the listed numbers witness that p is prime.
+pub fn accepts(p: u64, a: u64, q: &[u64]) -> bool
+    requires { Odd p }
+    ensures { Decides result (Witnessed p a q.now) }
 {
     let n = p - 1;
-    if !is_made_of(n, q, k) {
+    if !is_made_of(n, q) {
         return false;
     }
     let m = Modulus::of(p);
     match Residue::read(a, m) {
-        ResidueRead::Below(x) => {
+        Some(x) => {
             if !x.power(n, m).is_one(m) {
                 return false;
             }
-            is_none_below(x, n, q, k, m)
+            is_none_below(x, n, q, m)
         }
-        ResidueRead::TooLarge => false,
+        None => false,
     }
 }

@@ -1,4 +1,3 @@
-pub mod Columns
 pub mod Modulo
 pub mod Montgomery
 pub mod Newton

@@ -1,4 +1,4 @@
-// Products of two words, Montgomery's reduction and the inverse of an odd number modulo 2^64, on plain numbers: no type here is wider than a word.
+// Products of two words, Montgomery's reduction and the inverse of an odd number modulo 2^64, on plain numbers.
 #![tactic(auto)]
 
 ghost use Rattle.std.specs.Prelude.{◌≡◌, ◌+◌, ◌*◌, ◌/◌, ◌%◌, ◌<◌};
@@ -6,45 +6,24 @@ ghost use Rattle.field_words.specs.Words.{word};
 ghost use Rattle.field_words.specs.Reduced.{Turns, Reduced, Reducible};
 ghost use Rattle.field_words.specs.Newton.{Closer, Zeros};
 
-const HALF: u64 = 4294967296;
-
-// The high and the low word of a product, by halves. The middle columns are added one after the other: both at once would pass a word.
-// The compiler makes one multiplication of each: leave the form as it is.
+// The high word of a product.
 fn high(a: u64, b: u64) -> u64
     ensures { result ≡ a * b / word }
 {
-    let a0 = a % HALF;
-    let a1 = a / HALF;
-    let b0 = b % HALF;
-    let b1 = b / HALF;
-    let ll = a0 * b0;
-    let t = a1 * b0 + ll / HALF;
-    let t2 = a0 * b1 + t % HALF;
-    a1 * b1 + t / HALF + t2 / HALF
+    (a as u128 * b as u128 / 18446744073709551616) as u64
 }
 
 fn low(a: u64, b: u64) -> u64
     ensures { result ≡ a * b % word }
 {
-    let a0 = a % HALF;
-    let a1 = a / HALF;
-    let b0 = b % HALF;
-    let b1 = b / HALF;
-    let ll = a0 * b0;
-    let m = a1 * b0 + ll / HALF;
-    let m2 = a0 * b1 + m % HALF;
-    (m2 % HALF) * HALF + ll % HALF
+    a.wrapping_mul(b)
 }
 
 // What a sum of two words carries over.
 fn carry(a: u64, b: u64) -> u64
     ensures { result ≡ (a + b) / word }
 {
-    let sum = std::num::wrapping_add_u64(a, b);
-    if sum < a {
-        return 1;
-    }
-    0
+    u64::from(a.wrapping_add(b) < a)
 }
 
 // Montgomery's reduction of h * 2^64 + l, h below p, by the inverse q of p modulo 2^64: below 2p, and no carry.
@@ -71,14 +50,14 @@ pub fn products(a: u64, b: u64, c: u64, d: u64, p: u64, q: u64) -> u64
     let x = low(a, b);
     let y = low(c, d);
     let h = high(a, b) + high(c, d) + carry(x, y);
-    reduce(h, std::num::wrapping_add_u64(x, y), p, q)
+    reduce(h, x.wrapping_add(y), p, q)
 }
 
 // One step of Newton's towards 1/p modulo 2^64: the error 1 - p * x is squared. It wraps on purpose.
 fn closer(p: u64, x: u64) -> u64
     ensures { Closer p x result }
 {
-    low(x, std::num::wrapping_sub_u64(2, low(p, x)))
+    x.wrapping_mul(2u64.wrapping_sub(p.wrapping_mul(x)))
 }
 
 // 1/p modulo 2^64 of an odd p. p itself is right in three bits, since p * p is 1 modulo 8, and each step doubles them: 6, 12, 24, 48, 96.
@@ -98,5 +77,5 @@ pub fn twos(n: u64) -> u64
     requires { 0 < n }
     ensures { Zeros n result }
 {
-    u64::trailing_zeros(n) as u64
+    n.trailing_zeros() as u64
 }

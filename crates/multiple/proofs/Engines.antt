@@ -15,8 +15,8 @@ use Rattle.multiple_tuple_step.specs.States.{GivesIt}
 use Rattle.multiple.specs.Runs.{Reaches, GoneOn}
 
 -- plain forms of one pair are one value
-one_value : (c : Curve) (d e : Divisor) {x : Pair (modulo c.m.p)} → Gives c d x → Gives c e x → d ≡ e
-one_value c d e hd he = pair_inj c.m d e hd.holds.held he.holds.held (hd.is ∙ sym he.is)
+one_value : (c : Curve) (d e : Divisor) {x : Pair (modulo c.prime.m.p)} → Gives c d x → Gives c e x → d ≡ e
+one_value c d e hd he = pair_inj c.prime.m d e hd.holds.held he.holds.held (hd.is ∙ sym he.is)
 
 pub same_multiple : (c : Curve) (a : Divisor) (n : ℕ) (r s : Multiple) → Multiplied c a n r → Multiplied c a n s → r ≡ s
 same_multiple c a n r s hr hs = λ i. record {

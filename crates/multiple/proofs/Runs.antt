@@ -1,6 +1,6 @@
--- Runs of steps on tuples alone, and the step after them. Gives: what a run keeps (`Going`) over each digit; what it is where no digit is taken (`stays`); the next digit by the plain sum (`further_by`).
+-- Runs of steps on tuples alone, and the step after them. Gives: what a run keeps (`Going`) over each digit; the next digit by the plain sum (`further_by`).
 use Prim.Native.Nat.{ℕ, ◌-◌, ◌≤◌, ◌<◌}
-use mathlib.Core.Path.{◌≡◌, subst}
+use mathlib.Core.Path.{◌≡◌, sym, subst}
 use mathlib.Core.List.{List}
 use native.Mathlib.Omega.{arith}
 use lib.ListN.{length, get_or}
@@ -15,7 +15,7 @@ use Rattle.multiple_tuple_step.specs.declared.State.{State}
 use Rattle.multiple_tuple_step.specs.declared.State.TheVariants.{Free}
 use Rattle.multiple.specs.declared.Run.{Run}
 use Rattle.multiple_tuple_step.specs.States.{Means, SomeFree, GivesIt, Stepped}
-use Rattle.multiple.specs.Runs.{Reaches, ToRun, Ran, GoneOn}
+use Rattle.multiple.specs.Runs.{Reaches, Ran, GoneOn}
 use Rattle.multiple.proofs.Running.{one_digit}
 
 pub record Going (c : Curve) (q : Quadratic) (d : List ℕ) (k : ℕ) (r : Tuple) (j : ℕ) : Type 0 where
@@ -29,24 +29,15 @@ module _ (c : Curve) (q : Quadratic) (d : List ℕ) (k : ℕ) where
   pub some_going : (r : Tuple) (j : ℕ) → Going c q d k r j → SomeFree c r
   some_going r j v = record { x = _; free = v.reaches }
 
-  pub gone : (r : Tuple) (j : ℕ) → Going c q d k r j → Ran c (Two q) d k (record { state = Free r; k = j })
-  gone r j v = record { at_most = v.at_most; reaches = v.reaches }
-
-pub stays : (c : Curve) (a : Divisor) (d : List ℕ) (r : State) (k : ℕ) → Reaches c a d r k → Ran c a d k (record { state = r; k = k })
-stays c a d r k v = record { at_most = omega arith; reaches = v }
-
-pub known_run : (c : Curve) (d : List ℕ) (k : ℕ) (a a' b : Divisor) (r r' : State) → a ≡ a' → r ≡ r' → ToRun c a b d r k → ToRun c a' b d r' k
-known_run c d k a a' b r r' ea er h = subst (λ (x : Divisor). ToRun c x b d r' k) ea (subst (λ (v : State). ToRun c a b d v k) er h)
-
-pub known_beside : (c : Curve) (d : List ℕ) (k : ℕ) (a b b' : Divisor) (r : State) → b ≡ b' → ToRun c a b d r k → ToRun c a b' d r k
-known_beside c d k a b b' r e h = subst (λ (x : Divisor). ToRun c a x d r k) e h
+  pub gone : (r : Tuple) (i j : ℕ) → i ≡ j → Going c q d k r j → Ran c (Two q) d k (record { state = Free r; k = i })
+  gone r i j e v = record { at_most = omega (arith, e, v.at_most); reaches = subst (λ (n : ℕ). Reaches c (Two q) d (Free r) n) (sym e) v.reaches }
 
 -- a step by the plain sum
-plain_step : (c : Curve) (a : Divisor) (s : State) (b : ℕ) (d e : Divisor) (t : State) → GivesIt c s d → StepsPlain c a d b e → Means c t (pair c.m e) → Stepped c a s b t
+plain_step : (c : Curve) (a : Divisor) (s : State) (b : ℕ) (d e : Divisor) (t : State) → GivesIt c s d → StepsPlain c a d b e → Means c t (pair c.prime.m e) → Stepped c a s b t
 plain_step c a s b d e t hd he ht k hs = subst (Means c t) (he k (hd _ hs).is).is ht
 
 pub further_by : (c : Curve) (a : Divisor) (l : List ℕ) (k : ℕ) (y : Run) → Ran c a l k y → 0 < y.k → k ≤ length l → (d e : Divisor) (t : State) → GivesIt c y.state d
-    → StepsPlain c a d (get_or l (y.k - 1) 0) e → Means c t (pair c.m e) → GoneOn c a l k (record { state = t; k = y.k - 1 })
+    → StepsPlain c a d (get_or l (y.k - 1) 0) e → Means c t (pair c.prime.m e) → GoneOn c a l k (record { state = t; k = y.k - 1 })
 further_by c a l k y v more room d e t hd he ht = record {
   less = omega (arith, v.at_most);
   reaches = one_digit c a l y.state t y.k v.reaches more (omega (arith, v.at_most)) (plain_step c a y.state (get_or l (y.k - 1) 0) d e t hd he ht);

@@ -5,7 +5,7 @@
 ghost use Rattle.std.specs.Prelude.{◌≡◌, ◌<◌};
 ghost use Rattle.rules.specs.Bytes.{number};
 ghost use Rattle.divisor.specs.Divisors.{pair};
-ghost use Rattle.curve.specs.Curves.{curve_of, Sound, Holds};
+ghost use Rattle.curve.specs.Curves.{Holds};
 ghost use Rattle.multiple_affine.specs.promise.Contracts.{ToMultiply, Multiplied};
 ghost use Rattle.multiple_tuple_step.specs.States.{Means, Some, GivesIt};
 ghost use Rattle.multiple.specs.Runs.{ToRun, Ran, GoneOn};
@@ -18,7 +18,7 @@ use multiple_tuple_step::State;
 use scalar::Digits;
 
 // How far a run of digits came: k are left.
-#[derive(Clone, Copy)]
+#[derive(Clone, Copy, Debug, PartialEq, Eq)]
 pub struct Run {
     pub state: State,
     pub k: usize,
@@ -26,33 +26,23 @@ pub struct Run {
 
 // In plain form, by one inverse at most.
 fn plain(c: Curve, s: State) -> Divisor
-    requires { Sound c × Some c s }
+    requires { Some c s }
     ensures { GivesIt c s result }
 {
     match s {
-        State::Free(t) => {
-            let q = multiple_tuple::back(t, c.m);
-            Divisor::Two(q)
-        }
+        State::Free(t) => Divisor::Two(multiple_tuple::back(t, c.prime)),
         State::Plain(d) => d,
     }
 }
 
 // Over a common Z, where that can be.
 fn keep(c: Curve, d: Divisor) -> State
-    requires { Sound c × Holds c d }
-    ensures { Means c result (pair c.m d) }
+    requires { Holds c d }
+    ensures { Means c result (pair c.prime.m d) }
 {
-    let g = c.g;
-    if g == 2 {
-        match d {
-            Divisor::Neutral => State::Plain(d),
-            Divisor::One(_) => State::Plain(d),
-            Divisor::Two(q) => State::Free(multiple_tuple::lift(q, c.m)),
-            Divisor::Three(_) => State::Plain(d),
-        }
-    } else {
-        State::Plain(d)
+    match d {
+        Divisor::Two(q) if c.g == 2 => State::Free(multiple_tuple::lift(q, c.prime.m)),
+        _ => State::Plain(d),
     }
 }
 
@@ -61,65 +51,34 @@ fn on_tuples(c: Curve, q: Quadratic, p: Quadratic, at: &[u8], t: Tuple, k: usize
     requires { ToRun c (Divisor.Two q) (Divisor.Two p) at.now (State.Free t) k }
     ensures { Ran c (Divisor.Two q) at.now k result }
 {
-    let m = c.m;
     let f2 = c.f2;
     let f3 = c.f3;
     let f4 = c.f4;
     let mut r = t;
-    let mut j = k;
-    while 0 < j {
-        let y = multiple_tuple_step::climb(c, f2, f3, f4, q, p, r, at[j - 1]);
-        let z = y.z;
-        if z.is_zero(m) {
+    for j in (0..k).rev() {
+        let y = multiple_tuple_step::climb(c, f2, f3, f4, q, p, r, at[j]);
+        if y.z.is_zero(c.prime.m) {
             return Run {
                 state: State::Free(r),
-                k: j,
+                k: j + 1,
             };
         }
         r = y;
-        j -= 1;
     }
     Run {
         state: State::Free(r),
-        k: j,
+        k: 0,
     }
 }
 
-// As many digits as can be taken on tuples, where the divisor has weight 2, by its opposite b.
-fn beside(c: Curve, q: Quadratic, b: Divisor, at: &[u8], t: Tuple, k: usize) -> Run
-    requires { ToRun c (Divisor.Two q) b at.now (State.Free t) k }
-    ensures { Ran c (Divisor.Two q) at.now k result }
-{
-    match b {
-        Divisor::Neutral => Run {
-            state: State::Free(t),
-            k: k,
-        },
-        Divisor::One(_) => Run {
-            state: State::Free(t),
-            k: k,
-        },
-        Divisor::Two(p) => on_tuples(c, q, p, at, t, k),
-        Divisor::Three(_) => Run {
-            state: State::Free(t),
-            k: k,
-        },
-    }
-}
-
-// As many digits as can be taken on tuples.
+// As many digits as can be taken on tuples: where the divisor and its opposite b have weight 2.
 fn ahead(c: Curve, a: Divisor, b: Divisor, at: &[u8], r: State, k: usize) -> Run
     requires { ToRun c a b at.now r k }
     ensures { Ran c a at.now k result }
 {
-    match r {
-        State::Free(t) => match a {
-            Divisor::Neutral => Run { state: r, k: k },
-            Divisor::One(_) => Run { state: r, k: k },
-            Divisor::Two(q) => beside(c, q, b, at, t, k),
-            Divisor::Three(_) => Run { state: r, k: k },
-        },
-        State::Plain(_) => Run { state: r, k: k },
+    match (r, a, b) {
+        (State::Free(t), Divisor::Two(q), Divisor::Two(p)) => on_tuples(c, q, p, at, t, k),
+        _ => Run { state: r, k },
     }
 }
 
@@ -129,15 +88,15 @@ fn further(c: Curve, a: Divisor, b: Divisor, at: &[u8], r: State, k: usize) -> R
     ensures { GoneOn c a at.now k result }
 {
     let y = ahead(c, a, b, at, r, k);
-    let j = y.k;
-    if j == 0 {
+    if y.k == 0 {
         return y;
     }
-    let v = y.state;
-    let d = plain(c, v);
-    let e = multiple_affine::step(c, a, b, d, at[j - 1]);
-    let t = keep(c, e);
-    Run { state: t, k: j - 1 }
+    let j = y.k - 1;
+    let e = multiple_affine::step(c, a, b, plain(c, y.state), at[j]);
+    Run {
+        state: keep(c, e),
+        k: j,
+    }
 }
 
 // The highest digit is a itself.
@@ -159,14 +118,14 @@ pub fn by_tuples(c: Curve, a: Divisor, s: &[u8]) -> Multiple
     let b = jacobian::opposite(c, a);
     let mut r = keep(c, a);
     let mut k = length - 1;
+    // Not a `for`, as in multiple_affine: a turn takes as many digits as tuples allow.
     while 0 < k {
         let x = further(c, a, b, &at, r, k);
         r = x.state;
         k = x.k;
     }
-    let d = plain(c, r);
     Multiple {
-        divisor: d,
+        divisor: plain(c, r),
         doublings: (length - 1) as u64,
         additions: nonzeros - 1,
     }

@@ -44,9 +44,7 @@ pub fn affine(c: Curve, a: Divisor, s: &[u8]) -> Multiple
     let at = n.at;
     let b = jacobian::opposite(c, a);
     let mut r = a;
-    let mut k = length - 1;
-    while 0 < k {
-        k -= 1;
+    for k in (0..length - 1).rev() {
         r = step(c, a, b, r, at[k]);
     }
     Multiple {

@@ -2,7 +2,7 @@
 use divisor::Divisor;
 
 // With the counts of its steps.
-#[derive(Clone, Copy)]
+#[derive(Clone, Copy, Debug, PartialEq, Eq)]
 pub struct Multiple {
     pub divisor: Divisor,
     pub doublings: u64,

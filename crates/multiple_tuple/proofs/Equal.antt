@@ -9,9 +9,10 @@ use Rattle.algebra.proofs.Ring.Field.{no_zero_divisors}
 use Rattle.algebra.proofs.Zmod.PrimeField.{modulo}
 use Rattle.rules.specs.Pair.{Pair}
 use Rattle.sum_formulas.proofs.Tuples.Affine2.{answer}
+use Rattle.algebra.proofs.Zmod.Prime.{Prime}
 use Rattle.field.specs.declared.Modulus.{Modulus}
 use Rattle.field.specs.declared.Residue.{Residue}
-use Rattle.field.specs.Residues.{el, Good}
+use Rattle.field.specs.Residues.{el}
 use Rattle.field.proofs.Laws.{residue_field}
 use Rattle.divisor.specs.declared.Quadratic.{Quadratic}
 use Rattle.divisor.specs.declared.Divisor.TheVariants.{Two}
@@ -30,7 +31,7 @@ module _ (F : CRing) where
   top_unit : (r ri w wi t : A) → r * ri ≡ 𝟙 → r * w ≡ t → w * wi ≡ 𝟙 → t * (ri * wi) ≡ 𝟙
   top_unit r ri w wi t hr hw hi = by F (neg (ri * wi)) hw (by F (w * wi) hr (by F 𝟙 hi (ring F (r ∷ ri ∷ w ∷ wi ∷ t ∷ []) (search quote depth 40) refl)))
 
-module _ (m : Modulus) (good : Good m) where
+module _ (m : Modulus) (prime : Prime m.p) where
   open K m use {El as A, mul as ◌*◌, zer as 𝟘}
 
   infixl 70 ◌*◌
@@ -77,7 +78,7 @@ module _ (m : Modulus) (good : Good m) where
 
   -- ---- the last Z
   product : (a b : A) → a ≢ 𝟘 → b ≢ 𝟘 → a * b ≢ 𝟘
-  product a b = no_zero_divisors (residue_field m good) a b
+  product a b = no_zero_divisors (residue_field m prime) a b
 
   fourth : (z : A) → z ≢ 𝟘 → z * z * z * z ≢ 𝟘
   fourth z h = product (z * z * z) z (product (z * z) z (product z z h h) h) h

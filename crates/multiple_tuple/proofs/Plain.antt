@@ -8,7 +8,7 @@ use Rattle.rules.specs.Pair.{Pair}
 use Rattle.field.specs.declared.Modulus.{Modulus}
 use Rattle.field.specs.declared.Residue.{Residue}
 use Rattle.field.specs.Residues.{el, Settles, Inverts}
-use Rattle.field.proofs.Laws.{residue_field, settled_kept}
+use Rattle.field.proofs.Laws.{one_ne, settled_kept}
 use Rattle.divisor.specs.declared.Quadratic.{Quadratic}
 use Rattle.divisor.specs.declared.Divisor.TheVariants.{Two}
 use Rattle.divisor.specs.Divisors.{Held, pair}
@@ -30,9 +30,9 @@ module _ (m : Modulus) where
   pub lifted_is : (q : Quadratic) → Held m (Two q) → (z : Residue) → Settles m z (K m).one → Lifted m q (record { u1 = q.u1; u0 = q.u0; v1 = q.v1; v0 = q.v0; z = z })
   unfolding pair
   lifted_is q h z hz = record {
-    kept = record { good = h.good; u1 = settled_kept m h.u.1.0; u0 = settled_kept m h.u.0; v1 = settled_kept m h.v.1.0; v0 = settled_kept m h.v.0; z = settled_kept m hz.settled };
+    kept = record { u1 = settled_kept m h.u.1.0; u0 = settled_kept m h.u.0; v1 = settled_kept m h.v.1.0; v0 = settled_kept m h.v.0; z = settled_kept m hz.settled };
     is = record {
-      nonzero = λ e. (residue_field m h.good).one_ne (sym hz.is ∙ e);
+      nonzero = λ e. one_ne m (sym hz.is ∙ e);
       a0 = el m q.u0;
       a1 = el m q.u1;
       c0 = el m q.v0;

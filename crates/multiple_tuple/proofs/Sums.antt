@@ -11,9 +11,10 @@ use Rattle.rules.proofs.Cantor.Group.{sum_comm}
 use Rattle.sum_formulas.proofs.Tuples.Affine2.{r2, top2, low2, rd, topd, lowd, n0, n1, m0, m1, pair_of, affine_add2, affine_double2}
 use Rattle.sum_formulas.proofs.Tuples.Projective2.{differ_1, differ_2, both_1, last_z}
 use Rattle.sum_formulas.proofs.Tuples.Shares2.{Shares, shares}
+use Rattle.algebra.proofs.Zmod.Prime.{Prime}
 use Rattle.field.specs.declared.Modulus.{Modulus}
 use Rattle.field.specs.declared.Residue.{Residue}
-use Rattle.field.specs.Residues.{el, Good}
+use Rattle.field.specs.Residues.{el}
 use Rattle.field.proofs.Laws.{residue_field}
 use Rattle.divisor.specs.declared.Quadratic.{Quadratic}
 use Rattle.divisor.specs.declared.Divisor.TheVariants.{Two}
@@ -27,15 +28,15 @@ use Rattle.multiple_tuple.specs.declared.Powers.{Powers}
 use Rattle.multiple_tuple.specs.Tuples.{K, Over, Quotients, Tabled, last, curve2, Added, Mixed, Doubled}
 use Rattle.multiple_tuple.specs.Steps.{Widened, WidenedPlain, Differ, Scaled, Chorded, Righted, Touched, Prepared, Quotes, TimesS3, MakesU, MakesUTwice, MakesV, Through}
 
-module _ (m : Modulus) (good : Good m) where
+module _ (m : Modulus) (prime : Prime m.p) where
   open K m use {El as A, mul as ◌*◌}
 
   infixl 70 ◌*◌
   -- where the last Z isn't 0
   shared : (b : Tuple) (s : Line) (p : Powers) → Prepared m b s p → (Z : A) → Z ≡ el m p.ra * el m p.ss → Z ≢ (K m).zer → (k r1 t1 l1 : A) → Scaled m (el m b.z) k s r1 t1 l1
       → Shares (K m) (el m b.z) (el m s.r) (el m s.s1) (el m s.s0) r1 t1 l1
-  shared b s p hp Z e nz k r1 t1 l1 h = shares (K m) (el m b.z) (el m s.r) (el m s.s1) (el m p.rz) (el m p.s3) (el m p.ra) (el m p.ss) Z ((residue_field m good).arith.inv Z)
-      hp.rz hp.s3 hp.ra e ((residue_field m good).mul_inv Z nz) k (el m s.s0) r1 t1 l1 h.r h.s1 h.s0
+  shared b s p hp Z e nz k r1 t1 l1 h = shares (K m) (el m b.z) (el m s.r) (el m s.s1) (el m p.rz) (el m p.s3) (el m p.ra) (el m p.ss) Z ((residue_field m prime).arith.inv Z)
+      hp.rz hp.s3 hp.ra e ((residue_field m prime).mul_inv Z nz) k (el m s.s0) r1 t1 l1 h.r h.s1 h.s0
 
   quotes : {z : A} {s : Line} {r1 t1 l1 : A} (q : Shares (K m) z (el m s.r) (el m s.s1) (el m s.s0) r1 t1 l1) → Quotes m z s q.t q.wi
   quotes q = record { r = q.r_is; s0 = q.s_is }

@@ -10,7 +10,7 @@ use Rattle.rules.proofs.Cantor.Accepted.{Accepted}
 use Rattle.sum_formulas.proofs.Tuples.Affine2.{r2, top2, low2, rd, topd, lowd, n0, n1, m0, m1}
 use Rattle.field.specs.declared.Modulus.{Modulus}
 use Rattle.field.specs.declared.Residue.{Residue}
-use Rattle.field.specs.Residues.{el, Good, Kept, Settled}
+use Rattle.field.specs.Residues.{el, Kept, Settled}
 use Rattle.divisor.specs.declared.Quadratic.{Quadratic}
 use Rattle.divisor.specs.declared.Divisor.TheVariants.{Two}
 use Rattle.divisor.specs.Divisors.{Held, pair}
@@ -24,7 +24,6 @@ module _ (m : Modulus) where
 
   infixl 70 ◌*◌
   pub record KeptTuple (t : Tuple) : Type 0 where
-    pub good : Good m
     pub u1 : Kept m t.u1
     pub u0 : Kept m t.u0
     pub v1 : Kept m t.v1

@@ -13,10 +13,10 @@ ghost use Rattle.multiple_tuple.specs.Tuples.{KeptTuple, Added, Mixed, Doubled, 
 ghost use Rattle.multiple_tuple.specs.Steps.{KeptGap, KeptDuo, KeptRight, KeptLine, KeptPowers, Widened, WidenedPlain, Differ, Chorded, Righted, Touched, Prepared, MakesU, MakesUTwice, MakesV, Through};
 
 use divisor::{Divisor, Duo, Quadratic};
-use field::{Modulus, Residue};
+use field::{Modulus, PrimeModulus, Residue};
 
 // x² + (u1 / z) x + u0 / z, (v1 / z) x + v0 / z.
-#[derive(Clone, Copy)]
+#[derive(Clone, Copy, Debug, PartialEq, Eq)]
 pub struct Tuple {
     pub u1: Residue,
     pub u0: Residue,
@@ -26,7 +26,7 @@ pub struct Tuple {
 }
 
 // 001's z1 and z2, and the sum of both u1.
-#[derive(Clone, Copy)]
+#[derive(Clone, Copy, Debug, PartialEq, Eq)]
 pub struct Gap {
     pub z1: Residue,
     pub z2: Residue,
@@ -34,7 +34,7 @@ pub struct Gap {
 }
 
 // A doubling's k, and 2 u1 - f4.
-#[derive(Clone, Copy)]
+#[derive(Clone, Copy, Debug, PartialEq, Eq)]
 pub struct RightSide {
     pub k0: Residue,
     pub k1: Residue,
@@ -42,7 +42,7 @@ pub struct RightSide {
 }
 
 // r, s1 and s0 as they are after step 5: s0 times Z.
-#[derive(Clone, Copy)]
+#[derive(Clone, Copy, Debug, PartialEq, Eq)]
 pub struct Line {
     pub r: Residue,
     pub s1: Residue,
@@ -50,7 +50,7 @@ pub struct Line {
 }
 
 // R, s3, Ra and S3, and s1·u1.
-#[derive(Clone, Copy)]
+#[derive(Clone, Copy, Debug, PartialEq, Eq)]
 pub struct Powers {
     pub rz: Residue,
     pub s3: Residue,
@@ -64,15 +64,15 @@ fn widen(t: Tuple, x: Residue, y: Residue, m: Modulus) -> Tuple
     requires { KeptTuple m t × (Kept m x × Kept m y) }
     ensures { Widened m t x y result }
 {
-    let a1 = t.u1.mul(x, m);
-    let a0 = t.u0.mul(x, m);
-    let b1 = t.v1.mul(x, m);
-    let b0 = t.v0.mul(x, m);
+    let u1 = t.u1.mul(x, m);
+    let u0 = t.u0.mul(x, m);
+    let v1 = t.v1.mul(x, m);
+    let v0 = t.v0.mul(x, m);
     Tuple {
-        u1: a1,
-        u0: a0,
-        v1: b1,
-        v0: b0,
+        u1,
+        u0,
+        v1,
+        v0,
         z: y,
     }
 }
@@ -82,15 +82,15 @@ fn widen_plain(q: Quadratic, x: Residue, m: Modulus) -> Tuple
     requires { Held m (Divisor.Two q) × Kept m x }
     ensures { WidenedPlain m q x result }
 {
-    let a1 = x.mul(q.u1, m);
-    let a0 = x.mul(q.u0, m);
-    let b1 = x.mul(q.v1, m);
-    let b0 = x.mul(q.v0, m);
+    let u1 = x.mul(q.u1, m);
+    let u0 = x.mul(q.u0, m);
+    let v1 = x.mul(q.v1, m);
+    let v0 = x.mul(q.v0, m);
     Tuple {
-        u1: a1,
-        u0: a0,
-        v1: b1,
-        v0: b0,
+        u1,
+        u0,
+        v1,
+        v0,
         z: x,
     }
 }
@@ -102,12 +102,8 @@ fn u_gap(w: Tuple, b: Tuple, m: Modulus) -> Gap
 {
     let z1 = w.u1.sub(b.u1, m);
     let z2 = b.u0.sub(w.u0, m);
-    let y = w.u1.add(b.u1, m);
-    Gap {
-        z1: z1,
-        z2: z2,
-        both: y,
-    }
+    let both = w.u1.add(b.u1, m);
+    Gap { z1, z2, both }
 }
 
 // Steps 2 to 4 of an addition: r and s of the line through both pairs. o is the other one, w is the same over the Z of b, which is the base. With
@@ -123,11 +119,7 @@ fn chord(o: Tuple, w: Tuple, b: Tuple, g: Gap, m: Modulus) -> Line
     let w1 = w.v1.sub(b.v1, m);
     let s1 = g.z2.dot(w1, g.z1, w0, m).mul(o.z, m);
     let s0 = z3.cross(w0, w1, y, m).mul(b.z, m);
-    Line {
-        r: r,
-        s1: s1,
-        s0: s0,
-    }
+    Line { r, s1, s0 }
 }
 
 // Step 3 of a doubling: k = (f - v²) / u modulo u. With d = 2 u1 - f4 and e = f3 + u1·(u1 - f4) it is
@@ -144,11 +136,7 @@ fn cofactor_mod_u(t: Tuple, f2: Residue, f3: Residue, f4: Residue, m: Modulus) -
     let k1 = t.u1.cross(d, t.z, w, m).add(e, m);
     let g = f2.dot(q, w, d, m).sub(t.v1.sqr(m), m);
     let k0 = t.z.cross(g, t.u1, e, m);
-    RightSide {
-        k0: k0,
-        k1: k1,
-        d: d,
-    }
+    RightSide { k0, k1, d }
 }
 
 // Steps 1, 2 and 4 of a doubling: r times Z, and s, of the tangent. With i0 = 2 v0 - u1·2 v1 for the inverse's constant, s1 is 2 v0·k1 - 2 v1·k0.
@@ -164,11 +152,7 @@ fn tangent(t: Tuple, k: RightSide, m: Modulus) -> Line
     let r = e.dot(i0, g1, y, m);
     let s1 = e.cross(k.k1, g1, k.k0, m);
     let s0 = i0.dot(k.k0, y, k.k1, m);
-    Line {
-        r: r,
-        s1: s1,
-        s0: s0,
-    }
+    Line { r, s1, s0 }
 }
 
 // Step 5, of both tables.
@@ -181,13 +165,7 @@ fn prepare(b: Tuple, s: Line, m: Modulus) -> Powers
     let ra = rz.mul(s3, m);
     let ss = s3.sqr(m);
     let t = s.s1.mul(b.u1, m);
-    Powers {
-        rz: rz,
-        s3: s3,
-        ra: ra,
-        ss: ss,
-        t: t,
-    }
+    Powers { rz, s3, ra, ss, t }
 }
 
 // Step 7 of an addition: the new u, times S3.
@@ -226,23 +204,18 @@ fn new_v(b: Tuple, s: Line, p: Powers, h: Duo, m: Modulus) -> Tuple
     let j1 = s.s0.dot(p.t, s.s1, p.rz.dot(b.v1, p.s3, b.u0, m), m);
     let v0 = h.c0.cross(l3, p.ss, j0, m);
     let v1 = h.c1.dot(l3, p.ss, h.c0.sub(j1, m), m);
-    let k1 = p.ra.mul(h.c1, m);
-    let k0 = p.ra.mul(h.c0, m);
+    let u1 = p.ra.mul(h.c1, m);
+    let u0 = p.ra.mul(h.c0, m);
     let z = p.ra.mul(p.ss, m).settle(m);
-    Tuple {
-        u1: k1,
-        u0: k0,
-        v1: v1,
-        v0: v0,
-        z: z,
-    }
+    Tuple { u1, u0, v1, v0, z }
 }
 
 // Steps 2 to 10 of an addition: b is the base, w is o over the Z of b.
-fn through(o: Tuple, w: Tuple, b: Tuple, f4: Residue, m: Modulus) -> Tuple
-    requires { KeptTuple m o × (KeptTuple m w × (KeptTuple m b × Kept m f4)) }
-    ensures { Through m o w b f4 result }
+fn through(o: Tuple, w: Tuple, b: Tuple, f4: Residue, prime: PrimeModulus) -> Tuple
+    requires { KeptTuple prime.m o × (KeptTuple prime.m w × (KeptTuple prime.m b × Kept prime.m f4)) }
+    ensures { Through prime.m o w b f4 result }
 {
+    let m = prime.m;
     let g = u_gap(w, b, m);
     let s = chord(o, w, b, g, m);
     let p = prepare(b, s, m);
@@ -251,30 +224,33 @@ fn through(o: Tuple, w: Tuple, b: Tuple, f4: Residue, m: Modulus) -> Tuple
 }
 
 // a + b, ten steps.
-pub fn add(a: Tuple, b: Tuple, f4: Residue, m: Modulus) -> Tuple
-    requires { KeptTuple m a × (KeptTuple m b × Kept m f4) }
-    ensures { Added m f4 a b result }
+pub fn add(a: Tuple, b: Tuple, f4: Residue, prime: PrimeModulus) -> Tuple
+    requires { KeptTuple prime.m a × (KeptTuple prime.m b × Kept prime.m f4) }
+    ensures { Added prime.m f4 a b result }
 {
+    let m = prime.m;
     let z = a.z.mul(b.z, m);
     let p = widen(a, b.z, z, m);
     let w = widen(b, a.z, z, m);
-    through(b, w, p, f4, m)
+    through(b, w, p, f4, prime)
 }
 
 // The same where b is plain: its Z is 1, and it is the base.
-pub fn mixed(a: Tuple, b: Quadratic, f4: Residue, m: Modulus) -> Tuple
-    requires { KeptTuple m a × (Held m (Divisor.Two b) × Kept m f4) }
-    ensures { Mixed m f4 a b result }
+pub fn mixed(a: Tuple, b: Quadratic, f4: Residue, prime: PrimeModulus) -> Tuple
+    requires { KeptTuple prime.m a × (Held prime.m (Divisor.Two b) × Kept prime.m f4) }
+    ensures { Mixed prime.m f4 a b result }
 {
+    let m = prime.m;
     let p = widen_plain(b, a.z, m);
-    through(a, a, p, f4, m)
+    through(a, a, p, f4, prime)
 }
 
 // a + a, ten steps.
-pub fn double(a: Tuple, f2: Residue, f3: Residue, f4: Residue, m: Modulus) -> Tuple
-    requires { KeptTuple m a × (Kept m f2 × (Kept m f3 × Kept m f4)) }
-    ensures { Doubled m f2 f3 f4 a result }
+pub fn double(a: Tuple, f2: Residue, f3: Residue, f4: Residue, prime: PrimeModulus) -> Tuple
+    requires { KeptTuple prime.m a × (Kept prime.m f2 × (Kept prime.m f3 × Kept prime.m f4)) }
+    ensures { Doubled prime.m f2 f3 f4 a result }
 {
+    let m = prime.m;
     let k = cofactor_mod_u(a, f2, f3, f4, m);
     let s = tangent(a, k, m);
     let p = prepare(a, s, m);
@@ -287,34 +263,25 @@ pub fn lift(q: Quadratic, m: Modulus) -> Tuple
     requires { Held m (Divisor.Two q) }
     ensures { Lifted m q result }
 {
-    let u1 = q.u1;
-    let u0 = q.u0;
-    let v1 = q.v1;
-    let v0 = q.v0;
-    let z = Residue::one(m);
     Tuple {
-        u1: u1,
-        u0: u0,
-        v1: v1,
-        v0: v0,
-        z: z,
+        u1: q.u1,
+        u0: q.u0,
+        v1: q.v1,
+        v0: q.v0,
+        z: Residue::one(m),
     }
 }
 
 // And back, by the one inverse of a multiple.
-pub fn back(t: Tuple, m: Modulus) -> Quadratic
-    requires { KeptTuple m t × HasInverse m t.z }
-    ensures { Divided m t result }
+pub fn back(t: Tuple, prime: PrimeModulus) -> Quadratic
+    requires { KeptTuple prime.m t × HasInverse prime.m t.z }
+    ensures { Divided prime.m t result }
 {
-    let i = t.z.inverse(m);
+    let m = prime.m;
+    let i = t.z.inverse(prime);
     let u0 = t.u0.mul(i, m).settle(m);
     let u1 = t.u1.mul(i, m).settle(m);
     let v0 = t.v0.mul(i, m).settle(m);
     let v1 = t.v1.mul(i, m).settle(m);
-    Quadratic {
-        u0: u0,
-        u1: u1,
-        v0: v0,
-        v1: v1,
-    }
+    Quadratic { u0, u1, v0, v1 }
 }

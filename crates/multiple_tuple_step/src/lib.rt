@@ -9,7 +9,7 @@ use field::Residue;
 use multiple_tuple::Tuple;
 
 // A partial multiple, over a common Z or plain.
-#[derive(Clone, Copy)]
+#[derive(Clone, Copy, Debug, PartialEq, Eq)]
 pub enum State {
     Free(Tuple),
     Plain(Divisor),
@@ -29,17 +29,15 @@ pub fn climb(
     requires { ToClimb c f2 f3 f4 q p t }
     ensures { Climbed c q t digit result }
 {
-    let m = c.m;
-    let d = multiple_tuple::double(t, f2, f3, f4, m);
-    let z = d.z;
-    if z.is_zero(m) {
+    let d = multiple_tuple::double(t, f2, f3, f4, c.prime);
+    if d.z.is_zero(c.prime.m) {
         return d; // special, as its Z says
     }
     if digit == scalar::MINUS {
-        return multiple_tuple::mixed(d, p, f4, m);
+        return multiple_tuple::mixed(d, p, f4, c.prime);
     }
     if digit == scalar::NULL {
         return d;
     }
-    multiple_tuple::mixed(d, q, f4, m)
+    multiple_tuple::mixed(d, q, f4, c.prime)
 }

@@ -44,7 +44,7 @@ module _ (m : Modulus) (a : Poly) where
 
     pub derive_begin : {z : Poly} {i : Residue} → Is m z 0P 0 → length z.c ≡ room → Everywhere i 0 → Deriving z.c i 0
     unfolding count
-    derive_begin {z} {i} hz e hi = record { built = build_begin m 0P D 0 (a.n - 1) e hz.ok.fill hz.is; counted = settles_stands m (zero_settles m i h.fill.good hi) }
+    derive_begin {z} {i} hz e hi = record { built = build_begin m 0P D 0 (a.n - 1) e hz.ok.fill hz.is; counted = settles_stands m (zero_settles m i hi) }
 
     -- the place to be stored at holds nothing yet
     fresh : {l : List Residue} {i : Residue} {k : ℕ} → Deriving l i k → cf (pol_l m l) k ≡ 𝟘

@@ -89,7 +89,7 @@ module _ (m : Modulus) where
 
       module _ {j : List Residue} {i : ℕ} {z : Residue} (row : Rowing m (pol_l m r) (ng (el m x)) s u j i) (ei : i ≡ u.n - 1) (hz : Everywhere z 0) where
         last : Stands m z (cf (pol_l m j) top ⊕ ng (el m x) ⊗ cf (pol m u) i)
-        last = let o : Stands m z 𝟘 = settles_stands m (zero_settles m z v.fill.good hz) in record {
+        last = let o : Stands m z 𝟘 = settles_stands m (zero_settles m z hz) in record {
           kept = o.kept;
           is = o.is ∙ sym (ap₂ ◌⊕◌ (ap (cf (pol_l m j)) {x = top} {y = s + i} (omega arith) ∙ build_next m (pol_l m r) _ s u.n row ∙ ap (cf (pol_l m r)) {x = s + i} {y = top} (omega arith) ∙ sym hx.is) (ap (λ t. ng (el m x) ⊗ cf (pol m u) t) ei ∙ ap (λ t. ng (el m x) ⊗ t) h.monic.lead ∙ mul-one (K m) (ng (el m x))) ∙ add_neg (K m) (el m x));
         }

@@ -9,7 +9,7 @@ use Rattle.algebra.proofs.Poly.Poly.{coef, coef_zer, poly_ext}
 use Rattle.algebra.proofs.Poly.Term.{at}
 use Rattle.algebra.proofs.Poly.Degree.{Degree}
 use Rattle.field.specs.declared.Modulus.{Modulus}
-use Rattle.field.specs.Residues.{Good}
+use Rattle.algebra.proofs.Zmod.Prime.{Prime}
 use Rattle.field.proofs.Laws.{residue_field}
 use Rattle.poly.specs.declared.Poly.{Poly}
 use Rattle.poly.specs.Polys.{K, P, pol, Ok, Is}
@@ -72,5 +72,5 @@ module _ (m : Modulus) where
   pub recast : {r : Poly} {v w : Po} {i n : ℕ} → Is m r v i → v ≡ w → i ≤ n → Is m r w n
   recast h e l = record { ok = h.ok; is = h.is ∙ e; short = omega (arith, h.short) }
 
-  pub degree_of : (g : Good m) (r : Poly) → Ok m r → 0 < r.n → Degree (residue_field m g) (r.n - 1) (pol m r)
+  pub degree_of : (prime : Prime m.p) (r : Poly) → Ok m r → 0 < r.n → Degree (residue_field m prime) (r.n - 1) (pol m r)
   degree_of g r h l = record { below = λ k i. h.size.end k (omega arith); top = h.size.top l }

@@ -12,8 +12,8 @@ use Rattle.algebra.proofs.Poly.Poly.{coef, coef_mul, coef_zer, coef_one, poly_ex
 use Rattle.algebra.proofs.Poly.Term.{at, C, coef_shift, term_one}
 use Rattle.field.specs.declared.Residue.{Residue}
 use Rattle.field.specs.declared.Modulus.{Modulus}
-use Rattle.field.specs.Residues.{el, Good}
-use Rattle.field.proofs.Laws.{residue_field}
+use Rattle.field.specs.Residues.{el}
+use Rattle.field.proofs.Laws.{one_ne}
 use Rattle.poly.specs.declared.Poly.{Poly}
 use Rattle.poly.specs.Polys.{K, P, pol, Ok, Is}
 use Rattle.poly.specs.Operations.{IsMonic, Led, ToQuotient, Quotient, MonicBy}
@@ -29,15 +29,12 @@ module _ (m : Modulus) where
   abbrev cf : Po → ℕ → A
   cf v = coef (K m) v
 
-  one_ne : Good m → 𝟙 ≢ 𝟘
-  one_ne g = (residue_field m g).one_ne
-
   -- a coefficient 1 just below the bound fixes the length
   pub exact : {r : Poly} {n : ℕ} → Ok m r → r.n ≤ suc n → cf (pol m r) n ≡ 𝟙 → r.n ≡ suc n
   exact {r} {n} h l e = go (dec_le r.n n)
     where
       go : Dec (r.n ≤ n) → r.n ≡ suc n
-      go (yes g) = absurd (one_ne h.fill.good (sym e ∙ h.size.end n g))
+      go (yes g) = absurd (one_ne m (sym e ∙ h.size.end n g))
       go (no g) = omega arith
 
   pub monic_at : {r : Poly} {n : ℕ} → Ok m r → r.n ≤ suc n → cf (pol m r) n ≡ 𝟙 → IsMonic m r
@@ -72,7 +69,7 @@ module _ (m : Modulus) where
 
   -- ---- monic ones
   pub monic_ne : {a : Poly} → Ok m a → IsMonic m a → pol m a ≢ 0P
-  monic_ne {a} h o e = one_ne h.fill.good (sym o.lead ∙ ap (λ v. cf v (a.n - 1)) e ∙ at (K m) (coef_zer (K m)) (a.n - 1))
+  monic_ne {a} h o e = one_ne m (sym o.lead ∙ ap (λ v. cf v (a.n - 1)) e ∙ at (K m) (coef_zer (K m)) (a.n - 1))
 
   -- monic of degree 0 is 1
   pub monic_one : {g : Poly} → Ok m g → g.n ≡ 1 → IsMonic m g → pol m g ≡ 1P

@@ -11,8 +11,9 @@ use Rattle.algebra.proofs.Poly.Term.{term}
 use Rattle.algebra.proofs.Poly.Degree.{Degree, degree_mul}
 use Rattle.algebra.proofs.Poly.Build.{part, part_all}
 use Rattle.field.specs.declared.Residue.{Residue}
+use Rattle.algebra.proofs.Zmod.Prime.{Prime}
 use Rattle.field.specs.declared.Modulus.{Modulus}
-use Rattle.field.specs.Residues.{el, Good, Stands}
+use Rattle.field.specs.Residues.{el, Stands}
 use Rattle.field.proofs.Laws.{residue_field}
 use Rattle.poly.specs.declared.Poly.{Poly}
 use Rattle.poly.specs.Polys.{room, K, P, pol_l, pol, Filled, Is}
@@ -57,9 +58,9 @@ module _ (m : Modulus) (a b : Poly) where
           ∙ ap (λ n. first n *P pol m b) {x = suc i} {y = i + 1} (omega arith);
     }
 
-    -- no coefficient of either is left over: over a field the leading ones don't multiply to zero
-    pub mul_end : {l : List Residue} {i : ℕ} → Multiplying l i → a.n ≤ i → 0 < a.n → 0 < b.n → Is m (record { c = l; n = a.n + b.n - 1 }) (pol m a *P pol m b) (a.n + b.n - 1)
-    mul_end {l} {i} v over la lb = record {
+    -- no coefficient of either is left over: modulo a prime the leading ones don't multiply to zero
+    pub mul_end : Prime m.p → {l : List Residue} {i : ℕ} → Multiplying l i → a.n ≤ i → 0 < a.n → 0 < b.n → Is m (record { c = l; n = a.n + b.n - 1 }) (pol m a *P pol m b) (a.n + b.n - 1)
+    mul_end prime {l} {i} v over la lb = record {
       ok = record {
         len = omega (arith, h.fits);
         fill = v.fill;
@@ -75,11 +76,8 @@ module _ (m : Modulus) (a b : Poly) where
         whole : pol_l m l ≡ pol m a *P pol m b
         whole = v.is ∙ ap (λ n. first n *P pol m b) {x = i} {y = a.n} (omega (arith, v.within)) ∙ ap (λ t. t *P pol m b) (part_all (K m) a.n (pol m a) h.left.size.end)
 
-        good : Good m
-        good = h.left.fill.good
-
-        degree : Degree (residue_field m good) (a.n - 1 + (b.n - 1)) (pol m a *P pol m b)
-        degree = degree_mul (residue_field m good) (pol m a) (pol m b) (degree_of m good a h.left la) (degree_of m good b h.right lb)
+        degree : Degree (residue_field m prime) (a.n - 1 + (b.n - 1)) (pol m a *P pol m b)
+        degree = degree_mul (residue_field m prime) (pol m a) (pol m b) (degree_of m prime a h.left la) (degree_of m prime b h.right lb)
 
     pub mul_none : {z : Poly} → Is m z 0P 0 → a.n ≡ 0 → Is m z (pol m a *P pol m b) (a.n + b.n - 1)
     mul_none hz e = recast m hz (sym (ap (λ t. t *P pol m b) (none_is m h.left e) ∙ zer_mul (P m) (pol m b))) (omega arith)

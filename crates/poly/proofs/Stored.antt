@@ -17,7 +17,7 @@ use Rattle.algebra.proofs.Poly.Term.{at, term, C, X, coef_C, coef_X_zero, coef_X
 use Rattle.algebra.proofs.Poly.Build.{put_is}
 use Rattle.field.specs.declared.Residue.{Residue}
 use Rattle.field.specs.declared.Modulus.{Modulus}
-use Rattle.field.specs.Residues.{el, Good, Kept, Stands, Everywhere}
+use Rattle.field.specs.Residues.{el, Kept, Stands, Everywhere}
 use Rattle.field.proofs.Laws.{zero_settles, settles_stands}
 use Rattle.poly.specs.Polys.{room, K, P, pol_l, Filled, Is}
 
@@ -68,7 +68,7 @@ module _ (m : Modulus) where
   read {l} k d h lt = record { kept = h.all k d lt; is = sym (stored l k d lt) }
 
   pub read_past : {l : List Residue} {z : Residue} (k : ℕ) → Filled m l → length l ≤ k → Everywhere z 0 → Stands m z (cf (pol_l m l) k)
-  read_past {l} {z} k h le hz = let s : Stands m z 𝟘 = settles_stands m (zero_settles m z h.good hz) in record { kept = s.kept; is = s.is ∙ sym (past l k le) }
+  read_past {l} {z} k h le hz = let s : Stands m z 𝟘 = settles_stands m (zero_settles m z hz) in record { kept = s.kept; is = s.is ∙ sym (past l k le) }
 
   -- ---- a store is a sum with one term
   module _ (l : List Residue) (j : ℕ) (y : Residue) (lt : j < length l) where
@@ -82,16 +82,16 @@ module _ (m : Modulus) where
         other n ne (no h) = past (set l j y) n (omega (arith, length-set l j y)) ∙ sym (past l n (omega arith))
 
     pub filled_set : Filled m l → Kept m y → Filled m (set l j y)
-    filled_set f g = record { good = f.good; all = λ k d h. go k d (omega (arith, length-set l j y)) (ℕ_discrete k j) }
+    filled_set f g = record { all = λ k d h. go k d (omega (arith, length-set l j y)) (ℕ_discrete k j) }
       where
         go : (k : ℕ) (d : Residue) → k < length l → Dec (k ≡ j) → Kept m (get_or (set l j y) k d)
         go k d h (yes e) = subst (Kept m) (sym (ap (λ (i : ℕ). get_or (set l j y) i d) e ∙ get_or-set_same l j y d lt)) g
         go k d h (no ne) = subst (Kept m) (sym (get_or-set_other l j k y d ne)) (f.all k d h)
 
   -- ---- zeros alone
-  module _ (z : Residue) (hz : Everywhere z 0) (g : Good m) (n : ℕ) where
+  module _ (z : Residue) (hz : Everywhere z 0) (n : ℕ) where
     zeros_stand : Stands m z 𝟘
-    zeros_stand = settles_stands m (zero_settles m z g hz)
+    zeros_stand = settles_stands m (zero_settles m z hz)
 
     zeros_at : (k : ℕ) → cf (pol_l m (replicate n z)) k ≡ 𝟘
     zeros_at k = go (dec_lt k n)
@@ -104,7 +104,7 @@ module _ (m : Modulus) where
     zeros_are = record {
       ok = record {
         len = omega arith;
-        fill = record { good = g; all = λ k d h. subst (Kept m) (sym (get_or-replicate n k z d (omega (arith, length-replicate n z)))) zeros_stand.kept };
+        fill = record { all = λ k d h. subst (Kept m) (sym (get_or-replicate n k z d (omega (arith, length-replicate n z)))) zeros_stand.kept };
         size = record { end = λ k l. zeros_at k; top = λ l. absurd (omega arith) };
       };
       is = poly_ext (K m) (λ k. zeros_at k ∙ sym (at (K m) (coef_zer (K m)) k));

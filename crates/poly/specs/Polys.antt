@@ -8,7 +8,7 @@ use Rattle.algebra.proofs.Poly.Term.{C, X}
 use Rattle.algebra.proofs.Zmod.Zmod.{zmod}
 use Rattle.field.specs.declared.Residue.{Residue}
 use Rattle.field.specs.declared.Modulus.{Modulus}
-use Rattle.field.specs.Residues.{el, Good, Kept}
+use Rattle.field.specs.Residues.{el, Kept}
 use Rattle.poly.specs.declared.Poly.{Poly}
 
 -- how many coefficients there is room for
@@ -32,7 +32,6 @@ pol m x = pol_l m x.c
 
 -- every residue stored is one of m's
 pub record Filled (m : Modulus) (l : List Residue) : Type 0 where
-  pub good : Good m
   pub all : (k : ℕ) (d : Residue) → k < length l → Kept m (get_or l k d)
 
 -- n is one more than the degree of v, and 0 where v is 0

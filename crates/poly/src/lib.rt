@@ -7,18 +7,18 @@ ghost use Rattle.std.specs.Prelude.{◌≡◌, ◌+◌, ◌-◌, max};
 ghost use Rattle.algebra.proofs.Poly.Poly.{coef};
 ghost use Rattle.algebra.proofs.Poly.Term.{term, C};
 ghost use Rattle.algebra.proofs.Poly.Derivative.{der_p};
-ghost use Rattle.field.specs.Residues.{el, Good, Kept, Stands};
+ghost use Rattle.field.specs.Residues.{el, Kept, Stands};
 ghost use Rattle.poly.specs.Polys.{K, P, pol, Ok, Is};
 ghost use Rattle.poly.specs.Operations.{Gets, FilledTo, Size, Put, Product, Led, ToDivide, Divided, ToQuotient, Quotient, MadeMonic};
 
-use field::{Modulus, Residue};
+use field::{Modulus, PrimeModulus, Residue};
 
 // Room for every intermediate of the sum in genus 3. Its largest are s2 * (v1 - v2) + s3 * w2 in the composition (degree 10 at most) and
 // f - v * v before it is divided by u (degree 10 at most); Euclid's cofactors are no longer than what it starts from. No room
 // more: a polynomial is copied by each call.
 pub const ROOM: usize = 11;
 
-// n is one more than the degree, and 0 for the zero polynomial.
+// n is one more than the degree, and 0 for the zero polynomial. An array with a length beside it, where a Vec would ask a tablet for memory.
 #[derive(Clone, Copy)]
 pub struct Poly {
     c: [Residue; ROOM],
@@ -31,18 +31,8 @@ pub struct DivRem {
     pub remainder: Poly,
 }
 
-fn larger(a: usize, b: usize) -> usize
-    ensures { result ≡ max a b }
-{
-    if a < b {
-        return b;
-    }
-    a
-}
-
 impl Poly {
     pub fn zero(m: Modulus) -> Poly
-        requires { Good m }
         ensures { Is m result (P m).zer 0 }
     {
         let z = Residue::zero();
@@ -61,13 +51,9 @@ impl Poly {
         requires { FilledTo m self.c top }
         ensures { Size m self.c top result }
     {
-        let mut n = top;
-        while 0 < n {
-            let x = self.c[n - 1];
-            if x.settle(m).is_zero(m) {
-                n -= 1;
-            } else {
-                return n;
+        for n in (0..top).rev() {
+            if !self.c[n].settle(m).is_zero(m) {
+                return n + 1;
             }
         }
         0
@@ -81,21 +67,18 @@ impl Poly {
         let mut r = self;
         let y = r.get(k).add(x, m);
         r.c[k] = y;
-        let top = larger(self.n, k + 1);
-        let size = r.size(top, m);
-        r.n = size;
+        r.n = r.size(self.n.max(k + 1), m);
         r
     }
 
     pub fn constant(x: Residue, m: Modulus) -> Poly
-        requires { Good m × Kept m x }
+        requires { Kept m x }
         ensures { Is m result (C (K m) (el m x)) 1 }
     {
         Poly::zero(m).put(0, x, m)
     }
 
     pub fn one(m: Modulus) -> Poly
-        requires { Good m }
         ensures { Is m result (P m).one 1 }
     {
         Poly::constant(Residue::one(m), m)
@@ -106,16 +89,10 @@ impl Poly {
         ensures { Is m result ((P m).add (pol m self) (pol m other)) (max self.n other.n) }
     {
         let mut r = self;
-        let n = other.n;
-        let mut k: usize = 0;
-        while k < n {
-            let y = r.c[k].add(other.c[k], m);
-            r.c[k] = y;
-            k += 1;
+        for k in 0..other.n {
+            r.c[k] = r.c[k].add(other.c[k], m);
         }
-        let top = larger(self.n, n);
-        let size = r.size(top, m);
-        r.n = size;
+        r.n = r.size(self.n.max(other.n), m);
         r
     }
 
@@ -124,16 +101,10 @@ impl Poly {
         ensures { Is m result ((P m).add (pol m self) ((P m).neg (pol m other))) (max self.n other.n) }
     {
         let mut r = self;
-        let n = other.n;
-        let mut k: usize = 0;
-        while k < n {
-            let y = r.c[k].sub(other.c[k], m);
-            r.c[k] = y;
-            k += 1;
+        for k in 0..other.n {
+            r.c[k] = r.c[k].sub(other.c[k], m);
         }
-        let top = larger(self.n, n);
-        let size = r.size(top, m);
-        r.n = size;
+        r.n = r.size(self.n.max(other.n), m);
         r
     }
 
@@ -150,22 +121,19 @@ impl Poly {
     {
         let mut r = Poly::zero(m);
         let n = self.n;
-        let mut k: usize = 0;
-        while k < n {
-            let y = x.mul(self.c[k], m);
-            r.c[k] = y;
-            k += 1;
+        for k in 0..n {
+            r.c[k] = x.mul(self.c[k], m);
         }
-        let size = r.size(n, m);
-        r.n = size;
+        r.n = r.size(n, m);
         r
     }
 
     // Row by row, in place: two loops in one function, since a call for each row would copy the polynomial twice.
-    pub fn mul(self, other: Poly, m: Modulus) -> Poly
-        requires { Product m self other }
-        ensures { Is m result ((P m).mul (pol m self) (pol m other)) (self.n + other.n - 1) }
+    pub fn mul(self, other: Poly, prime: PrimeModulus) -> Poly
+        requires { Product prime.m self other }
+        ensures { Is prime.m result ((P prime.m).mul (pol prime.m self) (pol prime.m other)) (self.n + other.n - 1) }
     {
+        let m = prime.m;
         let mut r = Poly::zero(m);
         let n = self.n;
         let l = other.n;
@@ -175,17 +143,11 @@ impl Poly {
         if l == 0 {
             return r;
         }
-        let mut i: usize = 0;
-        'rows: while i < n {
+        for i in 0..n {
             let x = self.c[i];
-            let mut k: usize = 0;
-            while k < l {
-                let j = i + k;
-                let y = r.c[j].add(x.mul(other.c[k], m), m);
-                r.c[j] = y;
-                k += 1;
+            for k in 0..l {
+                r.c[i + k] = r.c[i + k].add(x.mul(other.c[k], m), m);
             }
-            i += 1;
         }
         r.n = n + l - 1;
         r
@@ -208,24 +170,16 @@ impl Poly {
                 remainder: r,
             };
         }
-        let mut k: usize = n - low;
-        q.n = k;
-        'rows: while 0 < k {
-            k -= 1;
-            let top = k + low;
-            let x = r.c[top];
+        q.n = n - low;
+        'rows: for k in (0..n - low).rev() {
+            let x = r.c[k + low];
             q.c[k] = x;
-            let mut i: usize = 0;
-            while i < low {
-                let j = k + i;
-                let y = r.c[j].sub(x.mul(u.c[i], m), m);
-                r.c[j] = y;
-                i += 1;
+            for i in 0..low {
+                r.c[k + i] = r.c[k + i].sub(x.mul(u.c[i], m), m);
             }
-            r.c[top] = zero;
+            r.c[k + low] = zero;
         }
-        let size = r.size(low, m);
-        r.n = size;
+        r.n = r.size(low, m);
         DivRem {
             quotient: q,
             remainder: r,
@@ -251,22 +205,22 @@ impl Poly {
     }
 
     // The inverse of the leading coefficient.
-    pub fn lead_inverse(self, m: Modulus) -> Residue
-        requires { Led m self }
-        ensures { Kept m result × ((K m).mul (coef (K m) (pol m self) (self.n - 1)) (el m result) ≡ (K m).one) }
+    pub fn lead_inverse(self, prime: PrimeModulus) -> Residue
+        requires { Led prime.m self }
+        ensures { let m = prime.m in Kept m result × ((K m).mul (coef (K m) (pol m self) (self.n - 1)) (el m result) ≡ (K m).one) }
     {
-        self.lead(m).inverse(m)
+        self.lead(prime.m).inverse(prime)
     }
 
     // Divided by its leading coefficient; zero stays zero.
-    pub fn monic(self, m: Modulus) -> Poly
-        requires { Ok m self }
-        ensures { MadeMonic m self result }
+    pub fn monic(self, prime: PrimeModulus) -> Poly
+        requires { Ok prime.m self }
+        ensures { MadeMonic prime.m self result }
     {
         if self.n == 0 {
             return self;
         }
-        self.scale(self.lead_inverse(m), m)
+        self.scale(self.lead_inverse(prime), prime.m)
     }
 
     // Its coefficient at k is k + 1 times the one at k + 1, and i runs through the residues of 1, 2, ..
@@ -278,15 +232,12 @@ impl Poly {
         let mut i = Residue::zero();
         let mut r = Poly::zero(m);
         let n = self.n;
-        let mut k: usize = 0;
-        while k + 1 < n {
+        let top = n.saturating_sub(1);
+        for k in 0..top {
             i = i.add(one, m);
-            let y = i.mul(self.get(k + 1), m);
-            r.c[k] = y;
-            k += 1;
+            r.c[k] = i.mul(self.c[k + 1], m);
         }
-        let size = r.size(k, m);
-        r.n = size;
+        r.n = r.size(top, m);
         r
     }
 }

@@ -8,6 +8,7 @@ use native.Mathlib.Decide.{ℕ_discrete}
 use native.Mathlib.Nat.{le_trans}
 use Rattle.algebra.proofs.Ring.Quote.{ring, quote, by}
 use Rattle.algebra.proofs.Poly.Term.{C}
+use Rattle.algebra.proofs.Zmod.Prime.{Prime}
 use Rattle.field.specs.declared.Modulus.{Modulus}
 use Rattle.poly.specs.declared.Poly.{Poly}
 use Rattle.poly.specs.Polys.{room, K, P, pol, Ok, Is}
@@ -114,8 +115,8 @@ module _ (m : Modulus) where
   pub half_end : {a b : Poly} {x y u : RightLine} {xs ys : Po} → Halved a b x y xs ys → y.r.n ≡ 0 → ScaledH m x u → XgcdRight m a b u
   half_end {xs = xs} v e h = half_finish xs (shared_monic m (euclid_end m v.core e) h.r) v.x_is v.t.x_end h
 
-  pub half_stop : {a b : Poly} {x y u : RightLine} {xs ys : Po} → Halved a b x y xs ys → y.r.n ≡ 1 → ScaledH m y u → XgcdRight m a b u
-  half_stop {ys = ys} v e h = half_finish ys (shared_monic m (euclid_stop m v.core e) h.r) v.y_is v.t.y_end h
+  pub half_stop : Prime m.p → {a b : Poly} {x y u : RightLine} {xs ys : Po} → Halved a b x y xs ys → y.r.n ≡ 1 → ScaledH m y u → XgcdRight m a b u
+  half_stop prime {ys = ys} v e h = half_finish ys (shared_monic m (euclid_stop m v.core prime e) h.r) v.y_is v.t.y_end h
 
   -- ---- whole lines: the same, with the s kept
   abbrev upper : Line → RightLine
@@ -171,5 +172,5 @@ module _ (m : Modulus) where
   pub extended_end : {a b : Poly} {x y u : Line} → Extended a b x y → y.r.n ≡ 0 → Scaled m x u → Xgcd m a b u
   extended_end v e h = finish (shared_monic m (euclid_end m v.half.core e) h.r) v.half.x_is v.s.x_end v.half.t.x_end h
 
-  pub extended_stop : {a b : Poly} {x y u : Line} → Extended a b x y → y.r.n ≡ 1 → Scaled m y u → Xgcd m a b u
-  extended_stop v e h = finish (shared_monic m (euclid_stop m v.half.core e) h.r) v.half.y_is v.s.y_end v.half.t.y_end h
+  pub extended_stop : Prime m.p → {a b : Poly} {x y u : Line} → Extended a b x y → y.r.n ≡ 1 → Scaled m y u → Xgcd m a b u
+  extended_stop prime v e h = finish (shared_monic m (euclid_stop m v.half.core prime e) h.r) v.half.y_is v.s.y_end v.half.t.y_end h

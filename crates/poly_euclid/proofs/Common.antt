@@ -7,6 +7,7 @@ use native.Mathlib.Omega.{arith}
 use Rattle.algebra.proofs.Ring.Quote.{ring, quote, by}
 use Rattle.algebra.proofs.Ring.Divides.{Divides, divides_zer, divides_add, divides_neg, divides_mul, divides_trans, divides_eq}
 use Rattle.algebra.proofs.Poly.Term.{C, constants}
+use Rattle.algebra.proofs.Zmod.Prime.{Prime}
 use Rattle.field.specs.declared.Modulus.{Modulus}
 use Rattle.poly.specs.declared.Poly.{Poly}
 use Rattle.poly.specs.Polys.{K, P, pol, Ok}
@@ -62,8 +63,8 @@ module _ (m : Modulus) where
         both = v.back (pol m x) (record { factor = 1P; is = sym ((P m).one-mul (pol m x)) }) (divides_eq (P m) (sym (none_is m v.ok_y e)) (divides_zer (P m) (pol m x)))
 
     -- y is a constant
-    pub euclid_stop : y.n ≡ 1 → Shared m a b y
-    euclid_stop e = record { ok = v.ok_y; left = divides_all m v.ok_y e (pol m a); right = divides_all m v.ok_y e (pol m b); greatest = λ h da db. (v.forth h da db).1; short = v.short_y }
+    pub euclid_stop : Prime m.p → y.n ≡ 1 → Shared m a b y
+    euclid_stop prime e = record { ok = v.ok_y; left = divides_all m prime v.ok_y e (pol m a); right = divides_all m prime v.ok_y e (pol m b); greatest = λ h da db. (v.forth h da db).1; short = v.short_y }
 
   -- made monic
   pub shared_monic : {a b x g : Poly} {up : A} → Shared m a b x → MonicBy m up x g → Gcd m a b g

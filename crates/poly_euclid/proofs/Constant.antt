@@ -9,19 +9,20 @@ use Rattle.algebra.proofs.Ring.Field.{Field}
 use Rattle.algebra.proofs.Poly.Series.{con}
 use Rattle.algebra.proofs.Poly.Poly.{coef, poly_ext}
 use Rattle.algebra.proofs.Poly.Term.{at, C, coef_C, constants}
+use Rattle.algebra.proofs.Zmod.Prime.{Prime}
 use Rattle.field.specs.declared.Modulus.{Modulus}
 use Rattle.field.proofs.Laws.{residue_field}
 use Rattle.poly.specs.declared.Poly.{Poly}
 use Rattle.poly.specs.Polys.{K, P, pol, Ok}
 
-module _ (m : Modulus) {g : Poly} (h : Ok m g) (e : g.n ≡ 1) where
+module _ (m : Modulus) (prime : Prime m.p) {g : Poly} (h : Ok m g) (e : g.n ≡ 1) where
   open K m use {El as A, mul as ◌⊗◌, zer as 𝟘, mul_comm}
   open P m use {El as Po, mul as ◌*P◌}
 
   infixl 70 ◌⊗◌
   infixl 70 ◌*P◌
   abbrev F : Field
-  F = residue_field m h.fill.good
+  F = residue_field m prime
 
   abbrev pub head : A
   head = coef (K m) (pol m g) 0

@@ -10,6 +10,7 @@ use Rattle.algebra.proofs.Poly.Poly.{coef}
 use Rattle.algebra.proofs.Poly.Term.{at, X, coef_term, term_s, termS_at, termS_off}
 use Rattle.algebra.proofs.Poly.Degree.{Degree}
 use Rattle.algebra.proofs.Poly.Common.{SharesNoFactor, constant_factor, shares_some}
+use Rattle.algebra.proofs.Zmod.Prime.{Prime}
 use Rattle.field.specs.declared.Modulus.{Modulus}
 use Rattle.field.proofs.Laws.{residue_field}
 use Rattle.poly.specs.declared.Poly.{Poly}
@@ -18,12 +19,12 @@ use Rattle.poly.proofs.Lengths.{none_is}
 use Rattle.poly_euclid.specs.Euclid.{Shared}
 use Rattle.poly_euclid.proofs.Constant.{head, head_ne, constant_is}
 
-module _ (m : Modulus) {a b g : Poly} (h : Shared m a b g) where
+module _ (m : Modulus) (prime : Prime m.p) {a b g : Poly} (h : Shared m a b g) where
   open P m use {El as Po, mul as ◌*P◌, zer as 0P}
 
   infixl 70 ◌*P◌
   abbrev F : Field
-  F = residue_field m h.ok.fill.good
+  F = residue_field m prime
 
   -- a polynomial of degree 1 or more that divides both
   pub record SharedFactor : Type 0 where
@@ -34,7 +35,7 @@ module _ (m : Modulus) {a b g : Poly} (h : Shared m a b g) where
     pub degree : Degree F (suc less_one) factor
 
   pub degree_zero : g.n ≡ 1 → SharesNoFactor (K m) (pol m a) (pol m b)
-  degree_zero e d da db = constant_factor F (head m h.ok e) d (head_ne m h.ok e) (divides_eq (P m) (constant_is m h.ok e) (h.greatest d da db))
+  degree_zero e d da db = constant_factor F (head m prime h.ok e) d (head_ne m prime h.ok e) (divides_eq (P m) (constant_is m prime h.ok e) (h.greatest d da db))
 
   zero_is : {v : Po} → g.n ≡ 0 → Divides (P m) (pol m g) v → 0P ≡ v
   zero_is e d = sym (d.is ∙ ap (λ t. d.factor *P t) (none_is m h.ok e) ∙ mul_zer (P m) d.factor)
@@ -65,9 +66,9 @@ module _ (m : Modulus) {a b g : Poly} (h : Shared m a b g) where
   shares_else ne = let f : SharedFactor = degree_else ne in shares_some F (pol m a) (pol m b) f.factor f.left f.right f.degree
 
 -- the same where b stands for w, as the derivative does
-module _ (m : Modulus) {a b g : Poly} {w : (P m).El} (e : pol m b ≡ w) (h : Shared m a b g) where
+module _ (m : Modulus) (prime : Prime m.p) {a b g : Poly} {w : (P m).El} (e : pol m b ≡ w) (h : Shared m a b g) where
   pub shares_none_with : g.n ≡ 1 → SharesNoFactor (K m) (pol m a) w
-  shares_none_with l = subst (λ (v : (P m).El). SharesNoFactor (K m) (pol m a) v) e (degree_zero m h l)
+  shares_none_with l = subst (λ (v : (P m).El). SharesNoFactor (K m) (pol m a) v) e (degree_zero m prime h l)
 
   pub shares_some_with : (g.n ≡ 1 → ⊥) → SharesNoFactor (K m) (pol m a) w → ⊥
-  shares_some_with n f = shares_else m h n (subst (λ (v : (P m).El). SharesNoFactor (K m) (pol m a) v) (sym e) f)
+  shares_some_with n f = shares_else m prime h n (subst (λ (v : (P m).El). SharesNoFactor (K m) (pol m a) v) (sym e) f)

@@ -1,5 +1,5 @@
 -- The largest root from any: u is (x - r) times a quadratic, whose roots are the others.
-use Prim.Native.Nat.{ℕ, ◌≤◌, ◌<◌}
+use Prim.Native.Nat.{◌≤◌}
 use mathlib.Core.Path.{◌≡◌, sym, ap, ap₂, ◌∙◌, subst}
 use mathlib.Core.List.{[], ◌∷◌}
 use mathlib.Core.Logic.{◌≢◌, ◌⊎◌, inl, inr}
@@ -7,9 +7,10 @@ use native.Mathlib.Omega.{arith}
 use Rattle.algebra.proofs.Ring.CRing.{add_zer, add_neg, zer_mul, mul_zer, eq_of_sub}
 use Rattle.algebra.proofs.Ring.Field.{no_zero_divisors}
 use Rattle.algebra.proofs.Zmod.Zmod.{zmod_dec, num}
+use Rattle.algebra.proofs.Zmod.Prime.{Prime}
 use Rattle.field.specs.declared.Modulus.{Modulus}
 use Rattle.field.specs.declared.Residue.{Residue}
-use Rattle.field.specs.Residues.{el, Good, Settles, Stands}
+use Rattle.field.specs.Residues.{el, Settles, Stands}
 use Rattle.field.proofs.Laws.{residue_field}
 use Rattle.rules.specs.Roots.Roots.{value}
 use Rattle.rules.proofs.Roots.Factor.{cubic_less, quadratic_less}
@@ -23,32 +24,14 @@ module _ (m : Modulus) where
 
   infixl 65 ◌⊕◌
   infixl 70 ◌⊗◌
-  -- ---- the larger of two
-  module _ (a b : Residue) {x y : Residue} (hx : Settles m x (el m a)) (hy : Settles m y (el m b)) {i j : ℕ} (hi : i ≡ num m.p (el m x)) (hj : j ≡ num m.p (el m y)) where
-    pub larger_right : i < j → Larger m a b y
-    larger_right l = record {
-      settled = hy.settled;
-      one_of = inr hy.is;
-      above_a = omega (arith, hi, hj, ap (num m.p) hx.is);
-      above_b = omega (arith, ap (num m.p) hy.is);
-    }
-
-    pub larger_left : j ≤ i → Larger m a b x
-    larger_left l = record {
-      settled = hx.settled;
-      one_of = inl hx.is;
-      above_a = omega (arith, ap (num m.p) hx.is);
-      above_b = omega (arith, hi, hj, ap (num m.p) hy.is);
-    }
-
-  module _ (good : Good m) where
+  module _ (prime : Prime m.p) where
     either : (a b : A) → a ⊗ b ≡ 𝟘 → (a ≡ 𝟘) ⊎ (b ≡ 𝟘)
     either a b e = go (zmod_dec m.p a 𝟘) (zmod_dec m.p b 𝟘)
       where
         go : Dec (a ≡ 𝟘) → Dec (b ≡ 𝟘) → (a ≡ 𝟘) ⊎ (b ≡ 𝟘)
         go (yes x) y = inl x
         go (no x) (yes y) = inr y
-        go (no x) (no y) = absurd (no_zero_divisors (residue_field m good) a b x y e)
+        go (no x) (no y) = absurd (no_zero_divisors (residue_field m prime) a b x y e)
 
     module _ (u : MonicCubic) (r : Residue) (root : IsRoot m u r) {b e c : Residue} (hb : Stands m b (el m u.u2 ⊕ el m r)) (he : Stands m e (el m r ⊗ el m b)) (hc : Stands m c (el m e ⊕ el m u.u1)) where
       parts : (y : A) → value (K m) (lows m u) y ≡ (y ⊕ ng (el m r)) ⊗ value (K m) (el m c ∷ el m b ∷ []) y

@@ -18,12 +18,13 @@ use Rattle.algebra.proofs.Poly.Term.{C, X}
 use Rattle.algebra.proofs.Poly.Degree.{deg_monic}
 use Rattle.algebra.proofs.List.Value.{mon, mon_monic}
 use Rattle.algebra.proofs.List.Coefs.{mon_of}
-use Rattle.algebra.proofs.Zmod.Zmod.{emb, emb_add, emb_one, emb_zero}
+use Rattle.algebra.proofs.Zmod.Zmod.{emb, emb_add, emb_one}
 use Rattle.algebra.proofs.Zmod.PrimeField.{modulo}
+use Rattle.algebra.proofs.Zmod.Prime.{Prime}
 use Rattle.field.specs.declared.Modulus.{Modulus}
 use Rattle.field.specs.declared.Residue.{Residue}
-use Rattle.field.specs.Residues.{el, Good, Kept, Settles, Stands}
-use Rattle.field.proofs.Laws.{residue_field, settled_kept}
+use Rattle.field.specs.Residues.{el, Kept, Settles, Stands}
+use Rattle.field.proofs.Laws.{residue_field}
 use Rattle.field.proofs.Decide.{otherwise}
 use Rattle.poly.specs.declared.Poly.{Poly}
 use Rattle.poly.specs.Polys.{pol}
@@ -106,9 +107,9 @@ module _ (m : Modulus) where
   shifted_at a y = ev_less_one (K m) y (X (K m) +P C (K m) a) half ∙ ap (λ t. power (K m) t half ⊕ ng 𝟙) (ev_shift (K m) y a)
 
   -- a part of degree 0 or 3: what it says of every root
-  module _ (good : Good m) {u : MonicCubic} (a : A) {g : Poly} (h : Part m u (shifted m a) g) where
+  module _ (prime : Prime m.p) {u : MonicCubic} (a : A) {g : Poly} (h : Part m u (shifted m a) g) where
     refuses : g.n ≡ 1 → (y : A) → Root m u y → takes (y ⊕ a) ≡ false
-    refuses e y z = otherwise (takes (y ⊕ a)) (λ t. (residue_field m good).one_ne (sym (ap (ev (K m) y) (monic_one m h.ok e h.monic) ∙ (ev_hom (K m) y).h_one)
+    refuses e y z = otherwise (takes (y ⊕ a)) (λ t. (residue_field m prime).one_ne (sym (ap (ev (K m) y) (monic_one m h.ok e h.monic) ∙ (ev_hom (K m) y).h_one)
         ∙ (h.keeps y (to_ev u y z)).1 (shifted_at a y ∙ ap (λ s. s ⊕ ng 𝟙) ((power_one (modulo m.p) (y ⊕ a) half).0 t) ∙ add_neg (K m) 𝟙)))
 
     accepts : g.n ≡ 4 → (y : A) → Root m u y → takes (y ⊕ a) ≡ true
@@ -127,13 +128,10 @@ pub record Tried (m : Modulus) (u : MonicCubic) (a : Residue) (k : ℕ) : Type 0
   pub same : (j : ℕ) → j < k → (α β : (K m).El) → Root m u α → Root m u β
       → has_power_one (modulo m.p) ((K m).add α (emb m.p j)) ((m.p - 1) / 2) ≡ has_power_one (modulo m.p) ((K m).add β (emb m.p j)) ((m.p - 1) / 2)
 
-module _ (m : Modulus) (good : Good m) where
+module _ (m : Modulus) (prime : Prime m.p) where
   open K m use {El as A, add as ◌⊕◌, zer as 𝟘, one as 𝟙}
 
   infixl 65 ◌⊕◌
-  pub tried_begin : (u : MonicCubic) {z : Residue} → Settles m z 𝟘 → Tried m u z 0
-  tried_begin u h = record { kept = settled_kept m h.settled; is = h.is ∙ sym (emb_zero m.p); same = λ j l. absurd (omega arith) }
-
   module _ {u : MonicCubic} {a : Residue} {k : ℕ} (h : Tried m u a k) where
     pub tried_turn : {g : Poly} {o b : Residue} → Part m u (shifted m (el m a)) g → (g.n ≡ 2 → ⊥) → (g.n ≡ 3 → ⊥) → Settles m o 𝟙 → Stands m b (el m a ⊕ el m o) → Tried m u b (k + 1)
     tried_turn part n2 n3 ho hb = record {
@@ -144,26 +142,26 @@ module _ (m : Modulus) (good : Good m) where
       where
         more : (j : ℕ) → j < k + 1 → Dec (j ≡ k) → (α β : A) → Root m u α → Root m u β → takes m (α ⊕ emb m.p j) ≡ takes m (β ⊕ emb m.p j)
         more j l (no n) = h.same j (omega arith)
-        more j l (yes e) = λ α β x y. subst (λ (t : A). takes m (α ⊕ t) ≡ takes m (β ⊕ t)) (h.is ∙ ap (emb m.p) (sym e)) (alike m good (el m a) part n2 n3 α β x y)
+        more j l (yes e) = λ α β x y. subst (λ (t : A). takes m (α ⊕ t) ≡ takes m (β ⊕ t)) (h.is ∙ ap (emb m.p) (sym e)) (alike m prime (el m a) part n2 n3 α β x y)
 
     pub never : Whole m u → m.p ≤ k → IsRoot m u a
     never w l =
-        let r = two_roots m.p good.prime 1 (cubic m u) w.divides.factor (deg_monic (residue_field m good) (mon_monic (K m) (lows m u))) w.divides.is in
-        let s = parted_by_power m.p good.prime (half m) (omega (arith, good.ring.from)) r.0 r.1.0 r.1.1.0 in
+        let r = two_roots m.p prime 1 (cubic m u) w.divides.factor (deg_monic (residue_field m prime) (mon_monic (K m) (lows m u))) w.divides.is in
+        let s = parted_by_power m.p prime (half m) (omega (arith, m.odd.from)) r.0 r.1.0 r.1.1.0 in
         absurd (s.2 (h.same s.0 (omega (arith, s.1)) r.0 r.1.0 (from_ev m u r.0 r.1.1.1.0) (from_ev m u r.1.0 r.1.1.1.1)))
 
 -- ---- the part with x^p - x
-module _ (m : Modulus) (good : Good m) {u : MonicCubic} {g : Poly} (h : Part m u (all_roots m) g) where
+module _ (m : Modulus) (prime : Prime m.p) {u : MonicCubic} {g : Poly} (h : Part m u (all_roots m) g) where
   open K m use {El as A, add as ◌⊕◌, mul as ◌⊗◌, neg as ng, zer as 𝟘, one as 𝟙}
 
   infixl 65 ◌⊕◌
   infixl 70 ◌⊗◌
   -- every root of u is one of g, and the other way round
   kept_root : (y : A) → Root m u y → ev (K m) y (pol m g) ≡ 𝟘
-  kept_root y z = (h.keeps y (to_ev m u y z)).1 (every_root m.p good.prime y)
+  kept_root y z = (h.keeps y (to_ev m u y z)).1 (every_root m.p prime y)
 
   pub no_root : g.n ≡ 1 → (y : A) → Root m u y → ⊥
-  no_root e y z = (residue_field m good).one_ne (sym (ap (ev (K m) y) (monic_one m h.ok e h.monic) ∙ (ev_hom (K m) y).h_one) ∙ kept_root y z)
+  no_root e y z = (residue_field m prime).one_ne (sym (ap (ev (K m) y) (monic_one m h.ok e h.monic) ∙ (ev_hom (K m) y).h_one) ∙ kept_root y z)
 
   -- of degree 2: by the quadratic's roots
   module _ (e : g.n ≡ 3) {b c : Residue} (hb : Stands m b (coef (K m) (pol m g) 1)) (hc : Stands m c (coef (K m) (pol m g) 0)) where

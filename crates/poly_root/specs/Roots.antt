@@ -1,5 +1,5 @@
 -- W-213: the roots of a monic cubic modulo p, and the largest of them as a number below p.
-use Rattle.std.specs.Prelude.{◌≤◌, ◌≡◌, ◌⊎◌}
+use Rattle.std.specs.Prelude.{Option, Some, None, ◌≤◌, ◌≡◌, ◌⊎◌}
 use Rattle.algebra.proofs.Ring.Divides.{Divides}
 use Rattle.algebra.proofs.Zmod.Zmod.{num}
 use Rattle.field.specs.declared.Modulus.{Modulus}
@@ -9,8 +9,6 @@ use Rattle.rules.specs.Roots.Roots.{value}
 use Rattle.poly_root.specs.declared.rests.MonicCubic.{MonicCubic}
 use Rattle.poly_root.specs.rests.Rests.{K, P, lows, cubic, SettledCubic}
 use Rattle.poly_root.specs.parts.Parts.{all_roots}
-use Rattle.poly_root.specs.declared.Found.{Found}
-use Rattle.poly_root.specs.declared.Found.TheVariants.{At, Nowhere}
 
 abbrev pub Root : (m : Modulus) → MonicCubic → (K m).El → Type 0
 Root m u y = value (K m) (lows m u) y ≡ (K m).zer
@@ -20,9 +18,9 @@ pub record IsRoot (m : Modulus) (u : MonicCubic) (r : Residue) : Type 0 where
   pub is : Root m u (el m r)
 
 -- a root, or there is none
-abbrev pub RootIs : Modulus → MonicCubic → Found → Type 0
-RootIs m u (At r) = IsRoot m u r
-RootIs m u Nowhere = (y : (K m).El) → Root m u y → ⊥
+abbrev pub RootIs : Modulus → MonicCubic → Option Residue → Type 0
+RootIs m u (Some r) = IsRoot m u r
+RootIs m u None = (y : (K m).El) → Root m u y → ⊥
 
 -- u divides x^p - x: it has three different roots
 pub record Whole (m : Modulus) (u : MonicCubic) : Type 0 where
@@ -46,6 +44,6 @@ pub record LargestRoot (m : Modulus) (u : MonicCubic) (r : Residue) : Type 0 whe
   pub most : (y : (K m).El) → Root m u y → num m.p y ≤ num m.p (el m r)
 
 -- the largest root, or there is none
-abbrev pub LargestIs : Modulus → MonicCubic → Found → Type 0
-LargestIs m u (At r) = LargestRoot m u r
-LargestIs m u Nowhere = (y : (K m).El) → Root m u y → ⊥
+abbrev pub LargestIs : Modulus → MonicCubic → Option Residue → Type 0
+LargestIs m u (Some r) = LargestRoot m u r
+LargestIs m u None = (y : (K m).El) → Root m u y → ⊥

@@ -6,7 +6,7 @@ ghost use Rattle.poly_root.specs.rests.Rests.{P, rest, Leaves, ToMultiply, ToRai
 use field::{Modulus, Residue};
 
 // x^3 + u2 x^2 + u1 x + u0.
-#[derive(Clone, Copy)]
+#[derive(Clone, Copy, Debug, PartialEq, Eq)]
 pub struct MonicCubic {
     pub u0: Residue,
     pub u1: Residue,
@@ -14,7 +14,7 @@ pub struct MonicCubic {
 }
 
 // c2 x^2 + c1 x + c0.
-#[derive(Clone, Copy)]
+#[derive(Clone, Copy, Debug, PartialEq, Eq)]
 pub struct Rest {
     pub c0: Residue,
     pub c1: Residue,
@@ -59,14 +59,15 @@ pub fn raise(a: Rest, n: u64, u: MonicCubic, m: Modulus) -> Rest
     };
     let mut y = a;
     let mut k = n;
+    // The exponent is halved, so that no range counts the turns.
     while 0 < k {
         if k % 2 == 1 {
             x = x.times(y, u, m);
-            k = k - 1;
+            k -= 1;
             continue;
         }
         y = y.times(y, u, m);
-        k = k / 2;
+        k /= 2;
     }
     x
 }

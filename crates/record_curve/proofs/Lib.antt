@@ -1,2 +1,1 @@
 pub mod Coefficients
-pub mod Whole

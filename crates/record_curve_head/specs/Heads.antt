@@ -1,5 +1,7 @@
 -- The first checks of a curve record. Document 01, "Numbers the tablet shows": 1 (short), 2, 3, 4, 1 (exact), in this order; document 02, W-201, of version 2: 1, 18 for k, 1.
-use Rattle.std.specs.Prelude.{ℕ, suc, ◌+◌, ◌*◌, ◌≤◌, ◌≡◌, true, List, get_or, length}
+use Rattle.std.specs.Prelude.{ℕ, suc, ◌+◌, ◌*◌, ◌≤◌, ◌≡◌, true, Result, Ok, Err, List, get_or, length}
+use Rattle.refusals.specs.declared.Refusal.{Refusal}
+use Rattle.refusals.specs.Refusal.{number_of}
 use Rattle.rules.specs.Bytes.{words}
 use Rattle.rules.specs.Tests.{is_square_free}
 use Rattle.rules.specs.Records.{Checked, refused, taken, choose, is_below, elements, CurveRecord, curve, is_marked, has_genus, has_version, version_of, count_of, read_curve}
@@ -23,10 +25,10 @@ pub record Headed (s : List ℕ) : Type 0 where
   pub counted : (version_of s ≡ 1 → ⊥) → Counted s
   pub long : 22 + 16 * get_or s 5 0 ≤ length s
 
--- they do, or a number other than 0
-pub record HeadIs (s : List ℕ) (n : ℕ) : Type 0 where
-  pub passes : n ≡ 0 → Headed s
-  pub stops : (n ≡ 0 → ⊥) → read_curve s ≡ refused n 0
+-- they do, or the rule refuses
+abbrev pub HeadIs : List ℕ → Result (Unit {0}) Refusal → Type 0
+HeadIs s (Ok done) = Headed s
+HeadIs s (Err by) = read_curve s ≡ refused (number_of by) 0
 
 -- the last two checks, of what stands behind p
 abbrev pub low_rule : List ℕ → ℕ → ℕ → Checked CurveRecord

@@ -6,6 +6,7 @@ ghost use Rattle.rules.specs.Records.{has_genus, has_version, version_of};
 ghost use Rattle.record_curve_head.specs.Heads.{Begun, HeadIs};
 
 use curve::Curve;
+use refusals::Refusal;
 
 fn is_version(v: u64) -> bool
     ensures { result ≡ has_version v }
@@ -25,56 +26,55 @@ fn is_genus(g: u64) -> bool
     g == 3
 }
 
-// Version 1: refusal 1, or 0.
-fn plain_length(s: &[u8]) -> u64
+// Version 1.
+fn plain_length(s: &[u8]) -> Result<(), Refusal>
     requires { Begun s.now × (version_of s.now ≡ 1) }
     ensures { HeadIs s.now result }
 {
     let g = record_bytes::wide(s[Curve::GENUS_AT]) as usize;
     if s.len() != 22 + 16 * g {
-        return refusals::CURVE_LENGTH;
+        return Err(Refusal::CurveLength);
     }
-    0
+    Ok(())
 }
 
-// Version 2: 1 where the record ends before k, 18 where k isn't 1 to 15, 1 where the length isn't what k says, or 0.
-fn witness_length(s: &[u8]) -> u64
+// Version 2: the record may end before k, k may not be 1 to 15, and the length may not be what k says.
+fn witness_length(s: &[u8]) -> Result<(), Refusal>
     requires { Begun s.now × (version_of s.now ≡ 1 → ⊥) }
     ensures { HeadIs s.now result }
 {
     let g = record_bytes::wide(s[Curve::GENUS_AT]) as usize;
     if s.len() < 31 + 16 * g {
-        return refusals::CURVE_LENGTH;
+        return Err(Refusal::CurveLength);
     }
     let k = record_bytes::wide(s[30 + 16 * g]) as usize;
     if k < 1 {
-        return refusals::WITNESS;
+        return Err(Refusal::Witness);
     }
     if refusals::MOST_WITNESS < k {
-        return refusals::WITNESS;
+        return Err(Refusal::Witness);
     }
     if s.len() != 31 + 16 * g + 8 * k {
-        return refusals::CURVE_LENGTH;
+        return Err(Refusal::CurveLength);
     }
-    0
+    Ok(())
 }
 
-// Refusals 1 to 4, and 18 for k: the number, or 0.
-pub fn head_number(s: &[u8]) -> u64
+pub fn check_head(s: &[u8]) -> Result<(), Refusal>
     ensures { HeadIs s.now result }
 {
     if s.len() < 6 {
-        return refusals::CURVE_LENGTH;
+        return Err(Refusal::CurveLength);
     }
     if !record_bytes::marked(s, Curve::MARK) {
-        return refusals::MARK;
+        return Err(Refusal::Mark);
     }
     let version = record_bytes::wide(s[3]) * 256 + record_bytes::wide(s[4]);
     if !is_version(version) {
-        return refusals::VERSION;
+        return Err(Refusal::Version);
     }
     if !is_genus(record_bytes::wide(s[Curve::GENUS_AT])) {
-        return refusals::GENUS;
+        return Err(Refusal::Genus);
     }
     if version == Curve::VERSION {
         return plain_length(s);

@@ -9,6 +9,8 @@ use borrow.Author.Tests.{le-leb, lt-ltb, eq-eqb, ltb-true, eqb-true}
 use lib.Dec.{eqb, ltb}
 use mathlib.Core.Logic.{◌⊎◌, inl, inr}
 use Rattle.algebra.proofs.Zmod.Prime.{Prime, test_by_prime}
+use Rattle.std.specs.Prelude.{Option, Some, None, Err, ok_or}
+use Rattle.refusals.specs.declared.Refusal.TheVariants.{Prime as RPrime, Witness}
 use Rattle.rules.specs.Bytes.{word64, words}
 use Rattle.rules.specs.Records.{refused, choose, both, is_below, is_odd_prime, is_odd_number, is_witnessed, has_version, version_of, base_of, count_of, primes_of, read_curve}
 use Rattle.rules.proofs.Calls.Tests.{both_true, true_both, either_true}
@@ -16,13 +18,14 @@ use Rattle.rules.proofs.Calls.CurveRecords.{odd_prime, odd_number, is_witness}
 use Rattle.field.specs.declared.Modulus.{Modulus}
 use Rattle.field.specs.Constants.{Odd, OfNumber}
 use Rattle.field.specs.Primes.{limit, OddPrime}
-use Rattle.field.specs.Residues.{Good}
+use Rattle.field.specs.declared.PrimeModulus.{PrimeModulus}
+use Rattle.field.specs.Read.{ModulusIs}
 use Rattle.field.proofs.Decide.{otherwise}
 use Rattle.field_witness.specs.Witness.{AllSmall, Witnessed}
 use Rattle.field_witness.proofs.Accepted.{witnessed-prime}
 use Rattle.record_curve_head.specs.Heads.{Headed, low_rule}
 use Rattle.record_curve_head.proofs.Head.{behind_plain, behind_witness}
-use Rattle.record_curve_prime.specs.Primes.{PrimeTaken, PrimeRefused}
+use Rattle.record_curve_prime.specs.Primes.{PrimeTaken, PrimeIs}
 
 -- ---- the rule's tests decide what the code's do
 odd_prime_yes : (p : ℕ) → OddPrime p → is_odd_prime p ≡ true
@@ -76,37 +79,38 @@ module _ (s : List ℕ) where
     pub primes_at : (k : ℕ) → k ≡ count_of s → words s (31 + 16 * n) k ≡ primes_of s
     primes_at k e = ap₂ (λ (x y : ℕ). words s (31 + 16 * x) y) n_is e
 
+-- what a witness shows
+pub witnessed : (p a : ℕ) (l : List ℕ) → Odd p → Witnessed p a l → (m : Modulus) → OfNumber p m → Prime m.p
+witnessed p a l odd w m k = subst Prime (sym k.is) (witnessed-prime p a l odd w)
+
 -- ---- the record
 module _ (s : List ℕ) (h : Headed s) where
   abbrev g : ℕ
   g = get_or s 5 0
 
   module _ (v : version_of s ≡ 1) (p : ℕ) (p-is : p ≡ word64 s 6) where
-    pub trial_taken : (m : Modulus) → Good m × (m.p ≡ p) × OddPrime p → PrimeTaken s m
-    trial_taken m k = record {
-      good = k.0;
-      is = k.1 ∙ p-is;
-      goes_on = behind_plain s h.begun v h ∙ ap (λ b. choose b (low_rule s g (word64 s 6)) (refused 5 0)) (odd_prime_yes (word64 s 6) (subst OddPrime p-is k.2));
-    }
+    by_test : {b : Bool} → is_odd_prime (word64 s 6) ≡ b → read_curve s ≡ choose b (low_rule s g (word64 s 6)) (refused 5 0)
+    by_test e = behind_plain s h.begun v h ∙ ap (λ b. choose b (low_rule s g (word64 s 6)) (refused 5 0)) e
 
-    pub trial_refused : (OddPrime p → ⊥) → PrimeRefused s 5
-    trial_refused n = record { some = λ z. omega arith; is = behind_plain s h.begun v h ∙ ap (λ b. choose b (low_rule s g (word64 s 6)) (refused 5 0)) (odd_prime_no (word64 s 6) (λ o. n (subst OddPrime (sym p-is) o))) }
+    pub tried : (r : Option PrimeModulus) → ModulusIs p r → PrimeIs s (ok_or r RPrime)
+    tried (Some m) k = record { is = k.0 ∙ p-is; goes_on = by_test (odd_prime_yes (word64 s 6) (subst OddPrime p-is k.1)) }
+    tried None n = by_test (odd_prime_no (word64 s 6) (λ o. n (subst OddPrime (sym p-is) o)))
 
   module _ (v : version_of s ≡ 1 → ⊥) (p : ℕ) (p-is : p ≡ word64 s 6) where
     by_tests : {x y : Bool} → is_odd_number (word64 s 6) ≡ x → is_witnessed (word64 s 6) (base_of s) (primes_of s) ≡ y → read_curve s ≡ choose x (choose y (low_rule s g (word64 s 6)) (refused 18 0)) (refused 5 0)
     by_tests ex ey = behind_witness s h.begun v h ∙ ap₂ (λ x y. choose x (choose y (low_rule s g (word64 s 6)) (refused 18 0)) (refused 5 0)) ex ey
 
-    pub not_odd : (Odd p → ⊥) → PrimeRefused s 5
-    not_odd n = record { some = λ z. omega arith; is = by_tests (odd_no (word64 s 6) (λ o. n (subst Odd (sym p-is) o))) refl }
+    pub not_odd : (Odd p → ⊥) → PrimeIs s (Err RPrime)
+    not_odd n = by_tests (odd_no (word64 s 6) (λ o. n (subst Odd (sym p-is) o))) refl
 
     module _ (odd : Odd p) where
       here : is_odd_number (word64 s 6) ≡ true
       here = odd_yes (word64 s 6) (subst Odd p-is odd)
 
-      eighteen : is_witnessed (word64 s 6) (base_of s) (primes_of s) ≡ false → PrimeRefused s 18
-      eighteen e = record { some = λ z. omega arith; is = by_tests here e }
+      eighteen : is_witnessed (word64 s 6) (base_of s) (primes_of s) ≡ false → PrimeIs s (Err Witness)
+      eighteen e = by_tests here e
 
-      pub no_base : (a : ℕ) → a ≡ base_of s → a < 1 → PrimeRefused s 18
+      pub no_base : (a : ℕ) → a ≡ base_of s → a < 1 → PrimeIs s (Err Witness)
       no_base a e z = eighteen (base_no (word64 s 6) (base_of s) (primes_of s) (subst (λ (x : ℕ). x < 1) e z))
 
       module _ (a : ℕ) (a_is : a ≡ base_of s) (l : List ℕ) (l-is : l ≡ primes_of s) where
@@ -117,12 +121,11 @@ module _ (s : List ℕ) (h : Headed s) where
         back : Witnessed (word64 s 6) (base_of s) (primes_of s) → Witnessed p a l
         back w = subst (λ (x : ℕ). Witnessed x a l) (sym p-is) (subst (λ (x : ℕ). Witnessed (word64 s 6) x l) (sym a_is) (subst (Witnessed (word64 s 6) (base_of s)) (sym l-is) w))
 
-        pub no_witness : (Witnessed p a l → ⊥) → PrimeRefused s 18
+        pub no_witness : (Witnessed p a l → ⊥) → PrimeIs s (Err Witness)
         no_witness n = eighteen (witness_no (word64 s 6) (base_of s) (primes_of s) (λ w. n (back w)))
 
-        pub witness_taken : (a < 1 → ⊥) → Witnessed p a l → (m : Modulus) → OfNumber p m → PrimeTaken s m
+        pub witness_taken : (a < 1 → ⊥) → Witnessed p a l → (m : PrimeModulus) → OfNumber p m.m → PrimeTaken s m
         witness_taken n w m k = record {
-          good = record { ring = k.ring; prime = subst Prime (sym k.is) (witnessed-prime p a l odd w) };
           is = k.is ∙ p-is;
           goes_on = by_tests here (witness_yes (word64 s 6) (base_of s) (primes_of s) (subst (λ (x : ℕ). 1 ≤ x) a_is (omega (arith, n))) (as_read w));
         }

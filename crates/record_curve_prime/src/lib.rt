@@ -10,23 +10,14 @@ ghost use Rattle.record_curve_head.specs.Heads.{Headed};
 ghost use Rattle.record_curve_prime.specs.Primes.{PrimeIs};
 
 use curve::Curve;
-use field::{Modulus, ModulusRead};
-use refusals::MOST_WITNESS;
+use field::{Modulus, PrimeModulus};
+use refusals::{MOST_WITNESS, Refusal};
 
-#[derive(Clone, Copy)]
-pub enum PrimeRead {
-    Modulo(Modulus),
-    Refused(u64),
-}
-
-fn by_trial(s: &[u8]) -> PrimeRead
+fn by_trial(s: &[u8]) -> Result<PrimeModulus, Refusal>
     requires { Headed s.now × (version_of s.now ≡ 1) }
     ensures { PrimeIs s.now result }
 {
-    match Modulus::read(record_bytes::read64(s, Curve::PRIME_AT)) {
-        ModulusRead::Modulo(m) => PrimeRead::Modulo(m),
-        ModulusRead::NoPrime => PrimeRead::Refused(refusals::PRIME),
-    }
+    Modulus::read(record_bytes::read64(s, Curve::PRIME_AT)).ok_or(Refusal::Prime)
 }
 
 // What p may be in version 2.
@@ -51,36 +42,34 @@ fn listed(s: &[u8], a: usize, k: usize) -> [u64; MOST_WITNESS]
     ensures { take k result ≡ words s.now a k }
 {
     let mut q: [u64; MOST_WITNESS] = [0; MOST_WITNESS];
-    let mut i: usize = 0;
-    while i < k {
+    for i in 0..k {
         q[i] = record_bytes::read64(s, a + 8 * i);
-        i += 1;
     }
     q
 }
 
-fn by_witness(s: &[u8]) -> PrimeRead
+fn by_witness(s: &[u8]) -> Result<PrimeModulus, Refusal>
     requires { Headed s.now × (version_of s.now ≡ 1 → ⊥) }
     ensures { PrimeIs s.now result }
 {
     let p = record_bytes::read64(s, Curve::PRIME_AT);
     if !is_odd_number(p) {
-        return PrimeRead::Refused(refusals::PRIME);
+        return Err(Refusal::Prime);
     }
     let g = record_bytes::wide(s[Curve::GENUS_AT]) as usize;
     let k = record_bytes::wide(s[30 + 16 * g]) as usize;
     let a = record_bytes::read64(s, 22 + 16 * g);
     if a < 1 {
-        return PrimeRead::Refused(refusals::WITNESS);
+        return Err(Refusal::Witness);
     }
     let q = listed(s, 31 + 16 * g, k);
-    if !field_witness::accepts(p, a, q, k) {
-        return PrimeRead::Refused(refusals::WITNESS);
+    if !field_witness::accepts(p, a, &q[..k]) {
+        return Err(Refusal::Witness);
     }
-    PrimeRead::Modulo(Modulus::of(p))
+    Ok(PrimeModulus { m: Modulus::of(p) })
 }
 
-pub fn read_prime(s: &[u8]) -> PrimeRead
+pub fn read_prime(s: &[u8]) -> Result<PrimeModulus, Refusal>
     requires { Headed s.now }
     ensures { PrimeIs s.now result }
 {

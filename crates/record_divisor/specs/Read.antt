@@ -1,14 +1,15 @@
 -- What the functions that read a divisor record promise: an answer of code is the rule's answer on the same bytes. Places are left open: a
 -- divisor that is refused is so at whatever place k it stands.
-use Rattle.std.specs.Prelude.{ℕ, ◌≡◌, Bool, List}
+use Rattle.std.specs.Prelude.{ℕ, ◌≡◌, Bool, Result, Ok, Err, List}
+use Rattle.refusals.specs.declared.Refusal.{Refusal}
+use Rattle.refusals.specs.Refusal.{number_of}
 use Rattle.rules.specs.Records.{refused, taken, divisor_at}
 use Rattle.divisor.specs.Divisors.{pair}
+use Rattle.divisor.specs.declared.Divisor.{Divisor}
 use Rattle.curve.specs.declared.Curve.{Curve}
 use Rattle.curve.specs.Curves.{Holds}
 use Rattle.curve.specs.Record.{record_of}
-use Rattle.record_divisor.specs.declared.DivisorRead.{DivisorRead}
-use Rattle.record_divisor.specs.declared.DivisorRead.TheVariants.{Taken, Refused}
 
-abbrev pub DivisorIs : Curve → Bool → List ℕ → ℕ → DivisorRead → Type 0
-DivisorIs c whole s a (Taken d) = Holds c d × ((k : ℕ) → divisor_at (record_of c) k whole s a ≡ taken (pair c.m d))
-DivisorIs c whole s a (Refused n) = (k : ℕ) → divisor_at (record_of c) k whole s a ≡ refused n k
+abbrev pub DivisorIs : Curve → Bool → List ℕ → ℕ → Result Divisor Refusal → Type 0
+DivisorIs c whole s a (Ok d) = Holds c d × ((k : ℕ) → divisor_at (record_of c) k whole s a ≡ taken (pair c.prime.m d))
+DivisorIs c whole s a (Err by) = (k : ℕ) → divisor_at (record_of c) k whole s a ≡ refused (number_of by) k

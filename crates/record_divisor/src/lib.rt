@@ -3,17 +3,11 @@
 
 ghost use Rattle.std.specs.Prelude.{◌≡◌, ◌+◌, ◌*◌, ◌≤◌, length};
 ghost use Rattle.rules.specs.Records.{fits};
-ghost use Rattle.curve.specs.Curves.{Sound};
 ghost use Rattle.record_divisor.specs.Read.{DivisorIs};
 
 use curve::Curve;
 use divisor::Divisor;
-
-#[derive(Clone, Copy)]
-pub enum DivisorRead {
-    Taken(Divisor),
-    Refused(u64),
-}
+use refusals::Refusal;
 
 // Whether a record that ends at `end` fits: exactly, where it is the whole.
 fn record_fits(whole: bool, end: usize, all: usize) -> bool
@@ -26,29 +20,27 @@ fn record_fits(whole: bool, end: usize, all: usize) -> bool
 }
 
 // The divisor record at a. Its place in a list is the caller's to say.
-pub fn divisor_at(c: Curve, whole: bool, s: &[u8], a: usize) -> DivisorRead
-    requires { Sound c × (a ≤ length s.now) }
+pub fn divisor_at(c: Curve, whole: bool, s: &[u8], a: usize) -> Result<Divisor, Refusal>
+    requires { a ≤ length s.now }
     ensures { DivisorIs c whole s.now a result }
 {
     if s.len() <= a {
-        return DivisorRead::Refused(refusals::DIVISOR_LENGTH); // empty
+        return Err(Refusal::DivisorLength); // empty
     }
     let w = record_bytes::wide(s[a]) as usize;
     let g = c.g;
     if g < w {
-        return DivisorRead::Refused(refusals::WEIGHT);
+        return Err(Refusal::Weight);
     }
     if !record_fits(whole, a + 1 + 16 * w, s.len()) {
-        return DivisorRead::Refused(refusals::DIVISOR_LENGTH);
+        return Err(Refusal::DivisorLength);
     }
-    let x = record_numbers::residues_at(s, a + 1, 2 * w, c.m);
-    let r = x.r;
-    if !x.below {
-        return DivisorRead::Refused(refusals::DIVISOR_COEFFICIENT);
-    }
+    let r = record_numbers::residues_at(s, a + 1, 2 * w, c.prime.m).ok_or(
+        Refusal::DivisorCoefficient,
+    )?;
     let d = Divisor::of_row(w, r);
     if !c.contains(d) {
-        return DivisorRead::Refused(refusals::NOT_ON_CURVE);
+        return Err(Refusal::NotOnCurve);
     }
-    DivisorRead::Taken(d)
+    Ok(d)
 }

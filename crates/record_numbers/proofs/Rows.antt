@@ -2,7 +2,7 @@
 use Prim.Native.Nat.{ℕ, zero, suc, ◌+◌, ◌*◌, ◌≤◌, ◌<◌}
 use mathlib.Core.Path.{◌≡◌, refl, sym, ap₂, ◌∙◌, subst}
 use mathlib.Core.List.{List, [], ◌∷◌}
-use mathlib.Core.Bool.{true, false, false≢true}
+use Rattle.std.specs.Prelude.{Some, None}
 use native.Mathlib.Omega.{arith}
 use borrow.Author.Count.{below_more}
 use native.Mathlib.Decide.{ℕ_discrete}
@@ -27,29 +27,11 @@ pub record Filled (s : List ℕ) (a n : ℕ) (m : Modulus) (r : List Residue) (k
   pub held : (j : ℕ) → j < k → (z : Residue) → Settles m (get_or r j z) (emb m.p (word64 s (a + 8 * j)))
 
 module _ (s : List ℕ) (a n : ℕ) (m : Modulus) where
-  pub fill_begin : (x : Residue) → Settled m x → Filled s a n m (replicate 6 x) 0
-  fill_begin x h = record { within = omega arith; long = refl; settled = λ j i z. subst (Settled m) (sym (get_or-replicate 6 j x z i)) h; below = λ j i. absurd (omega arith); held = λ j i. absurd (omega arith) }
+  pub fill_stop : (r : List Residue) (k : ℕ) → Filled s a n m r k → k < n → m.p ≤ word64 s (a + 8 * k) → ResiduesIs s a n m None
+  fill_stop r k h l v = one_above s m.p a n k l v
 
-  pub fill_turn : (r : List Residue) (k : ℕ) (x : Residue) → n ≤ 6 → Filled s a n m r k → k < n → (word64 s (a + 8 * k) < m.p) × Settles m x (emb m.p (word64 s (a + 8 * k))) → Filled s a n m (set r k x) (k + 1)
-  fill_turn r k x room h l v = record {
-    within = omega arith;
-    long = length-set r k x ∙ h.long;
-    settled = λ j i z. set_settled (ℕ_discrete j k) i z;
-    below = below_more (λ j. word64 s (a + 8 * j) < m.p) k h.below v.0;
-    held = below_more (λ j. (z : Residue) → Settles m (get_or (set r k x) j z) (emb m.p (word64 s (a + 8 * j)))) k
-        (λ j i z. subst (λ t. Settles m t (emb m.p (word64 s (a + 8 * j)))) (sym (get_or-set_other r k j x z (λ e. omega arith))) (h.held j i z))
-        (λ z. subst (λ t. Settles m t (emb m.p (word64 s (a + 8 * k)))) (sym (get_or-set_same r k x z (omega (arith, h.long)))) v.1);
-  }
-    where
-      set_settled : {j : ℕ} → Dec (j ≡ k) → j < 6 → (z : Residue) → Settled m (get_or (set r k x) j z)
-      set_settled {j} (yes e) i z = subst (λ (t : ℕ). Settled m (get_or (set r k x) t z)) (sym e) (subst (Settled m) (sym (get_or-set_same r k x z (omega (arith, h.long)))) v.1.settled)
-      set_settled {j} (no e) i z = subst (Settled m) (sym (get_or-set_other r k j x z e)) (h.settled j i z)
-
-  pub fill_stop : (r : List Residue) (k : ℕ) → Filled s a n m r k → k < n → m.p ≤ word64 s (a + 8 * k) → ResiduesIs s a n m (record { below = false; r = r })
-  fill_stop r k h l v = record { long = h.long; settled = λ j z i. h.settled j i z; below = sym (one_above s m.p a n k l v); held = λ e. absurd (false≢true e) }
-
-  pub fill_end : (r : List Residue) (k : ℕ) → Filled s a n m r k → n ≤ k → ResiduesIs s a n m (record { below = true; r = r })
-  fill_end r k h l = record { long = h.long; settled = λ j z i. h.settled j i z; below = sym (all_below s m.p a n (λ j i. h.below j (omega arith))); held = λ e j z i. h.held j (omega arith) z }
+  pub fill_end : (r : List Residue) (k : ℕ) → Filled s a n m r k → n ≤ k → ResiduesIs s a n m (Some r)
+  fill_end r k h l = record { long = h.long; settled = λ j z i. h.settled j i z; below = all_below s m.p a n (λ j i. h.below j (omega arith)); held = λ j z i. h.held j (omega arith) z }
 
 -- ---- residues that hold numbers in a row
 module _ (m : Modulus) (s : List ℕ) where

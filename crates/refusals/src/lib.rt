@@ -1,59 +1,71 @@
-// The numbers that refuse, by name, in document 01's order, and its limits: the one place where code has them.
+// What refuses, in the paper's order, with its number; and the limits: the one place where code has them.
 #![tactic(auto)]
 
-pub const CURVE_LENGTH: u64 = 1;
+ghost use Rattle.std.specs.Prelude.{◌≡◌};
+ghost use Rattle.refusals.specs.Refusal.{number_of};
 
-pub const MARK: u64 = 2;
+#[derive(Clone, Copy, Debug, PartialEq, Eq)]
+pub enum Refusal {
+    CurveLength = 1,
+    Mark = 2,
+    Version = 3,
+    Genus = 4,
+    Prime = 5,
+    CurveCoefficient = 6,
+    RepeatedFactor = 7,
+    DivisorLength = 8,
+    Weight = 9,
+    DivisorCoefficient = 10,
+    NotOnCurve = 11,
+    ScalarLength = 12,
+    OutputLength = 13,
+    Full = 14,
+    RunningTotal = 15,
+    FileLength = 16,
+    Unreadable = 17,
+    Witness = 18,
+    EmptyKey = 19,
+    OtherPole = 20,
+    PoleFileMark = 21,
+    PoleFileVersion = 22,
+    PoleFileLength = 23,
+    Last = 24,
+    NotForTraining = 25,
+    NoRoot = 26,
+    Order = 27,
+}
 
-pub const VERSION: u64 = 3;
+// A refusal, and the place of the record that is refused: 0 where that is the curve, the output or none.
+#[derive(Clone, Copy, Debug, PartialEq, Eq)]
+pub struct Refused {
+    pub by: Refusal,
+    pub place: u64,
+}
 
-pub const GENUS: u64 = 4;
+impl Refusal {
+    pub fn at(self, place: u64) -> Refused
+        ensures { result ≡ record { by = self; place = place } }
+    {
+        Refused { by: self, place }
+    }
+}
 
-pub const PRIME: u64 = 5;
+impl From<Refusal> for u64 {
+    ghost from_gives = { λ by n. n ≡ number_of by };
 
-pub const CURVE_COEFFICIENT: u64 = 6;
+    fn from(by: Refusal) -> u64 {
+        by as u64
+    }
+}
 
-pub const REPEATED_FACTOR: u64 = 7;
+// What is refused at no place of its own.
+impl From<Refusal> for Refused {
+    ghost from_gives = { λ by r. r ≡ record { by = by; place = 0 } };
 
-pub const DIVISOR_LENGTH: u64 = 8;
-
-pub const WEIGHT: u64 = 9;
-
-pub const DIVISOR_COEFFICIENT: u64 = 10;
-
-pub const NOT_ON_CURVE: u64 = 11;
-
-pub const SCALAR_LENGTH: u64 = 12;
-
-pub const OUTPUT_LENGTH: u64 = 13;
-
-pub const FULL: u64 = 14;
-
-pub const RUNNING_TOTAL: u64 = 15;
-
-pub const FILE_LENGTH: u64 = 16;
-
-pub const UNREADABLE: u64 = 17;
-
-pub const WITNESS: u64 = 18;
-
-pub const EMPTY_KEY: u64 = 19;
-
-pub const OTHER_POLE: u64 = 20;
-
-pub const POLE_FILE_MARK: u64 = 21;
-
-pub const POLE_FILE_VERSION: u64 = 22;
-
-pub const POLE_FILE_LENGTH: u64 = 23;
-
-pub const LAST: u64 = 24;
-
-pub const NOT_FOR_TRAINING: u64 = 25;
-
-pub const NO_ROOT: u64 = 26;
-
-pub const ORDER: u64 = 27;
+    fn from(by: Refusal) -> Refused {
+        by.at(0)
+    }
+}
 
 // The most records of a batch or of a running total, as a length and as a count.
 pub const MOST: usize = 4096;

@@ -166,30 +166,31 @@ module _ (n k carry size found : ℕ) (h : Counting n k carry size found) (below
       go (inl z) = top_whole.none (omega (arith, z)) ∙ sym (ap (λ (m : ℕ). length (recode m)) z ∙ ap length recode-zero)
       go (inr p) = sym (recode-places n size p (top_whole.low (omega arith)) top_whole.high)
 
--- ---- of a scalar, with i bytes still to be read
+-- ---- of a scalar, the lowest j bytes read
 module _ (s : List ℕ) where
-  pub record Reading (carry size found i : ℕ) : Type 0 where
-    pub place : i ≤ length s
-    pub counting : Counting (number s) ((length s - i) * 8) carry size found
+  pub record Reading (carry size found j : ℕ) : Type 0 where
+    pub place : j ≤ length s
+    pub counting : Counting (number s) (j * 8) carry size found
 
-  pub reading_begins : Reading 0 0 0 (length s)
-  reading_begins = record { place = omega arith; counting = subst (λ (k : ℕ). Counting (number s) k 0 0 0) {x = 0} {y = (length s - length s) * 8} (omega arith) (begin (number s)) }
+  pub reading_begins : Reading 0 0 0 0
+  reading_begins = record { place = omega arith; counting = begin (number s) }
 
-  module _ (bytes : AreBytes s) (carry size found i : ℕ) (h : Reading carry size found i) where
-    pub reading_turns : 0 < i → (r : ℕ) → Risen size (8 * (length s - i)) (3 * get_or s (i - 1) 0 + carry) r
-        → Reading ((3 * get_or s (i - 1) 0 + carry) / 256) r (found + ones (bit_xor ((3 * get_or s (i - 1) 0 + carry) % 256) (get_or s (i - 1) 0))) (i - 1)
-    reading_turns p r g =
-        let b : ℕ = get_or s (i - 1) 0 in
-        let k : ℕ = (length s - i) * 8 in
-        let eb : b ≡ number s / 2 ^ k % 256 = byte_is s bytes (length s - i) (i - 1) (omega (arith, h.place)) in
-        let g' : Risen size k (3 * b + carry) r = subst (λ (j : ℕ). Risen size j (3 * b + carry) r) {x = 8 * (length s - i)} {y = k} (omega arith) g in
+  module _ (bytes : AreBytes s) (carry size found j : ℕ) (h : Reading carry size found j) where
+    abbrev b : ℕ
+    b = get_or s (length s - 1 - j) 0
+
+    pub reading_turns : j < length s → (r : ℕ) → Risen size (8 * j) (3 * b + carry) r → Reading ((3 * b + carry) / 256) r (found + ones (bit_xor ((3 * b + carry) % 256) b)) (j + 1)
+    reading_turns l r g =
+        let k : ℕ = j * 8 in
+        let eb : b ≡ number s / 2 ^ k % 256 = byte_is s bytes j (length s - 1 - j) (omega arith) in
+        let g' : Risen size k (3 * b + carry) r = subst (λ (i : ℕ). Risen size i (3 * b + carry) r) {x = 8 * j} {y = k} (omega arith) g in
         record {
-          place = omega (arith, h.place);
-          counting = subst (λ (j : ℕ). Counting (number s) j ((3 * b + carry) / 256) r (found + ones (bit_xor ((3 * b + carry) % 256) b))) {x = 8 + k} {y = (length s - (i - 1)) * 8} (omega (arith, h.place))
+          place = omega arith;
+          counting = subst (λ (i : ℕ). Counting (number s) i ((3 * b + carry) / 256) r (found + ones (bit_xor ((3 * b + carry) % 256) b))) {x = 8 + k} {y = (j + 1) * 8} (omega arith)
               (turn (number s) k carry size found h.counting b eb r g');
         }
 
-    pub reading_ends : i ≤ 0 → (size ≡ length (recode (number s))) × (found + ones carry ≡ nonzeros (recode (number s)))
-    reading_ends z =
-        let below' : number s < 2 ^ ((length s - i) * 8) = subst (λ (k : ℕ). number s < 2 ^ k) {x = length s * 8} {y = (length s - i) * 8} (omega arith) (below s bytes) in
-        (ends_length (number s) ((length s - i) * 8) carry size found h.counting below', ends_ones (number s) ((length s - i) * 8) carry size found h.counting below')
+    pub reading_ends : length s ≤ j → (size ≡ length (recode (number s))) × (found + ones carry ≡ nonzeros (recode (number s)))
+    reading_ends l =
+        let below' : number s < 2 ^ (j * 8) = subst (λ (k : ℕ). number s < 2 ^ k) {x = length s * 8} {y = j * 8} (omega (arith, h.place)) (below s bytes) in
+        (ends_length (number s) (j * 8) carry size found h.counting below', ends_ones (number s) (j * 8) carry size found h.counting below')

@@ -14,7 +14,7 @@ pub const MINUS: u8 = 0;
 pub const NULL: u8 = 1;
 
 // The signed digits of a scalar of up to 32 bytes, the lowest first, each kept as the number one above it; how many there are, and how many of them are nonzero.
-#[derive(Clone, Copy)]
+#[derive(Clone, Copy, Debug, PartialEq, Eq)]
 pub struct Digits {
     pub at: [u8; 257],
     pub length: usize,
@@ -41,11 +41,11 @@ fn risen(old: usize, k: usize, t: u16) -> usize
     if t == 0 {
         return old;
     }
-    k + (15 - u16::leading_zeros(t)) as usize
+    k + (15 - t.leading_zeros()) as usize
 }
 
 // How many digits the non-adjacent form of a scalar has, and how many of them are nonzero: it has as many as stand below the highest one of 3n, and the nonzero ones are the ones of 3n xor n.
-#[derive(Clone, Copy)]
+#[derive(Clone, Copy, Debug, PartialEq, Eq)]
 struct Counts {
     length: usize,
     nonzeros: u64,
@@ -59,18 +59,16 @@ impl Counts {
         let mut carry: u16 = 0;
         let mut length: usize = 0;
         let mut nonzeros: u64 = 0;
-        let mut i = s.len();
-        while i > 0 {
-            let b = s[i - 1] as u16;
+        for j in 0..s.len() {
+            let b = s[s.len() - 1 - j] as u16;
             let t = 3 * b + carry;
-            length = risen(length, 8 * (s.len() - i), t);
-            nonzeros += u16::count_ones((t % 256) ^ b) as u64;
+            length = risen(length, 8 * j, t);
+            nonzeros += ((t % 256) ^ b).count_ones() as u64;
             carry = t / 256;
-            i -= 1;
         }
         Counts {
-            length: length,
-            nonzeros: nonzeros + u16::count_ones(carry) as u64,
+            length,
+            nonzeros: nonzeros + carry.count_ones() as u64,
         }
     }
 }
@@ -86,16 +84,14 @@ impl Digits {
         let end = 8 * s.len() + 1;
         let mut next = bit(s, 0);
         let mut carry: u8 = 0;
-        let mut k: usize = 0;
-        while k < end {
+        for k in 0..end {
             let t = next + carry;
             next = bit(s, k + 1);
             carry = (t + next) / 2;
             at[k] = t + 1 - 2 * carry;
-            k += 1;
         }
         Digits {
-            at: at,
+            at,
             length: counts.length,
             nonzeros: counts.nonzeros,
         }

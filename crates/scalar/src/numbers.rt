@@ -8,7 +8,7 @@ ghost use Rattle.scalar.specs.numbers.Numbers.{Capped, DividedBy};
 
 use refusals::MOST_SCALAR;
 
-#[derive(Clone, Copy)]
+#[derive(Clone, Copy, Debug, PartialEq, Eq)]
 pub struct Divided {
     pub quotient: [u8; MOST_SCALAR],
     pub remainder: u64,
@@ -21,28 +21,24 @@ pub fn from_bytes(s: &[u8]) -> [u8; MOST_SCALAR]
 {
     let mut n: [u8; MOST_SCALAR] = [0; MOST_SCALAR];
     let from = MOST_SCALAR - s.len();
-    let mut k: usize = 0;
-    while k < s.len() {
+    for k in 0..s.len() {
         n[from + k] = s[k];
-        k += 1;
     }
     n
 }
 
-// n where it is below 256, else 256.
-pub fn capped(n: [u8; MOST_SCALAR]) -> u64
+// n where it is below 256.
+pub fn capped(n: [u8; MOST_SCALAR]) -> Option<u64>
     ensures { Capped (number n) result }
 {
     let mut t: u64 = 0;
-    let mut k: usize = 0;
-    while k < MOST_SCALAR {
+    for k in 0..MOST_SCALAR {
         if t != 0 {
-            return 256;
+            return None;
         }
         t = record_bytes::wide(n[k]);
-        k += 1;
     }
-    t
+    Some(t)
 }
 
 // From the highest byte to the lowest: what is left of those above goes on into the next.
@@ -52,15 +48,13 @@ pub fn divide(n: [u8; MOST_SCALAR], q: u64) -> Divided
 {
     let mut quotient: [u8; MOST_SCALAR] = [0; MOST_SCALAR];
     let mut left: u64 = 0;
-    let mut k: usize = 0;
-    while k < MOST_SCALAR {
+    for k in 0..MOST_SCALAR {
         let t = left * 256 + record_bytes::wide(n[k]);
         quotient[k] = (t / q) as u8;
         left = t % q;
-        k += 1;
     }
     Divided {
-        quotient: quotient,
+        quotient,
         remainder: left,
     }
 }
@@ -71,6 +65,7 @@ fn without(n: [u8; MOST_SCALAR], q: u64) -> [u8; MOST_SCALAR]
     ensures { Stripped (number n) q (number result) }
 {
     let mut k = n;
+    // No range: how often q goes is what is looked for.
     loop {
         let d = divide(k, q);
         if d.remainder != 0 {
@@ -85,11 +80,9 @@ pub fn is_made_of(n: [u8; MOST_SCALAR], primes: &[u8]) -> bool
     requires { 0 < number n }
     ensures { Decides result (MadeOf (number n) (listed primes.now)) }
 {
-    let k = primes.len() / 4;
     let mut left = n;
     let mut last: u64 = 0;
-    let mut i: usize = 0;
-    while i < k {
+    for i in 0..primes.len() / 4 {
         let x = record_bytes::read32(primes, 4 * i);
         if x <= last {
             return false;
@@ -101,11 +94,10 @@ pub fn is_made_of(n: [u8; MOST_SCALAR], primes: &[u8]) -> bool
         if d.remainder != 0 {
             return false;
         }
+        // An array that a call answers takes a place of its own before it takes the place of one that the loop carries.
         let rest = without(left, x);
         left = rest;
         last = x;
-        i += 1;
     }
-    let low = capped(left);
-    low == 1
+    capped(left) == Some(1)
 }

@@ -12,7 +12,7 @@ use field::Residue;
 use scan_total::Running;
 
 #[repr(C)]
-#[derive(Clone, Copy)]
+#[derive(Clone, Copy, Debug, PartialEq, Eq)]
 pub struct YubiRunning {
     pub weight: u64,
     pub u0: u64,
@@ -26,7 +26,7 @@ pub struct YubiRunning {
 }
 
 #[repr(C)]
-#[derive(Clone, Copy)]
+#[derive(Clone, Copy, Debug, PartialEq, Eq)]
 pub struct YubiScanned {
     pub number: u64,
     pub place: u64,
@@ -34,50 +34,12 @@ pub struct YubiScanned {
     pub total: YubiRunning,
 }
 
-// The divisor of the coefficients below the weight.
-pub fn divisor_of(t: YubiRunning) -> Divisor
-    ensures { Cut t result }
-{
-    let w = t.weight;
-    let u0 = Residue::from_raw(t.u0);
-    let v0 = Residue::from_raw(t.v0);
-    if w == 0 {
-        return Divisor::neutral();
-    }
-    if w == 1 {
-        return Divisor::One(Linear { u0: u0, v0: v0 });
-    }
-    let u1 = Residue::from_raw(t.u1);
-    let v1 = Residue::from_raw(t.v1);
-    if w == 2 {
-        return Divisor::Two(Quadratic {
-            u0: u0,
-            u1: u1,
-            v0: v0,
-            v1: v1,
-        });
-    }
-    let u2 = Residue::from_raw(t.u2);
-    let v2 = Residue::from_raw(t.v2);
-    Divisor::Three(Cubic {
-        u0: u0,
-        u1: u1,
-        u2: u2,
-        v0: v0,
-        v1: v1,
-        v2: v2,
-    })
-}
-
 // Unused coefficients are 0.
-pub fn flatten_running(t: Running) -> YubiRunning
-    ensures { result ≡ flat_running (total_of t.divisor t.count t.pole) }
-{
-    let count = t.count;
-    let pole = t.pole;
-    let divisor = t.divisor;
-    match divisor {
-        Divisor::Neutral => YubiRunning {
+impl From<Running> for YubiRunning {
+    ghost from_gives = { λ t r. r ≡ flat_running (total_of t.divisor t.count t.pole) };
+
+    fn from(t: Running) -> YubiRunning {
+        let neutral = YubiRunning {
             weight: 0,
             u0: 0,
             u1: 0,
@@ -85,42 +47,66 @@ pub fn flatten_running(t: Running) -> YubiRunning
             v0: 0,
             v1: 0,
             v2: 0,
-            count: count,
-            pole: pole,
-        },
-        Divisor::One(d) => YubiRunning {
-            weight: 1,
-            u0: d.u0.to_raw(),
-            u1: 0,
-            u2: 0,
-            v0: d.v0.to_raw(),
-            v1: 0,
-            v2: 0,
-            count: count,
-            pole: pole,
-        },
-        Divisor::Two(d) => YubiRunning {
-            weight: 2,
-            u0: d.u0.to_raw(),
-            u1: d.u1.to_raw(),
-            u2: 0,
-            v0: d.v0.to_raw(),
-            v1: d.v1.to_raw(),
-            v2: 0,
-            count: count,
-            pole: pole,
-        },
-        Divisor::Three(d) => YubiRunning {
-            weight: 3,
-            u0: d.u0.to_raw(),
-            u1: d.u1.to_raw(),
-            u2: d.u2.to_raw(),
-            v0: d.v0.to_raw(),
-            v1: d.v1.to_raw(),
-            v2: d.v2.to_raw(),
-            count: count,
-            pole: pole,
-        },
+            count: t.count,
+            pole: t.pole,
+        };
+        match t.divisor {
+            Divisor::Neutral => neutral,
+            Divisor::One(d) => YubiRunning {
+                weight: 1,
+                u0: d.u0.to_raw(),
+                v0: d.v0.to_raw(),
+                ..neutral
+            },
+            Divisor::Two(d) => YubiRunning {
+                weight: 2,
+                u0: d.u0.to_raw(),
+                u1: d.u1.to_raw(),
+                v0: d.v0.to_raw(),
+                v1: d.v1.to_raw(),
+                ..neutral
+            },
+            Divisor::Three(d) => YubiRunning {
+                weight: 3,
+                u0: d.u0.to_raw(),
+                u1: d.u1.to_raw(),
+                u2: d.u2.to_raw(),
+                v0: d.v0.to_raw(),
+                v1: d.v1.to_raw(),
+                v2: d.v2.to_raw(),
+                ..neutral
+            },
+        }
+    }
+}
+
+// The same as a function, for callers that name it.
+pub fn flatten_running(t: Running) -> YubiRunning
+    ensures { result ≡ flat_running (total_of t.divisor t.count t.pole) }
+{
+    YubiRunning::from(t)
+}
+
+// The divisor of the coefficients below the weight.
+pub fn divisor_of(t: YubiRunning) -> Divisor
+    ensures { Cut t result }
+{
+    let u0 = Residue::from_raw(t.u0);
+    let v0 = Residue::from_raw(t.v0);
+    let u1 = Residue::from_raw(t.u1);
+    let v1 = Residue::from_raw(t.v1);
+    match t.weight {
+        0 => Divisor::Neutral,
+        1 => Divisor::One(Linear { u0, v0 }),
+        2 => Divisor::Two(Quadratic { u0, u1, v0, v1 }),
+        _ => Divisor::Three(Cubic {
+            u0,
+            u1,
+            u2: Residue::from_raw(t.u2),
+            v0,
+            v1,
+            v2: Residue::from_raw(t.v2),
+        }),
     }
 }
 
@@ -128,36 +114,11 @@ pub fn flatten_running(t: Running) -> YubiRunning
 pub fn is_flat(t: YubiRunning) -> bool
     ensures { Decides result (Flattened t) }
 {
-    let w = t.weight;
-    if 3 < w {
-        return false;
+    match t.weight {
+        0 => t.u0 == 0 && t.u1 == 0 && t.u2 == 0 && t.v0 == 0 && t.v1 == 0 && t.v2 == 0,
+        1 => t.u1 == 0 && t.u2 == 0 && t.v1 == 0 && t.v2 == 0,
+        2 => t.u2 == 0 && t.v2 == 0,
+        3 => true,
+        _ => false,
     }
-    if w == 3 {
-        return true;
-    }
-    if t.u2 != 0 {
-        return false;
-    }
-    if t.v2 != 0 {
-        return false;
-    }
-    if w == 2 {
-        return true;
-    }
-    if t.u1 != 0 {
-        return false;
-    }
-    if t.v1 != 0 {
-        return false;
-    }
-    if w == 1 {
-        return true;
-    }
-    if t.u0 != 0 {
-        return false;
-    }
-    if t.v0 != 0 {
-        return false;
-    }
-    true
 }

@@ -1,45 +1,33 @@
 // The running total, lent to the scan and changed in place. The work is by value, in `scan_by_value`; the function over a `&mut` only stores what it gave.
 ghost use Rattle.scan_record.specs.lent.Lent.{ScanIs};
 
-use crate::ScanAnswer;
+use refusals::Refused;
 use scan_total::Running;
 
 // A scan writes no output: its length is always 0.
 #[derive(Clone, Copy)]
-pub struct Report {
-    pub number: u64,
-    pub place: u64,
-}
-
-#[derive(Clone, Copy)]
 pub struct Step {
     pub total: Running,
-    pub report: Report,
+    pub report: Result<(), Refused>,
 }
 
 pub fn scan_by_value(t: Running, curve: &[u8], record: &[u8]) -> Step
     ensures { ScanIs t curve.now «record».now result.report result.total }
 {
     match crate::scan(t, curve, record) {
-        ScanAnswer::Done(x) => Step {
+        Ok(x) => Step {
             total: x,
-            report: Report {
-                number: 0,
-                place: 0,
-            },
+            report: Ok(()),
         },
-        ScanAnswer::Refused(n, k) => Step {
+        Err(r) => Step {
             total: t,
-            report: Report {
-                number: n,
-                place: k,
-            },
+            report: Err(r),
         },
     }
 }
 
 // In place, whatever total it was lent.
-pub fn scan(total: &mut Running, curve: &[u8], record: &[u8]) -> Report
+pub fn scan(total: &mut Running, curve: &[u8], record: &[u8]) -> Result<(), Refused>
     ensures { ScanIs total.old curve.now «record».now result total.new }
 {
     let s = scan_by_value(*total, curve, record);
@@ -53,8 +41,5 @@ pub fn scan_own(t: Running, curve: &[u8], record: &[u8]) -> Step
 {
     let mut total = t;
     let report = scan(&mut total, curve, record);
-    Step {
-        total: total,
-        report: report,
-    }
+    Step { total, report }
 }

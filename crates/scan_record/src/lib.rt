@@ -3,55 +3,36 @@
 
 ghost use Rattle.std.specs.Prelude.{◌≡◌};
 ghost use Rattle.rules.specs.Calls.{scan_call, scan_on};
-ghost use Rattle.curve.specs.Curves.{Sound};
 ghost use Rattle.curve.specs.Record.{record_of};
 ghost use Rattle.scan_record.specs.Scans.{running_of, scanned_of};
 
 use curve::Curve;
-use record_curve::CurveRead;
-use record_divisor::DivisorRead;
+use refusals::{Refusal, Refused};
 use scan_total::Running;
-use scan_total::resume::TakenUp;
 
 pub mod flat;
 pub mod lent;
 
-#[derive(Clone, Copy)]
-pub enum ScanAnswer {
-    Done(Running),
-    Refused(u64, u64),
-}
-
-// On a curve that was taken.
-pub fn scan_on(c: Curve, t: Running, record: &[u8]) -> ScanAnswer
-    requires { Sound c }
+// On a curve that was taken: the total after.
+pub fn scan_on(c: Curve, t: Running, record: &[u8]) -> Result<Running, Refused>
     ensures { scanned_of t result ≡ scan_on (record_of c) (running_of t) «record».now }
 {
-    let before = t.divisor;
-    let count = t.count;
-    match scan_total::resume::take_up(c, before, count) {
-        TakenUp::Taken(total) => {
-            if record.len() < 4 {
-                return ScanAnswer::Refused(refusals::DIVISOR_LENGTH, 1);
-            }
-            let pole = t.pole as u64;
-            if record_bytes::read32(record, 0) != pole {
-                return ScanAnswer::Refused(refusals::OTHER_POLE, 0);
-            }
-            match record_divisor::divisor_at(c, true, &record[4..], 0) {
-                DivisorRead::Taken(d) => ScanAnswer::Done(t.take(c, total, d)),
-                DivisorRead::Refused(n) => ScanAnswer::Refused(n, 1),
-            }
-        }
-        TakenUp::Refused(n) => ScanAnswer::Refused(n, 0),
+    let total = scan_total::resume::take_up(c, t.divisor, t.count)?;
+    if record.len() < 4 {
+        return Err(Refusal::DivisorLength.at(1));
     }
+    let pole = record_bytes::read32(record, 0);
+    let own = t.pole as u64;
+    if pole != own {
+        return Err(Refusal::OtherPole.at(0));
+    }
+    let d = call_answer::read_divisor(c, 1, &record[4..])?;
+    Ok(t.take(c, total, d))
 }
 
-pub fn scan(t: Running, curve: &[u8], record: &[u8]) -> ScanAnswer
+pub fn scan(t: Running, curve: &[u8], record: &[u8]) -> Result<Running, Refused>
     ensures { scanned_of t result ≡ scan_call (running_of t) curve.now «record».now }
 {
-    match record_curve::read_curve(curve) {
-        CurveRead::Taken(c) => scan_on(c, t, record),
-        CurveRead::Refused(n) => ScanAnswer::Refused(n, 0),
-    }
+    let c = record_curve::read_curve(curve)?;
+    scan_on(c, t, record)
 }

@@ -7,7 +7,7 @@ use Rattle.divisor.specs.declared.Divisor.{Divisor}
 use Rattle.divisor.specs.declared.Divisor.TheVariants.{Neutral}
 use Rattle.divisor.specs.Divisors.{us, vs, pair}
 use Rattle.curve.specs.declared.Curve.{Curve}
-use Rattle.curve.specs.Curves.{curve_of, Sound, Holds}
+use Rattle.curve.specs.Curves.{curve_of, Holds}
 use Rattle.scan_total.specs.declared.Running.{Running}
 
 pub record Fresh (pole : ℕ) (r : Running) : Type 0 where
@@ -17,14 +17,13 @@ pub record Fresh (pole : ℕ) (r : Running) : Type 0 where
 
 -- (the count has room for one more in 64 bits)
 pub record ToTake (c : Curve) (t : Running) (x d : Divisor) : Type 0 where
-  pub sound : Sound c
   pub total : Holds c x
   pub taken : Holds c d
   pub room : t.count < 18446744073709551615
 
 -- r holds the numbers of the sum
 pub record Taken (c : Curve) (t : Running) (x d : Divisor) (r : Running) : Type 0 where
-  pub u_is : map raw (us r.divisor) ≡ numbers c.m.p (sum (curve_of c) (pair c.m x) (pair c.m d)).u
-  pub v_is : map raw (vs r.divisor) ≡ numbers c.m.p (sum (curve_of c) (pair c.m x) (pair c.m d)).v
+  pub u_is : map raw (us r.divisor) ≡ numbers c.prime.m.p (sum (curve_of c) (pair c.prime.m x) (pair c.prime.m d)).u
+  pub v_is : map raw (vs r.divisor) ≡ numbers c.prime.m.p (sum (curve_of c) (pair c.prime.m x) (pair c.prime.m d)).v
   pub count_is : r.count ≡ t.count + 1
   pub pole_is : r.pole ≡ t.pole

@@ -23,7 +23,7 @@ impl Running {
         Running {
             divisor: Divisor::neutral(),
             count: 0,
-            pole: pole,
+            pole,
         }
     }
 
@@ -32,13 +32,10 @@ impl Running {
         requires { ToTake c self total d }
         ensures { Taken c self total d result }
     {
-        let n = self.count;
-        let pole = self.pole;
-        let m = c.m;
         Running {
-            divisor: numbers::numbers_of(jacobian::sum(c, total, d), m),
-            count: n + 1,
-            pole: pole,
+            divisor: numbers::numbers_of(jacobian::sum(c, total, d), c.prime.m),
+            count: self.count + 1,
+            pole: self.pole,
         }
     }
 }

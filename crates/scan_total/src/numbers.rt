@@ -2,23 +2,19 @@
 // modulus. Taken up again its numbers are read as residues; stored it has the numbers of its residues.
 ghost use Rattle.std.specs.Prelude.{◌≡◌};
 ghost use Rattle.algebra.proofs.Zmod.Zmod.{num, emb};
-ghost use Rattle.field.specs.Residues.{el, raw, Good, Settled, Settles, InRange};
+ghost use Rattle.field.specs.Residues.{el, raw, Settled, Settles};
 ghost use Rattle.divisor.specs.Divisors.{Held};
 ghost use Rattle.scan_total.specs.numbers.Plain.{AllIn, Resumed, Stored};
 
 use divisor::Divisor;
-use field::{Modulus, Residue, ResidueRead};
+use field::{Modulus, Residue};
 
 // A plain number, below p, as a residue; and back.
 fn to_residue(r: Residue, m: Modulus) -> Residue
-    requires { Good m × InRange m r }
+    requires { Settled m r }
     ensures { Settles m result (emb m.p (raw r)) }
 {
-    let read = Residue::read(r.to_raw(), m);
-    match read {
-        ResidueRead::Below(x) => x,
-        ResidueRead::TooLarge => r,
-    }
+    Residue::read(r.to_raw(), m).unwrap_or(r)
 }
 
 fn to_number(r: Residue, m: Modulus) -> Residue
@@ -29,16 +25,13 @@ fn to_number(r: Residue, m: Modulus) -> Residue
 }
 
 pub fn residues_of(d: Divisor, m: Modulus) -> Divisor
-    requires { Good m × AllIn m d }
+    requires { AllIn m d }
     ensures { Resumed m d result }
 {
     let w = d.weight();
-    let n = 2 * w;
     let mut r = d.row();
-    let mut k: usize = 0;
-    while k < n {
+    for k in 0..2 * w {
         r[k] = to_residue(r[k], m);
-        k += 1;
     }
     Divisor::of_row(w, r)
 }
@@ -48,12 +41,9 @@ pub fn numbers_of(d: Divisor, m: Modulus) -> Divisor
     ensures { Stored m d result }
 {
     let w = d.weight();
-    let n = 2 * w;
     let mut r = d.row();
-    let mut k: usize = 0;
-    while k < n {
+    for k in 0..2 * w {
         r[k] = to_number(r[k], m);
-        k += 1;
     }
     Divisor::of_row(w, r)
 }

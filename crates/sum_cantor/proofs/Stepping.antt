@@ -8,8 +8,8 @@ use Rattle.algebra.proofs.Ring.Quote.{ring, quote, by}
 use Rattle.algebra.proofs.Poly.Degree.{Degree}
 use Rattle.algebra.proofs.Poly.Term.{C, constants}
 use Rattle.algebra.proofs.Ideal.Step.{cofactor_ne}
+use Rattle.algebra.proofs.Zmod.Prime.{Prime}
 use Rattle.field.specs.declared.Modulus.{Modulus}
-use Rattle.field.specs.Residues.{Good}
 use Rattle.field.proofs.Laws.{residue_field}
 use Rattle.poly.specs.declared.Poly.{Poly}
 use Rattle.poly.specs.Polys.{K, P, pol, Is}
@@ -27,10 +27,7 @@ module _ (m : Modulus) where
   infixl 65 ◌+P◌
   infixl 70 ◌*P◌
   -- ---- one step
-  module _ (f : Poly) (x : Mumford) (h : ToStep m f x) (w : Poly) (hw : Cofactor m f x w) (u : Poly) (hu : MadeMonic m w u) where
-    good : Good m
-    good = h.to.ok_f.fill.good
-
+  module _ (good : Prime m.p) (f : Poly) (x : Mumford) (h : ToStep m f x) (w : Poly) (hw : Cofactor m f x w) (u : Poly) (hu : MadeMonic m w u) where
     f_degree : Degree (residue_field m good) (suc (h.g + h.g)) (pol m f)
     f_degree = subst (λ n. Degree (residue_field m good) n (pol m f)) {x = f.n - 1} {y = suc (h.g + h.g)} (omega (arith, h.odd)) (degree_of m good f h.to.ok_f (omega (arith, h.odd)))
 

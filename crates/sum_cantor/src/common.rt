@@ -1,7 +1,7 @@
 // The greatest common divisor that a composition takes out: of u1, u2 and v1 + v2, with its cofactors.
 ghost use Rattle.sum_cantor.specs.common.Common.{ToCommon, Common};
 
-use field::Modulus;
+use field::PrimeModulus;
 use poly::Poly;
 use poly_euclid::{xgcd, xgcd_right};
 
@@ -14,11 +14,12 @@ pub struct Bezout3 {
 }
 
 // The greatest common divisor of u1, u2 and v1 + v2. Where that of u1 and u2 is 1, v1 + v2 isn't looked at.
-pub fn gcd3(u1: Poly, u2: Poly, w: Poly, m: Modulus) -> Bezout3
-    requires { ToCommon m u1 u2 w }
-    ensures { Common m u1 u2 w result }
+pub fn gcd3(u1: Poly, u2: Poly, w: Poly, prime: PrimeModulus) -> Bezout3
+    requires { ToCommon prime.m u1 u2 w }
+    ensures { Common prime.m u1 u2 w result }
 {
-    let e = xgcd_right(u1, u2, m);
+    let m = prime.m;
+    let e = xgcd_right(u1, u2, prime);
     let first = e.r;
     let t = e.t;
     if first.n == 1 {
@@ -29,9 +30,9 @@ pub fn gcd3(u1: Poly, u2: Poly, w: Poly, m: Modulus) -> Bezout3
             s3: none,
         };
     }
-    let h = xgcd(first, w, m);
+    let h = xgcd(first, w, prime);
     let k = h.s;
-    let s2 = k.mul(t, m);
+    let s2 = k.mul(t, prime);
     let d = h.r;
     let s3 = h.t;
     Bezout3 {
@@ -42,11 +43,12 @@ pub fn gcd3(u1: Poly, u2: Poly, w: Poly, m: Modulus) -> Bezout3
 }
 
 // Where both pairs are one, u1 is u2 and two ways are enough.
-pub fn gcd3_twice(u: Poly, w: Poly, m: Modulus) -> Bezout3
-    requires { ToCommon m u u w }
-    ensures { Common m u u w result }
+pub fn gcd3_twice(u: Poly, w: Poly, prime: PrimeModulus) -> Bezout3
+    requires { ToCommon prime.m u u w }
+    ensures { Common prime.m u u w result }
 {
-    let h = xgcd_right(u, w, m);
+    let m = prime.m;
+    let h = xgcd_right(u, w, prime);
     let d = h.r;
     let s3 = h.t;
     let none = Poly::zero(m);

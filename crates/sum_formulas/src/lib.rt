@@ -9,17 +9,9 @@
 ghost use Rattle.field.specs.Residues.{Settled};
 ghost use Rattle.sum_formulas.specs.Conditions.{Looked};
 
-use divisor::Divisor;
 use field::{Modulus, Residue};
 
-// What a formula finds: the sum, or that its pair is one that it doesn't take.
-#[derive(Clone, Copy)]
-pub enum Sought {
-    Found(Divisor),
-    Special,
-}
-
-// r = 0; s' of lower degree; neither.
+// r = 0; s' of lower degree; neither: three kinds of work, none of them an absence, so no Option.
 #[derive(Clone, Copy)]
 pub enum Condition {
     Special,

@@ -20,9 +20,10 @@ use Rattle.sum_formulas.specs.Conditions.{Looked}
 use Rattle.sum_formulas.proofs.Opened.{opened, opened_twice}
 use Rattle.sum_formulas.proofs.Formula.{one_turn, main_case}
 use Rattle.sum_formulas.proofs.Genus2.{tops_f2, line2_slope}
+use Rattle.algebra.proofs.Zmod.Prime.{Prime}
 use Rattle.field.specs.declared.Modulus.{Modulus}
 use Rattle.field.specs.declared.Residue.{Residue}
-use Rattle.field.specs.Residues.{el, Good, HasInverse, Stands, Inverts}
+use Rattle.field.specs.Residues.{el, HasInverse, Stands, Inverts}
 use Rattle.field.proofs.Laws.{residue_field, settled_kept}
 use Rattle.field.proofs.Units.{product-unit}
 use Rattle.divisor.specs.declared.Quadratic.{Quadratic}
@@ -49,7 +50,7 @@ module _ (m : Modulus) where
   abbrev pub opened_as : Bezout → Duo → Opened
   opened_as x s = record { r = x.r; i = x.i; s = s }
 
-  pub opens : (good : Good m) (a b : Quadratic) (x : Bezout) → Inverted m (ux m a) b x → Apart m a b x.i → (c : Duo) → Gap m a b c → (s : Duo) → Times m c x.i b s → Opens m a b (opened_as x s)
+  pub opens : (good : Prime m.p) (a b : Quadratic) (x : Bezout) → Inverted m (ux m a) b x → Apart m a b x.i → (c : Duo) → Gap m a b c → (s : Duo) → Times m c x.i b s → Opens m a b (opened_as x s)
   opens good a b x hx apart c hc s hs = record {
     ready = record { r = hx.settled; i = hx.eased.i; c0 = hs.c0; c1 = hs.c1 };
     apart = apart;
@@ -58,7 +59,7 @@ module _ (m : Modulus) where
         ((residue_field m good).mul_inv (el m x.r) nz) hx.is hc.is hs.is;
   }
 
-  pub opens_twice : (good : Good m) (f2 f3 f4 : Residue) (a : Quadratic) (x : Bezout) → Inverted m (twice m a) a x → (c : Duo) → Right m a f2 f3 f4 c → (s : Duo) → Times m c x.i a s
+  pub opens_twice : (good : Prime m.p) (f2 f3 f4 : Residue) (a : Quadratic) (x : Bezout) → Inverted m (twice m a) a x → (c : Duo) → Right m a f2 f3 f4 c → (s : Duo) → Times m c x.i a s
       → OpensTwice m f2 f3 f4 a (opened_as x s)
   unfolding pair
   opens_twice good f2 f3 f4 a x hx c hc s hs = record {
@@ -111,12 +112,12 @@ module _ (m : Modulus) where
     closes_flat i k hi hk z d hd = record { held = hd.held; is = λ f0 f1 f2 f3 ok va vb composed. flat f4 a b o f0 f1 f2 f3 ok va vb composed i k hi hk z d hd }
 
   -- ---- what is inverted between the halves
-  module _ (good : Good m) (o : Opened) (ho : Ready m o) (nz : el m o.r ≢ (zmod m.p).zer) where
+  module _ (good : Prime m.p) (o : Opened) (ho : Ready m o) (nz : el m o.r ≢ (zmod m.p).zer) where
     pub unit_r : HasInverse m o.r
-    unit_r = record { good = good; kept = settled_kept m ho.r; nonzero = nz }
+    unit_r = record { kept = settled_kept m ho.r; nonzero = nz }
 
     pub unit_both : el m o.s.c1 ≢ (zmod m.p).zer → (k : Residue) → Stands m k ((zmod m.p).mul (el m o.r) (el m o.s.c1)) → HasInverse m k
-    unit_both n k hk = product-unit m o.r o.s.c1 k unit_r (record { good = good; kept = settled_kept m ho.c1; nonzero = n }) hk
+    unit_both n k hk = product-unit (record { m = m; prime = good }) o.r o.s.c1 k unit_r (record { kept = settled_kept m ho.c1; nonzero = n }) hk
 
   pub undoes : (o : Opened) (k i : Residue) → Stands m k ((zmod m.p).mul (el m o.r) (el m o.s.c1)) → Inverts m k i → Undoes m o.r o.s i
   undoes o k i hk hi = record { kept = hi.kept; is = sym (ap (λ t. (zmod m.p).mul t (el m i)) hk.is) ∙ hi.is }

@@ -1,6 +1,6 @@
 -- What a sum of genus 2 by formula promises, before it divides (`Opens`, `OpensTwice`), after (`Closes`), and as a whole (`Sum2`, `Double2`): of every curve with
 -- these coefficients that is accepted and has the divisors.
-use Rattle.std.specs.Prelude.{◌≡◌, [], ◌∷◌, ◌≢◌}
+use Rattle.std.specs.Prelude.{◌≡◌, [], ◌∷◌, ◌≢◌, Option, Some, None}
 use Rattle.algebra.proofs.Zmod.PrimeField.{modulo}
 use Rattle.algebra.proofs.Poly.Poly.{poly}
 use Rattle.algebra.proofs.Poly.Term.{C}
@@ -15,8 +15,6 @@ use Rattle.divisor.specs.declared.Quadratic.{Quadratic}
 use Rattle.divisor.specs.declared.Divisor.{Divisor}
 use Rattle.divisor.specs.declared.Divisor.TheVariants.{Two}
 use Rattle.divisor.specs.Divisors.{Held, pair}
-use Rattle.sum_formulas.specs.declared.Sought.{Sought}
-use Rattle.sum_formulas.specs.declared.Sought.TheVariants.{Found, Special}
 use Rattle.sum_formulas.specs.Conditions.{Coprime, Unfit}
 use Rattle.sum_formulas.proofs.Opened.{Through}
 use Rattle.sum_genus2.specs.declared.Opened.{Opened}
@@ -74,10 +72,10 @@ module _ (m : Modulus) where
         → sum (curve f4 f0 f1 (el m f2) (el m f3)) (pair m (Two a)) (pair m (Two a)) ≡ pair m d
 
   -- where nothing is found the two u, or 2v and u, aren't coprime: a slope of any degree is taken
-  abbrev pub Sum2 : Residue → Quadratic → Quadratic → Sought → Type 0
-  Sum2 f4 a b (Found d) = IsSum f4 a b d
-  Sum2 f4 a b Special = Unfit m (ux m a) (ux m b) ⊥
+  abbrev pub Sum2 : Residue → Quadratic → Quadratic → Option Divisor → Type 0
+  Sum2 f4 a b (Some d) = IsSum f4 a b d
+  Sum2 f4 a b None = Unfit m (ux m a) (ux m b) ⊥
 
-  abbrev pub Double2 : Residue → Residue → Residue → Quadratic → Sought → Type 0
-  Double2 f2 f3 f4 a (Found d) = IsDouble f2 f3 f4 a d
-  Double2 f2 f3 f4 a Special = Unfit m (twice m a) (ux m a) ⊥
+  abbrev pub Double2 : Residue → Residue → Residue → Quadratic → Option Divisor → Type 0
+  Double2 f2 f3 f4 a (Some d) = IsDouble f2 f3 f4 a d
+  Double2 f2 f3 f4 a None = Unfit m (twice m a) (ux m a) ⊥

@@ -9,8 +9,8 @@ ghost use Rattle.sum_genus2_steps.specs.Steps.{Apart, Undoes};
 ghost use Rattle.sum_genus2.specs.Sums.{Ready, Flat, Opens, OpensTwice, Closes, Sum2, Double2};
 
 use divisor::{Divisor, Duo, Linear, Quadratic};
-use field::{Modulus, Residue};
-use sum_formulas::{Condition, Sought};
+use field::{Modulus, PrimeModulus, Residue};
+use sum_formulas::Condition;
 
 // What stands before the division: the slope is s / r. i is handed on because the new u needs it again.
 #[derive(Clone, Copy)]
@@ -21,10 +21,11 @@ pub struct Opened {
 }
 
 // r, and s' for the slope s' / r of v + (s' / r)·u, which goes through both.
-pub fn chord(a: Quadratic, b: Quadratic, m: Modulus) -> Opened
-    requires { Held m (Divisor.Two a) × Held m (Divisor.Two b) }
-    ensures { Opens m a b result }
+pub fn chord(a: Quadratic, b: Quadratic, prime: PrimeModulus) -> Opened
+    requires { Held prime.m (Divisor.Two a) × Held prime.m (Divisor.Two b) }
+    ensures { Opens prime.m a b result }
 {
+    let m = prime.m;
     let x = sum_genus2_steps::invert_u(a, b, m);
     let c = sum_genus2_steps::v_gap(a, b, m);
     let s = sum_genus2_steps::times(c, x, b, m);
@@ -34,10 +35,11 @@ pub fn chord(a: Quadratic, b: Quadratic, m: Modulus) -> Opened
 }
 
 // The same of a pair with itself: it touches the curve.
-fn tangent(a: Quadratic, f2: Residue, f3: Residue, f4: Residue, m: Modulus) -> Opened
-    requires { Held m (Divisor.Two a) × (Kept m f2 × (Kept m f3 × Kept m f4)) }
-    ensures { OpensTwice m f2 f3 f4 a result }
+fn tangent(a: Quadratic, f2: Residue, f3: Residue, f4: Residue, prime: PrimeModulus) -> Opened
+    requires { Held prime.m (Divisor.Two a) × (Kept prime.m f2 × (Kept prime.m f3 × Kept prime.m f4)) }
+    ensures { OpensTwice prime.m f2 f3 f4 a result }
 {
+    let m = prime.m;
     let y = a.v1.sqr(m);
     let x = sum_genus2_steps::invert_twice_v(a, y, m);
     let c = sum_genus2_steps::cofactor_mod_u(a, y, f2, f3, f4, m);
@@ -87,45 +89,53 @@ fn close_flat(a: Quadratic, b: Quadratic, o: Opened, i: Residue, f4: Residue, m:
 }
 
 // a + b, both of weight 2: only where r is 0 there is no answer.
-pub fn add(a: Quadratic, b: Quadratic, f4: Residue, m: Modulus) -> Sought
-    requires { Held m (Divisor.Two a) × (Held m (Divisor.Two b) × Kept m f4) }
-    ensures { Sum2 m f4 a b result }
+pub fn add(a: Quadratic, b: Quadratic, f4: Residue, prime: PrimeModulus) -> Option<Divisor>
+    requires { Held prime.m (Divisor.Two a) × (Held prime.m (Divisor.Two b) × Kept prime.m f4) }
+    ensures { Sum2 prime.m f4 a b result }
 {
-    let o = chord(a, b, m);
+    let m = prime.m;
+    let o = chord(a, b, prime);
     let k = sum_formulas::look(o.r, o.s.c1, m);
     match k {
-        Condition::Special => Sought::Special,
+        Condition::Special => None,
         Condition::Flat => {
-            let i = o.r.inverse(m);
+            let i = o.r.inverse(prime);
             let d = close_flat(a, b, o, i, f4, m);
-            Sought::Found(Divisor::One(d))
+            Some(Divisor::One(d))
         }
         Condition::Main => {
-            let i = o.r.mul(o.s.c1, m).inverse(m);
+            let i = o.r.mul(o.s.c1, m).inverse(prime);
             let d = close(a, b, o, i, f4, m);
-            Sought::Found(Divisor::Two(d))
+            Some(Divisor::Two(d))
         }
     }
 }
 
 // a + a, the same way.
-pub fn double(a: Quadratic, f2: Residue, f3: Residue, f4: Residue, m: Modulus) -> Sought
-    requires { Held m (Divisor.Two a) × (Kept m f2 × (Kept m f3 × Kept m f4)) }
-    ensures { Double2 m f2 f3 f4 a result }
+pub fn double(
+    a: Quadratic,
+    f2: Residue,
+    f3: Residue,
+    f4: Residue,
+    prime: PrimeModulus,
+) -> Option<Divisor>
+    requires { Held prime.m (Divisor.Two a) × (Kept prime.m f2 × (Kept prime.m f3 × Kept prime.m f4)) }
+    ensures { Double2 prime.m f2 f3 f4 a result }
 {
-    let o = tangent(a, f2, f3, f4, m);
+    let m = prime.m;
+    let o = tangent(a, f2, f3, f4, prime);
     let k = sum_formulas::look(o.r, o.s.c1, m);
     match k {
-        Condition::Special => Sought::Special,
+        Condition::Special => None,
         Condition::Flat => {
-            let i = o.r.inverse(m);
+            let i = o.r.inverse(prime);
             let d = close_flat(a, a, o, i, f4, m);
-            Sought::Found(Divisor::One(d))
+            Some(Divisor::One(d))
         }
         Condition::Main => {
-            let i = o.r.mul(o.s.c1, m).inverse(m);
+            let i = o.r.mul(o.s.c1, m).inverse(prime);
             let d = close_twice(a, o, i, f4, m);
-            Sought::Found(Divisor::Two(d))
+            Some(Divisor::Two(d))
         }
     }
 }

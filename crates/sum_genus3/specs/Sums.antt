@@ -1,5 +1,5 @@
 -- Genus 3: what a sum by formula promises, of every curve with these coefficients that accepts the divisors: the rule's sum, where it finds one.
-use Rattle.std.specs.Prelude.{◌≡◌, ◌≢◌}
+use Rattle.std.specs.Prelude.{◌≡◌, ◌≢◌, Option, Some, None}
 use Rattle.algebra.proofs.Zmod.Zmod.{zmod}
 use Rattle.rules.specs.Curve.{f}
 use Rattle.rules.specs.Pair.{Valid}
@@ -12,8 +12,6 @@ use Rattle.divisor.specs.declared.Cubic.{Cubic}
 use Rattle.divisor.specs.declared.Divisor.{Divisor}
 use Rattle.divisor.specs.declared.Divisor.TheVariants.{Three}
 use Rattle.divisor.specs.Divisors.{Held, pair}
-use Rattle.sum_formulas.specs.declared.Sought.{Sought}
-use Rattle.sum_formulas.specs.declared.Sought.TheVariants.{Found, Special}
 use Rattle.sum_formulas.specs.Conditions.{Unfit}
 use Rattle.sum_genus3_open.specs.declared.Opened.{Opened}
 use Rattle.sum_genus3_open.specs.Opens.{curve_with, u_of, twice, Joins, Opens, OpensTwice}
@@ -47,15 +45,15 @@ module _ (m : Modulus) where
     pub top : el m o.s.c2 ≡ (zmod m.p).zer
 
   -- where nothing is found the two u, or 2v and u, aren't coprime, or the slope is short
-  abbrev pub Sum3 : Residue → Residue → Residue → Cubic → Cubic → Sought → Type 0
-  Sum3 f4 f5 f6 a b (Found d) = Found3 f4 f5 f6 a b d
-  Sum3 f4 f5 f6 a b Special = Unfit m (u_of m a) (u_of m b) (Short a b)
+  abbrev pub Sum3 : Residue → Residue → Residue → Cubic → Cubic → Option Divisor → Type 0
+  Sum3 f4 f5 f6 a b (Some d) = Found3 f4 f5 f6 a b d
+  Sum3 f4 f5 f6 a b None = Unfit m (u_of m a) (u_of m b) (Short a b)
 
   pub record Twice3 (f3 f4 f5 f6 : Residue) (a : Cubic) (d : Divisor) : Type 0 where
     pub held : Held m d
     pub is : (g0 g1 g2 : A) → Accepted (curve_with m f4 f5 f6 g0 g1 g2 (el m f3)) → Valid (curve_with m f4 f5 f6 g0 g1 g2 (el m f3)) (pair m (Three a))
         → sum (curve_with m f4 f5 f6 g0 g1 g2 (el m f3)) (pair m (Three a)) (pair m (Three a)) ≡ pair m d
 
-  abbrev pub Double3 : Residue → Residue → Residue → Residue → Cubic → Sought → Type 0
-  Double3 f3 f4 f5 f6 a (Found d) = Twice3 f3 f4 f5 f6 a d
-  Double3 f3 f4 f5 f6 a Special = Unfit m (twice m a) (u_of m a) (ShortTwice f3 f4 f5 f6 a)
+  abbrev pub Double3 : Residue → Residue → Residue → Residue → Cubic → Option Divisor → Type 0
+  Double3 f3 f4 f5 f6 a (Some d) = Twice3 f3 f4 f5 f6 a d
+  Double3 f3 f4 f5 f6 a None = Unfit m (twice m a) (u_of m a) (ShortTwice f3 f4 f5 f6 a)

@@ -9,7 +9,7 @@
 #![tactic(auto)]
 
 ghost use Rattle.algebra.proofs.Poly.Poly.{poly};
-ghost use Rattle.field.specs.Residues.{Good, Kept, Settled};
+ghost use Rattle.field.specs.Residues.{Kept, Settled};
 ghost use Rattle.divisor.specs.Divisors.{Held};
 ghost use Rattle.sum_genus3_open.specs.Opens.{K, u_of};
 ghost use Rattle.sum_genus3.specs.Steps.{KeptFour, KeptFive, KeptSlope, quintic_of, slope_of, Divisible, Slopes, Stretched};
@@ -17,8 +17,8 @@ ghost use Rattle.sum_genus3.specs.Steps.{Quotient1, Quotient0, Quotient, OverU, 
 ghost use Rattle.sum_genus3.specs.Sums.{Closes, Sum3, Double3};
 
 use divisor::{Cubic, Divisor};
-use field::{Modulus, Residue};
-use sum_formulas::{Condition, Sought};
+use field::{Modulus, PrimeModulus, Residue};
+use sum_formulas::Condition;
 use sum_genus3_open::Opened;
 
 // c3 x³ + c2 x² + .., or x⁴ + c3 x³ + ..
@@ -214,7 +214,7 @@ fn second_u0(
 
 // u with v = t modulo u.
 fn second_v(e0: Residue, e1: Residue, e2: Residue, t: Four, m: Modulus) -> Cubic
-    requires { Good m × (Settled m e0 × (Settled m e1 × (Settled m e2 × KeptFour m t))) }
+    requires { Settled m e0 × (Settled m e1 × (Settled m e2 × KeptFour m t)) }
     ensures { SecondV m e0 e1 e2 t result }
 {
     let q2 = t.c2.sub(e2.mul(t.c3, m), m).settle(m);
@@ -232,7 +232,7 @@ fn second_v(e0: Residue, e1: Residue, e2: Residue, t: Four, m: Modulus) -> Cubic
 
 // The second step, settled: u = (f - t²) / n, v = t modulo u.
 fn second(n: Four, t: Four, f4: Residue, f5: Residue, f6: Residue, m: Modulus) -> Cubic
-    requires { Good m × (KeptFour m n × (KeptFour m t × (Kept m f4 × (Kept m f5 × Kept m f6)))) }
+    requires { KeptFour m n × (KeptFour m t × (Kept m f4 × (Kept m f5 × Kept m f6))) }
     ensures { Second m n t f4 f5 f6 result }
 {
     let t1 = t.c3.dbl(m);
@@ -284,39 +284,55 @@ fn close_twice(
 }
 
 // a + b, where r and s'2 aren't 0.
-pub fn add(a: Cubic, b: Cubic, f4: Residue, f5: Residue, f6: Residue, m: Modulus) -> Sought
-    requires { Held m (Divisor.Three a) × (Held m (Divisor.Three b) × (Kept m f4 × (Kept m f5 × Kept m f6))) }
-    ensures { Sum3 m f4 f5 f6 a b result }
+pub fn add(
+    a: Cubic,
+    b: Cubic,
+    f4: Residue,
+    f5: Residue,
+    f6: Residue,
+    prime: PrimeModulus,
+) -> Option<Divisor>
+    requires { Held prime.m (Divisor.Three a) × (Held prime.m (Divisor.Three b) × (Kept prime.m f4 × (Kept prime.m f5 × Kept prime.m f6))) }
+    ensures { Sum3 prime.m f4 f5 f6 a b result }
 {
-    let o = sum_genus3_open::chord(a, b, m);
+    let m = prime.m;
+    let o = sum_genus3_open::chord(a, b, prime);
     let k = sum_formulas::look(o.r, o.s.c2, m);
     match k {
-        Condition::Special => Sought::Special,
-        Condition::Flat => Sought::Special,
+        Condition::Special => None,
+        Condition::Flat => None,
         Condition::Main => {
             let p = o.r.mul(o.s.c2, m);
-            let i = p.inverse(m);
+            let i = p.inverse(prime);
             let d = close(a, b, o, i, f4, f5, f6, m);
-            Sought::Found(Divisor::Three(d))
+            Some(Divisor::Three(d))
         }
     }
 }
 
 // a + a, where r and s'2 aren't 0.
-pub fn double(a: Cubic, f3: Residue, f4: Residue, f5: Residue, f6: Residue, m: Modulus) -> Sought
-    requires { Held m (Divisor.Three a) × (Kept m f3 × (Kept m f4 × (Kept m f5 × Kept m f6))) }
-    ensures { Double3 m f3 f4 f5 f6 a result }
+pub fn double(
+    a: Cubic,
+    f3: Residue,
+    f4: Residue,
+    f5: Residue,
+    f6: Residue,
+    prime: PrimeModulus,
+) -> Option<Divisor>
+    requires { Held prime.m (Divisor.Three a) × (Kept prime.m f3 × (Kept prime.m f4 × (Kept prime.m f5 × Kept prime.m f6))) }
+    ensures { Double3 prime.m f3 f4 f5 f6 a result }
 {
-    let o = sum_genus3_open::tangent(a, f3, f4, f5, f6, m);
+    let m = prime.m;
+    let o = sum_genus3_open::tangent(a, f3, f4, f5, f6, prime);
     let k = sum_formulas::look(o.r, o.s.c2, m);
     match k {
-        Condition::Special => Sought::Special,
-        Condition::Flat => Sought::Special,
+        Condition::Special => None,
+        Condition::Flat => None,
         Condition::Main => {
             let p = o.r.mul(o.s.c2, m);
-            let i = p.inverse(m);
+            let i = p.inverse(prime);
             let d = close_twice(a, o, i, f4, f5, f6, m);
-            Sought::Found(Divisor::Three(d))
+            Some(Divisor::Three(d))
         }
     }
 }

@@ -1,7 +1,8 @@
 -- Genus 3: i and r as the steps make them invert u modulo the other u (`inverted`), and 2v modulo u (`inverted_twice`). x is what is handed back.
 use mathlib.Core.Path.{◌≡◌}
+use Rattle.algebra.proofs.Zmod.Prime.{Prime}
 use Rattle.field.specs.declared.Modulus.{Modulus}
-use Rattle.field.specs.Residues.{el, Good, Settled}
+use Rattle.field.specs.Residues.{el, Settled}
 use Rattle.field.proofs.Laws.{residue_field}
 use Rattle.sum_formulas.proofs.Coprime3.{square-none, r3_none, r3_none_twice}
 use Rattle.sum_formulas.proofs.Open3.{invert_is, tangent_is}
@@ -9,7 +10,7 @@ use Rattle.divisor.specs.declared.Cubic.{Cubic}
 use Rattle.sum_genus3_open.specs.declared.Bezout.{Bezout}
 use Rattle.sum_genus3_open.specs.Opens.{K, u_of, twice, Inner, Inverts}
 
-module _ (m : Modulus) (good : Good m) (a b : Cubic) (x : Bezout) where
+module _ (m : Modulus) (good : Prime m.p) (a b : Cubic) (x : Bezout) where
   open K m use {El as A, add as ◌+◌, mul as ◌*◌, neg}
 
   infixl 65 ◌+◌

@@ -5,9 +5,10 @@ use Rattle.algebra.proofs.Poly.Poly.{poly}
 use Rattle.rules.specs.Curve.{f}
 use Rattle.rules.specs.Pair.{Valid}
 use Rattle.sum_formulas.proofs.Opened.{opened, opened_twice}
+use Rattle.algebra.proofs.Zmod.Prime.{Prime}
 use Rattle.field.specs.declared.Modulus.{Modulus}
 use Rattle.field.specs.declared.Residue.{Residue}
-use Rattle.field.specs.Residues.{el, Good}
+use Rattle.field.specs.Residues.{el}
 use Rattle.field.proofs.Laws.{residue_field}
 use Rattle.divisor.specs.declared.Cubic.{Cubic}
 use Rattle.divisor.specs.declared.Divisor.TheVariants.{Three}
@@ -16,7 +17,7 @@ use Rattle.divisor.specs.declared.Trio.{Trio}
 use Rattle.sum_genus3_open.specs.declared.Bezout.{Bezout}
 use Rattle.sum_genus3_open.specs.Opens.{K, tri_of, u_of, v_of, twice, curve_with, inner, Inverts, Gap, Right, Times, Joins}
 
-module _ (m : Modulus) (good : Good m) where
+module _ (m : Modulus) (good : Prime m.p) where
   open poly (K m) use {El as P}
 
   -- 1/r

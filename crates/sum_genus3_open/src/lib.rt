@@ -11,7 +11,7 @@ ghost use Rattle.divisor.specs.Divisors.{Held};
 ghost use Rattle.sum_genus3_open.specs.Opens.{KeptTrio, Inner, u_of, twice, ProductV, Inverts, Gap, Right1, Right0, Right, Times, Opens, OpensTwice};
 
 use divisor::{Cubic, Divisor, Trio};
-use field::{Modulus, Residue};
+use field::{Modulus, PrimeModulus, Residue};
 
 // i and r; i0 is i at 0.
 #[derive(Clone, Copy)]
@@ -31,10 +31,11 @@ pub struct Opened {
 }
 
 // i · u is r modulo the other u.
-fn invert_u(a: Cubic, b: Cubic, m: Modulus) -> Bezout
-    requires { Held m (Divisor.Three a) × Held m (Divisor.Three b) }
-    ensures { Inverts m (u_of m a) b result }
+fn invert_u(a: Cubic, b: Cubic, prime: PrimeModulus) -> Bezout
+    requires { Held prime.m (Divisor.Three a) × Held prime.m (Divisor.Three b) }
+    ensures { Inverts prime.m (u_of prime.m a) b result }
 {
+    let m = prime.m;
     let t1 = a.u1.cross(b.u0, a.u0, b.u1, m);
     let t2 = a.u2.cross(b.u0, a.u0, b.u2, m);
     let t3 = b.u0.sub(a.u0, m);
@@ -101,10 +102,11 @@ fn product_v(a: Cubic, e1: Residue, e2: Residue, i0: Residue, m: Modulus) -> Res
 }
 
 // i · 2v is r modulo u.
-fn invert_twice_v(a: Cubic, m: Modulus) -> Bezout
-    requires { Held m (Divisor.Three a) }
-    ensures { Inverts m (twice m a) a result }
+fn invert_twice_v(a: Cubic, prime: PrimeModulus) -> Bezout
+    requires { Held prime.m (Divisor.Three a) }
+    ensures { Inverts prime.m (twice prime.m a) a result }
 {
+    let m = prime.m;
     let t1 = a.u1.cross(a.v0, a.u0, a.v1, m);
     let t2 = a.u2.cross(a.v0, a.u0, a.v2, m);
     let t5 = a.u2.cross(a.v1, a.u1, a.v2, m).add(a.v0, m);
@@ -179,11 +181,12 @@ fn cofactor_mod_u(a: Cubic, f3: Residue, f4: Residue, f5: Residue, f6: Residue, 
 }
 
 // r and s' of two divisors. r is 0 where the two u have a common factor.
-pub fn chord(a: Cubic, b: Cubic, m: Modulus) -> Opened
-    requires { Held m (Divisor.Three a) × Held m (Divisor.Three b) }
-    ensures { Opens m a b result }
+pub fn chord(a: Cubic, b: Cubic, prime: PrimeModulus) -> Opened
+    requires { Held prime.m (Divisor.Three a) × Held prime.m (Divisor.Three b) }
+    ensures { Opens prime.m a b result }
 {
-    let x = invert_u(a, b, m);
+    let m = prime.m;
+    let x = invert_u(a, b, prime);
     let c = v_gap(a, b, m);
     let s = times(c, x, b, m);
     let r = x.r;
@@ -191,11 +194,19 @@ pub fn chord(a: Cubic, b: Cubic, m: Modulus) -> Opened
 }
 
 // r and s' of a divisor with itself. r is 0 where u and v have a common factor.
-pub fn tangent(a: Cubic, f3: Residue, f4: Residue, f5: Residue, f6: Residue, m: Modulus) -> Opened
-    requires { Held m (Divisor.Three a) × (Kept m f3 × (Kept m f4 × (Kept m f5 × Kept m f6))) }
-    ensures { OpensTwice m f3 f4 f5 f6 a result }
+pub fn tangent(
+    a: Cubic,
+    f3: Residue,
+    f4: Residue,
+    f5: Residue,
+    f6: Residue,
+    prime: PrimeModulus,
+) -> Opened
+    requires { Held prime.m (Divisor.Three a) × (Kept prime.m f3 × (Kept prime.m f4 × (Kept prime.m f5 × Kept prime.m f6))) }
+    ensures { OpensTwice prime.m f3 f4 f5 f6 a result }
 {
-    let x = invert_twice_v(a, m);
+    let m = prime.m;
+    let x = invert_twice_v(a, prime);
     let c = cofactor_mod_u(a, f3, f4, f5, f6, m);
     let s = times(c, x, a, m);
     let r = x.r;

@@ -23,7 +23,7 @@ use Rattle.divisor.specs.declared.Divisor.TheVariants.{Neutral}
 use Rattle.divisor.specs.Divisors.{pair}
 use Rattle.divisor.proofs.Laws.{neutral_is}
 use Rattle.curve.specs.declared.Curve.{Curve}
-use Rattle.curve.specs.Curves.{curve_of, Sound, Holds, Gives}
+use Rattle.curve.specs.Curves.{curve_of, Holds, Gives}
 use Rattle.curve.proofs.Contains.{accepted, neutral-holds}
 use Rattle.sum_lanes.specs.declared.Waiting.{Waiting}
 use Rattle.sum_lanes.specs.Lanes.{Waits, Backs, together, AllHold, lane, nobody, waiter}
@@ -33,26 +33,26 @@ abbrev pub at : List Waiting → ℕ → Waiting
 at l k = get_or l k nobody
 
 module _ (c : Curve) where
-  open zmod c.m.p use {El as A, mul as ◌*◌, one as 𝟙}
+  open zmod c.prime.m.p use {El as A, mul as ◌*◌, one as 𝟙}
 
   infixl 70 ◌*◌
   -- the product of what the first n divide by
   abbrev pub prods : List Waiting → ℕ → A
   prods l zero = 𝟙
-  prods l (suc n) = prods l n * el c.m (at l n).f
+  prods l (suc n) = prods l n * el c.prime.m (at l n).f
 
-  pub record Row (sums : List Divisor) (next : List Waiting) (n : ℕ) (t : Pair (modulo c.m.p)) : Type 0 where
+  pub record Row (sums : List Divisor) (next : List Waiting) (n : ℕ) (t : Pair (modulo c.prime.m.p)) : Type 0 where
     pub lanes : length sums ≡ 16
     pub long : length next ≡ 16
     pub few : n ≤ 16
     pub hold : AllHold c (lane sums) 16
     pub wait : (k : ℕ) → k < n → Waits c (lane sums k) (at next k)
-    pub before : (k : ℕ) → k < n → Stands c.m (at next k).before (prods next k)
+    pub before : (k : ℕ) → k < n → Stands c.prime.m (at next k).before (prods next k)
     pub is : t ≡ sum (curve_of c) (together c (lane sums) 16) (together c (waiter next) n)
 
   prods_same : (l l' : List Waiting) (n : ℕ) → ((k : ℕ) → k < n → at l k ≡ at l' k) → prods l n ≡ prods l' n
   prods_same l l' zero q = refl
-  prods_same l l' (suc n) q = ap₂ ◌*◌ (prods_same l l' n (λ k i. q k (omega arith))) (ap (λ (w : Waiting). el c.m w.f) (q n (omega arith)))
+  prods_same l l' (suc n) q = ap₂ ◌*◌ (prods_same l l' n (λ k i. q k (omega arith))) (ap (λ (w : Waiting). el c.prime.m w.f) (q n (omega arith)))
 
   module _ (next : List Waiting) (n : ℕ) (w : Waiting) (room : n < length next) where
     put_same : at (set next n w) n ≡ w
@@ -64,28 +64,28 @@ module _ (c : Curve) where
     kept_prods : (k : ℕ) → k ≤ n → prods (set next n w) k ≡ prods next k
     kept_prods k i = prods_same (set next n w) next k (λ j l. put_other j (omega arith))
 
-    pub prods_more : (all all' : Residue) → el c.m all ≡ prods next n → el c.m all' ≡ el c.m all * el c.m w.f → el c.m all' ≡ prods (set next n w) (n + 1)
-    prods_more all all' e e' = e' ∙ ap₂ ◌*◌ (e ∙ sym (kept_prods n (omega arith))) (ap (λ (x : Waiting). el c.m x.f) (sym put_same)) ∙ ap (prods (set next n w)) {x = suc n} {y = n + 1} (omega arith)
+    pub prods_more : (all all' : Residue) → el c.prime.m all ≡ prods next n → el c.prime.m all' ≡ el c.prime.m all * el c.prime.m w.f → el c.prime.m all' ≡ prods (set next n w) (n + 1)
+    prods_more all all' e e' = e' ∙ ap₂ ◌*◌ (e ∙ sym (kept_prods n (omega arith))) (ap (λ (x : Waiting). el c.prime.m x.f) (sym put_same)) ∙ ap (prods (set next n w)) {x = suc n} {y = n + 1} (omega arith)
 
   -- the last of those that wait
-  module _ {sums : List Divisor} {next : List Waiting} {n : ℕ} {t : Pair (modulo c.m.p)} (i : Row sums next n t) (j : ℕ) (last : j + 1 ≡ n) where
-    prods_last : prods next n ≡ prods next j * el c.m (at next j).f
+  module _ {sums : List Divisor} {next : List Waiting} {n : ℕ} {t : Pair (modulo c.prime.m.p)} (i : Row sums next n t) (j : ℕ) (last : j + 1 ≡ n) where
+    prods_last : prods next n ≡ prods next j * el c.prime.m (at next j).f
     prods_last = ap (prods next) {x = n} {y = suc j} (omega arith)
 
-    pub backs : (back : Residue) → Kept c.m back → el c.m back * prods next n ≡ 𝟙 → Backs c.m (at next j) back
+    pub backs : (back : Residue) → Kept c.prime.m back → el c.prime.m back * prods next n ≡ 𝟙 → Backs c.prime.m (at next j) back
     backs back k e = record {
       before = (i.before j (omega arith)).kept;
       kept = k;
-      is = ap (λ (x : A). el c.m back * (x * el c.m (at next j).f)) (i.before j (omega arith)).is ∙ ap (λ (x : A). el c.m back * x) (sym prods_last) ∙ e;
+      is = ap (λ (x : A). el c.prime.m back * (x * el c.prime.m (at next j).f)) (i.before j (omega arith)).is ∙ ap (λ (x : A). el c.prime.m back * x) (sym prods_last) ∙ e;
     }
 
-    pub prods_less : (back back' : Residue) → el c.m back * prods next n ≡ 𝟙 → el c.m back' ≡ el c.m back * el c.m (at next j).f → el c.m back' * prods next j ≡ 𝟙
-    prods_less back back' e e' = ap (λ (x : A). x * prods next j) e' ∙ ring (zmod c.m.p) (el c.m back ∷ el c.m (at next j).f ∷ prods next j ∷ []) (search quote depth 40) refl
-        ∙ ap (λ (x : A). el c.m back * x) (sym prods_last) ∙ e
+    pub prods_less : (back back' : Residue) → el c.prime.m back * prods next n ≡ 𝟙 → el c.prime.m back' ≡ el c.prime.m back * el c.prime.m (at next j).f → el c.prime.m back' * prods next j ≡ 𝟙
+    prods_less back back' e e' = ap (λ (x : A). x * prods next j) e' ∙ ring (zmod c.prime.m.p) (el c.prime.m back ∷ el c.prime.m (at next j).f ∷ prods next j ∷ []) (search quote depth 40) refl
+        ∙ ap (λ (x : A). el c.prime.m back * x) (sym prods_last) ∙ e
 
-module _ (c : Curve) (h : Sound c) where
+module _ (c : Curve) where
   abbrev P : Type 0
-  P = Pair (modulo c.m.p)
+  P = Pair (modulo c.prime.m.p)
 
   infixl 65 ◌⊕◌
   abbrev ◌⊕◌ : P → P → P
@@ -95,23 +95,23 @@ module _ (c : Curve) (h : Sound c) where
   waiting_holds i k l = (i.wait k l).holds
 
   pub row_valid : {sums : List Divisor} {next : List Waiting} {n : ℕ} {t : P} → Row c sums next n t → Valid (curve_of c) t
-  row_valid {sums} {next} {n} i = subst (Valid (curve_of c)) (sym i.is) (sum_valid (curve_of c) (accepted c h) (together c (lane sums) 16) (together c (waiter next) n)
-      (together_valid c h (lane sums) 16 i.hold) (together_valid c h (waiter next) n (waiting_holds i)))
+  row_valid {sums} {next} {n} i = subst (Valid (curve_of c)) (sym i.is) (sum_valid (curve_of c) (accepted c) (together c (lane sums) 16) (together c (waiter next) n)
+      (together_valid c (lane sums) 16 i.hold) (together_valid c (waiter next) n (waiting_holds i)))
 
   -- nothing yet
   nothing : (n : ℕ) → together c (λ k. Neutral) n ≡ neutral
   nothing zero = refl
-  nothing (suc n) = ap₂ ◌⊕◌ (nothing n) (neutral_is c.m) ∙ neutral_sum (curve_of c) (accepted c h) neutral (neutral_valid (curve_of c))
+  nothing (suc n) = ap₂ ◌⊕◌ (nothing n) (neutral_is c.prime.m) ∙ neutral_sum (curve_of c) (accepted c) neutral (neutral_valid (curve_of c))
 
   pub row_begin : (z : Divisor) → z ≡ Neutral → (w : Waiting) → Row c (replicate 16 z) (replicate 16 w) 0 neutral
   row_begin z e w = record {
     lanes = refl;
     long = refl;
     few = omega arith;
-    hold = λ k l. subst (Holds c) (sym (at_lane k l)) (neutral-holds c h.good);
+    hold = λ k l. subst (Holds c) (sym (at_lane k l)) (neutral-holds c);
     wait = λ k l. absurd (omega arith);
     before = λ k l. absurd (omega arith);
-    is = sym (ap (λ (x : P). x ⊕ neutral) (together_same c h (lane (replicate 16 z)) (λ k. Neutral) 16 (λ k l. ap (pair c.m) (at_lane k l)) ∙ nothing 16) ∙ neutral_sum (curve_of c) (accepted c h) neutral (neutral_valid (curve_of c)));
+    is = sym (ap (λ (x : P). x ⊕ neutral) (together_same c (lane (replicate 16 z)) (λ k. Neutral) 16 (λ k l. ap (pair c.prime.m) (at_lane k l)) ∙ nothing 16) ∙ neutral_sum (curve_of c) (accepted c) neutral (neutral_valid (curve_of c)));
   }
     where
       at_lane : (k : ℕ) → k < 16 → lane (replicate 16 z) k ≡ Neutral
@@ -125,13 +125,13 @@ module _ (c : Curve) (h : Sound c) where
     B = together c (waiter next) n
 
     va : Valid (curve_of c) A
-    va = together_valid c h (lane sums) 16 i.hold
+    va = together_valid c (lane sums) 16 i.hold
 
     vb : Valid (curve_of c) B
-    vb = together_valid c h (waiter next) n (waiting_holds i)
+    vb = together_valid c (waiter next) n (waiting_holds i)
 
     -- one more waits
-    pub row_more : n < 16 → (w : Waiting) → Waits c (lane sums n) w → Stands c.m w.before (prods c next n) → Row c sums (set next n w) (n + 1) (t ⊕ pair c.m w.d)
+    pub row_more : n < 16 → (w : Waiting) → Waits c (lane sums n) w → Stands c.prime.m w.before (prods c next n) → Row c sums (set next n w) (n + 1) (t ⊕ pair c.prime.m w.d)
     row_more l w hw hb = record {
       lanes = i.lanes;
       long = length-set next n w ∙ i.long;
@@ -140,23 +140,23 @@ module _ (c : Curve) (h : Sound c) where
       wait = below_more (λ k. Waits c (lane sums k) (at (set next n w) k)) n
           (λ k j. subst (Waits c (lane sums k)) (sym (put_other c next n w room k j)) (i.wait k j))
           (subst (Waits c (lane sums n)) (sym (put_same c next n w room)) hw);
-      before = below_more (λ k. Stands c.m (at (set next n w) k).before (prods c (set next n w) k)) n
-          (λ k j. subst (λ (x : (zmod c.m.p).El). Stands c.m (at (set next n w) k).before x) (sym (kept_prods c next n w room k (omega arith)))
-          (subst (λ (x : Waiting). Stands c.m x.before (prods c next k)) (sym (put_other c next n w room k j)) (i.before k j)))
-          (subst (λ (x : (zmod c.m.p).El). Stands c.m (at (set next n w) n).before x) (sym (kept_prods c next n w room n (omega arith)))
-          (subst (λ (x : Waiting). Stands c.m x.before (prods c next n)) (sym (put_same c next n w room)) hb));
-      is = ap (λ (x : P). x ⊕ pair c.m w.d) i.is ∙ sum_assoc (curve_of c) (accepted c h) A B (pair c.m w.d) va vb hw.holds.valid ∙ ap (λ (x : P). A ⊕ x) added;
+      before = below_more (λ k. Stands c.prime.m (at (set next n w) k).before (prods c (set next n w) k)) n
+          (λ k j. subst (λ (x : (zmod c.prime.m.p).El). Stands c.prime.m (at (set next n w) k).before x) (sym (kept_prods c next n w room k (omega arith)))
+          (subst (λ (x : Waiting). Stands c.prime.m x.before (prods c next k)) (sym (put_other c next n w room k j)) (i.before k j)))
+          (subst (λ (x : (zmod c.prime.m.p).El). Stands c.prime.m (at (set next n w) n).before x) (sym (kept_prods c next n w room n (omega arith)))
+          (subst (λ (x : Waiting). Stands c.prime.m x.before (prods c next n)) (sym (put_same c next n w room)) hb));
+      is = ap (λ (x : P). x ⊕ pair c.prime.m w.d) i.is ∙ sum_assoc (curve_of c) (accepted c) A B (pair c.prime.m w.d) va vb hw.holds.valid ∙ ap (λ (x : P). A ⊕ x) added;
     }
       where
         room : n < length next
         room = omega (arith, i.long)
 
-        added : B ⊕ pair c.m w.d ≡ together c (waiter (set next n w)) (n + 1)
-        added = ap₂ ◌⊕◌ (together_same c h (waiter next) (waiter (set next n w)) n (λ k j. ap (λ (x : Waiting). pair c.m x.d) (sym (put_other c next n w room k j))))
-            (ap (λ (x : Waiting). pair c.m x.d) (sym (put_same c next n w room))) ∙ ap (together c (waiter (set next n w))) {x = suc n} {y = n + 1} (omega arith)
+        added : B ⊕ pair c.prime.m w.d ≡ together c (waiter (set next n w)) (n + 1)
+        added = ap₂ ◌⊕◌ (together_same c (waiter next) (waiter (set next n w)) n (λ k j. ap (λ (x : Waiting). pair c.prime.m x.d) (sym (put_other c next n w room k j))))
+            (ap (λ (x : Waiting). pair c.prime.m x.d) (sym (put_same c next n w room))) ∙ ap (together c (waiter (set next n w))) {x = suc n} {y = n + 1} (omega arith)
 
     -- the last goes into its lane
-    pub row_less : (j : ℕ) → j + 1 ≡ n → (r : Divisor) → Gives c r (pair c.m (lane sums j) ⊕ pair c.m (waiter next j)) → Row c (set sums j r) next j t
+    pub row_less : (j : ℕ) → j + 1 ≡ n → (r : Divisor) → Gives c r (pair c.prime.m (lane sums j) ⊕ pair c.prime.m (waiter next j)) → Row c (set sums j r) next j t
     row_less j last r g = record {
       lanes = length-set sums j r ∙ i.lanes;
       long = i.long;
@@ -181,21 +181,21 @@ module _ (c : Curve) (h : Sound c) where
         stays {k} (no q) l = subst (Holds c) (sym (other k q)) (i.hold k l)
 
         d : P
-        d = pair c.m (waiter next j)
+        d = pair c.prime.m (waiter next j)
 
         vd : Valid (curve_of c) d
         vd = (i.wait j (omega arith)).holds.valid
 
         low : Valid (curve_of c) (together c (waiter next) j)
-        low = together_valid c h (waiter next) j (λ k l. (i.wait k (omega arith)).holds)
+        low = together_valid c (waiter next) j (λ k l. (i.wait k (omega arith)).holds)
 
         moved : A ⊕ (together c (waiter next) j ⊕ d) ≡ together c (lane (set sums j r)) 16 ⊕ together c (waiter next) j
-        moved = ap (λ (x : P). A ⊕ x) (sum_comm (curve_of c) (accepted c h) (together c (waiter next) j) d low vd) ∙ sym (sum_assoc (curve_of c) (accepted c h) A d (together c (waiter next) j) va vd low)
-            ∙ ap (λ (x : P). x ⊕ together c (waiter next) j) (sym (raised c h (lane sums) (lane (set sums j r)) d vd j 16 inside i.hold (ap (pair c.m) same ∙ g.is) (λ k l q. ap (pair c.m) (other k q))))
+        moved = ap (λ (x : P). A ⊕ x) (sum_comm (curve_of c) (accepted c) (together c (waiter next) j) d low vd) ∙ sym (sum_assoc (curve_of c) (accepted c) A d (together c (waiter next) j) va vd low)
+            ∙ ap (λ (x : P). x ⊕ together c (waiter next) j) (sym (raised c (lane sums) (lane (set sums j r)) d vd j 16 inside i.hold (ap (pair c.prime.m) same ∙ g.is) (λ k l q. ap (pair c.prime.m) (other k q))))
 
     -- those that wait and the lanes, added up
-    pub row_total : (x y r : Divisor) → Gives c x B → Gives c y A → Gives c r (pair c.m x ⊕ pair c.m y) → Gives c r t
-    row_total x y r gx gy gr = record { holds = gr.holds; is = gr.is ∙ ap₂ ◌⊕◌ gx.is gy.is ∙ sum_comm (curve_of c) (accepted c h) B A vb va ∙ sym i.is }
+    pub row_total : (x y r : Divisor) → Gives c x B → Gives c y A → Gives c r (pair c.prime.m x ⊕ pair c.prime.m y) → Gives c r t
+    row_total x y r gx gy gr = record { holds = gr.holds; is = gr.is ∙ ap₂ ◌⊕◌ gx.is gy.is ∙ sum_comm (curve_of c) (accepted c) B A vb va ∙ sym i.is }
 
     pub row_waiting : AllHold c (waiter next) n
     row_waiting = waiting_holds i

@@ -20,7 +20,7 @@ use Rattle.sum_lanes.specs.declared.Waiting.{Waiting}
 pub record Waits (c : Curve) (lane : Divisor) (w : Waiting) : Type 0 where
   pub holds : Holds c w.d
   pub opened : Opened c lane w.d w.o
-  pub under : Under c.m w.o w.f
+  pub under : Under c.prime.m w.o w.f
 
 -- back is 1 over the product of what it divides by and what those before it do
 pub record Backs (m : Modulus) (w : Waiting) (back : Residue) : Type 0 where
@@ -29,9 +29,9 @@ pub record Backs (m : Modulus) (w : Waiting) (back : Residue) : Type 0 where
   pub is : (zmod m.p).mul (el m back) ((zmod m.p).mul (el m w.before) (el m w.f)) ≡ (zmod m.p).one
 
 -- neutral, and the first n of a row added one after the other
-abbrev pub together : (c : Curve) → (ℕ → Divisor) → ℕ → Pair (modulo c.m.p)
+abbrev pub together : (c : Curve) → (ℕ → Divisor) → ℕ → Pair (modulo c.prime.m.p)
 together c d zero = neutral
-together c d (suc n) = sum (curve_of c) (together c d n) (pair c.m (d n))
+together c d (suc n) = sum (curve_of c) (together c d n) (pair c.prime.m (d n))
 
 abbrev pub AllHold : (c : Curve) → (ℕ → Divisor) → ℕ → Type 0
 AllHold c d n = (k : ℕ) → k < n → Holds c (d k)

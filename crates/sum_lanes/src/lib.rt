@@ -3,7 +3,7 @@
 #![tactic(auto)]
 
 ghost use Rattle.std.specs.Prelude.{◌≤◌};
-ghost use Rattle.curve.specs.Curves.{Sound, Gives};
+ghost use Rattle.curve.specs.Curves.{Gives};
 ghost use Rattle.sum_lanes.specs.Lanes.{together, AllHold, lane, waiter};
 
 use crate::openings::Opening;
@@ -26,9 +26,8 @@ pub struct Waiting {
 
 // What stands where nothing waits.
 pub fn nobody(one: Residue) -> Waiting {
-    let d = Divisor::neutral();
     Waiting {
-        d: d,
+        d: Divisor::neutral(),
         o: Opening::Special,
         f: one,
         before: one,
@@ -37,30 +36,25 @@ pub fn nobody(one: Residue) -> Waiting {
 
 // The lanes added up.
 pub fn lane_total(c: Curve, l: [Divisor; LANES]) -> Divisor
-    requires { Sound c × AllHold c (lane l) 16 }
+    requires { AllHold c (lane l) 16 }
     ensures { Gives c result (together c (lane l) 16) }
 {
     let mut t = Divisor::neutral();
-    let mut i: usize = 0;
-    while i < LANES {
+    for i in 0..LANES {
         t = jacobian::sum(c, t, l[i]);
-        i += 1;
     }
     t
 }
 
-// The first n that wait added up.
+// The first n that wait added up. The array whole with its n, not a slice: what call_total keeps of it is said of both.
 pub fn waiting_total(c: Curve, l: [Waiting; LANES], n: usize) -> Divisor
-    requires { Sound c × ((n ≤ 16) × AllHold c (waiter l) n) }
+    requires { (n ≤ 16) × AllHold c (waiter l) n }
     ensures { Gives c result (together c (waiter l) n) }
 {
     let mut t = Divisor::neutral();
-    let mut i: usize = 0;
-    while i < n {
+    for i in 0..n {
         let w = l[i];
-        let d = w.d;
-        t = jacobian::sum(c, t, d);
-        i += 1;
+        t = jacobian::sum(c, t, w.d);
     }
     t
 }

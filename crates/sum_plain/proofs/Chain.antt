@@ -15,8 +15,8 @@ use Rattle.poly.specs.Polys.{K, P, pol}
 use Rattle.sum_cantor.specs.declared.composing.Mumford.{Mumford}
 use Rattle.sum_cantor.specs.Reducing.{Steps, none, more}
 use Rattle.curve.specs.declared.Curve.{Curve}
-use Rattle.curve.specs.Curves.{curve_of}
-use Rattle.curve.specs.polynomials.Few.{OfCurve}
+use Rattle.curve.specs.Curves.{equation_of, curve_of}
+use Rattle.curve.specs.polynomials.Few.{OfEquation}
 
 -- ---- in any ring
 module _ (R : CRing) where
@@ -47,9 +47,9 @@ module _ (R : CRing) where
       subst (λ t. Composed R g x1 y1 x2 t U V') e (subst (λ t. Composed R g x1 y1 t v2 U V') d (subst (λ t. Composed R g x1 t u2 v2 U V') c (subst (λ t. Composed R g t v1 u2 v2 U V') b (subst (λ t. Composed R t u1 v1 u2 v2 U V') a h))))
 
 -- ---- the steps
-module _ (c : Curve) (q : Poly) (hq : OfCurve c q) where
+module _ (c : Curve) (q : Poly) (hq : OfEquation (equation_of c) q) where
   abbrev m : Modulus
-  m = c.m
+  m = c.prime.m
 
   open P m use {neg as negP, one as 1P}
 

@@ -75,7 +75,7 @@ module _ (m : Modulus) where
 
   pub divisor_is : (x : Mumford) (d : Divisor) → ToDivisor m x → weight_of d + 1 ≡ x.u.n → SettleAll (us d) (coef (K m) (pol m x.u)) → SettleAll (vs d) (coef (K m) (pol m x.v)) → FromPair m x d
   divisor_is x d h n hu hv = record {
-    held = record { good = h.ok_u.fill.good; u = all_settled (us d) _ hu; v = all_settled (vs d) _ hv };
+    held = record { u = all_settled (us d) _ hu; v = all_settled (vs d) _ hv };
     is = record {
       ok_u = h.ok_u;
       ok_v = h.ok_v;

@@ -20,24 +20,24 @@ use Rattle.sum_cantor.specs.declared.composing.Mumford.{Mumford}
 use Rattle.sum_cantor.specs.composing.Pairs.{OnCurvePair}
 use Rattle.sum_cantor.specs.Reducing.{ToSum, Summed}
 use Rattle.curve.specs.declared.Curve.{Curve}
-use Rattle.curve.specs.Curves.{curve_of, Sound, Holds, Gives}
+use Rattle.curve.specs.Curves.{curve_of, equation_of, Holds, Gives}
 use Rattle.curve.proofs.Contains.{accepted}
-use Rattle.curve.specs.polynomials.Few.{OfCurve}
+use Rattle.curve.specs.polynomials.Few.{OfEquation}
 use Rattle.sum_plain.specs.Pairs.{AsPair, FromPair}
 use Rattle.sum_plain.proofs.Chain.{composed_by, composed_at, reached_by}
 
-module _ (c : Curve) (d : Divisor) (x : Mumford) (hx : AsPair c.m d x) where
-  u_is : u_of (curve_of c) (pair c.m d) ≡ pol c.m x.u
+module _ (c : Curve) (d : Divisor) (x : Mumford) (hx : AsPair c.prime.m d x) where
+  u_is : u_of (curve_of c) (pair c.prime.m d) ≡ pol c.prime.m x.u
   unfolding pair
   u_is = sym hx.u_is
 
-  v_is : v_of (curve_of c) (pair c.m d) ≡ pol c.m x.v
+  v_is : v_of (curve_of c) (pair c.prime.m d) ≡ pol c.prime.m x.v
   unfolding pair
   v_is = sym hx.v_is
 
-module _ (c : Curve) (h : Sound c) (q : Poly) (hq : OfCurve c q) where
+module _ (c : Curve) (q : Poly) (hq : OfEquation (equation_of c) q) where
   abbrev m : Modulus
-  m = c.m
+  m = c.prime.m
 
   open P m use {add as ◌+P◌, mul as ◌*P◌}
 
@@ -65,7 +65,7 @@ module _ (c : Curve) (h : Sound c) (q : Poly) (hq : OfCurve c q) where
     pub to_sum : ToSum m q c.g x y
     to_sum = record {
       ok_f = hq.ok;
-      genus = h.most;
+      genus = c.genus.most;
       odd = hq.odd;
       left = fine a x hx ha;
       right = fine b y hy hb;
@@ -77,7 +77,7 @@ module _ (c : Curve) (h : Sound c) (q : Poly) (hq : OfCurve c q) where
       pub sum_gives : (r : Divisor) → FromPair m z r → Gives c r (sum (curve_of c) (pair m a) (pair m b))
       sum_gives r hr = record {
         holds = record { held = hr.held; valid = vr };
-        is = sym (is_sum (curve_of c) (accepted c h) (pair m a) (pair m b) (pair m r) ha.valid hb.valid vr composed reached);
+        is = sym (is_sum (curve_of c) (accepted c) (pair m a) (pair m b) (pair m r) ha.valid hb.valid vr composed reached);
       }
         where
           vr : Valid (curve_of c) (pair m r)
@@ -91,5 +91,5 @@ module _ (c : Curve) (h : Sound c) (q : Poly) (hq : OfCurve c q) where
           reached = subst (λ t. Reached (curve_of c) (pol m hz.mid.u) (pol m hz.mid.v) t (v_of (curve_of c) (pair m r))) (sym (u_is c r z hr.is))
               (subst (λ t. Reached (curve_of c) (pol m hz.mid.u) (pol m hz.mid.v) (pol m z.u) t) (sym (v_is c r z hr.is)) (reached_by c q hq hz.reduced.steps))
 
-pub double-gives : (c : Curve) (a r : Divisor) → Gives c r (sum (curve_of c) (pair c.m a) (pair c.m a)) → Gives c r (double (curve_of c) (pair c.m a))
-double-gives c a r k = record { holds = k.holds; is = k.is ∙ sym (double_is (curve_of c) (pair c.m a)) }
+pub double-gives : (c : Curve) (a r : Divisor) → Gives c r (sum (curve_of c) (pair c.prime.m a) (pair c.prime.m a)) → Gives c r (double (curve_of c) (pair c.prime.m a))
+double-gives c a r k = record { holds = k.holds; is = k.is ∙ sym (double_is (curve_of c) (pair c.prime.m a)) }

@@ -7,7 +7,7 @@ ghost use Rattle.rules.specs.Sum.{sum, double};
 ghost use Rattle.field.specs.Residues.{Settles};
 ghost use Rattle.poly.specs.Polys.{pol, Ok};
 ghost use Rattle.divisor.specs.Divisors.{pair, Held};
-ghost use Rattle.curve.specs.Curves.{curve_of, Sound, Holds, Gives};
+ghost use Rattle.curve.specs.Curves.{curve_of, Holds, Gives};
 ghost use Rattle.sum_plain.specs.Pairs.{AsPair, ToDivisor, FromPair};
 
 use curve::Curve;
@@ -118,22 +118,22 @@ fn divisor_of(x: Mumford, m: Modulus) -> Divisor
 }
 
 pub fn sum(c: Curve, a: Divisor, b: Divisor) -> Divisor
-    requires { Sound c × (Holds c a × Holds c b) }
-    ensures { Gives c result (sum (curve_of c) (pair c.m a) (pair c.m b)) }
+    requires { Holds c a × Holds c b }
+    ensures { Gives c result (sum (curve_of c) (pair c.prime.m a) (pair c.prime.m b)) }
 {
-    let m = c.m;
-    let f = curve::polynomials::f_of(c);
+    let m = c.prime.m;
+    let f = curve::polynomials::f_of(c.equation());
     let x = pair_of(a, m);
     let y = pair_of(b, m);
-    divisor_of(sum_cantor::sum(f, c.g, x, y, m), m)
+    divisor_of(sum_cantor::sum(f, c.g, x, y, c.prime), m)
 }
 
 pub fn double(c: Curve, a: Divisor) -> Divisor
-    requires { Sound c × Holds c a }
-    ensures { Gives c result (double (curve_of c) (pair c.m a)) }
+    requires { Holds c a }
+    ensures { Gives c result (double (curve_of c) (pair c.prime.m a)) }
 {
-    let m = c.m;
-    let f = curve::polynomials::f_of(c);
+    let m = c.prime.m;
+    let f = curve::polynomials::f_of(c.equation());
     let x = pair_of(a, m);
-    divisor_of(sum_cantor::double(f, c.g, x, m), m)
+    divisor_of(sum_cantor::double(f, c.g, x, c.prime), m)
 }

@@ -1,10 +1,16 @@
 -- Document 01, "Numbers the tablet shows": each call answers a number, a place and the length written, and its counts. The rules' answers as the
--- exported structs have them; and the values of the calls' one enum.
-use Rattle.std.specs.Prelude.{ℕ, ◌<◌, []}
+-- exported structs have them; and a call's `Result` as its struct.
+use Rattle.std.specs.Prelude.{ℕ, Option, Result, []}
 use Rattle.rules.specs.Lists.{Repeat}
 use Rattle.rules.specs.Calls.{Answer as RuleAnswer, Reply}
-use Rattle.call_answer.specs.declared.Answer.{Answer}
-use Rattle.call_answer.specs.Answers.{Values, values_of}
+use Rattle.refusals.specs.declared.Refused.{Refused}
+use Rattle.call_answer.specs.Answers.{reply}
+use Rattle.call_multiply.specs.declared.Multiplied.{Multiplied}
+use Rattle.call_total.specs.declared.Totalled.{Totalled}
+use Rattle.call_batch.specs.declared.places.Repeat.{Repeat as Found}
+use Rattle.call_batch.specs.repeat.Rows.{places_of}
+use Rattle.call_batch.specs.repeat.Repeats.{no_repeat}
+use Rattle.call_pole.specs.declared.PoleRead.{PoleRead}
 use Rattle.tablet_answers.specs.declared.YubiAnswer.{YubiAnswer}
 use Rattle.tablet_answers.specs.declared.YubiTotal.{YubiTotal}
 use Rattle.tablet_answers.specs.declared.YubiRepeat.{YubiRepeat}
@@ -27,22 +33,21 @@ flat_repeat r = record { number = r.answer.number; place = r.answer.place; lengt
 abbrev pub flat_pole : Reply ℕ → YubiPole
 flat_pole r = record { number = r.answer.number; place = r.answer.place; length = r.answer.length; pole = r.own }
 
--- ---- the values of the enum, which say nothing of the output
-abbrev pub as_answer : Values → YubiAnswer
-as_answer v = flat v.0
+-- ---- a call's result, which says nothing of the output
+abbrev pub as_check : Result (Unit {0}) Refused → YubiAnswer
+as_check r = flat (reply (tt {0}) (λ x. (0, x)) r []).answer
 
-abbrev pub as_multiple : Values → YubiMultiple
-as_multiple v = flat_multiple (record { answer = v.0; out = []; own = v.1 })
+abbrev pub as_answer : Result ℕ Refused → YubiAnswer
+as_answer r = flat (reply (tt {0}) (λ n. (n, tt)) r []).answer
 
-abbrev pub as_total : Values → YubiTotal
-as_total v = flat_total (record { answer = v.0; out = []; own = v.1.0 })
+abbrev pub as_multiple : Result Multiplied Refused → YubiMultiple
+as_multiple r = flat_multiple (reply (0, 0) (λ t. (t.length, (t.doublings, t.additions))) r [])
 
-abbrev pub as_repeat : Values → YubiRepeat
-as_repeat v = flat_repeat (record { answer = v.0; out = []; own = record { first = v.1.0; second = v.1.1 } })
+abbrev pub as_total : Result Totalled Refused → YubiTotal
+as_total r = flat_total (reply 0 (λ t. (t.length, t.count)) r [])
 
-abbrev pub as_pole : Values → YubiPole
-as_pole v = flat_pole (record { answer = v.0; out = []; own = v.1.0 })
+abbrev pub as_repeat : Result (Option Found) Refused → YubiRepeat
+as_repeat r = flat_repeat (reply no_repeat (λ x. (0, places_of x)) r [])
 
--- the call's own number has 32 bits
-abbrev pub Fits32 : Answer → Type 0
-Fits32 a = (values_of a).1.0 < 4294967296
+abbrev pub as_pole : Result PoleRead Refused → YubiPole
+as_pole r = flat_pole (reply 0 (λ x. (x.length, x.pole)) r [])

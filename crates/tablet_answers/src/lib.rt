@@ -1,14 +1,17 @@
-// The answers as C has them, a repr(C) struct for each kind of call, and the calls' one enum flattened to each.
+// The answers as C has them, a repr(C) struct for each kind of call, and each call's `Result` flattened to its own.
 #![tactic(auto)]
 
 ghost use Rattle.std.specs.Prelude.{◌≡◌};
-ghost use Rattle.call_answer.specs.Answers.{values_of};
-ghost use Rattle.tablet_answers.specs.Flat.{as_answer, as_multiple, as_total, as_repeat, as_pole, Fits32};
+ghost use Rattle.tablet_answers.specs.Flat.{as_check, as_answer, as_multiple, as_total, as_repeat, as_pole};
 
-use call_answer::Answer;
+use call_batch::places::Repeat;
+use call_multiply::Multiplied;
+use call_pole::PoleRead;
+use call_total::Totalled;
+use refusals::Refused;
 
 #[repr(C)]
-#[derive(Clone, Copy)]
+#[derive(Clone, Copy, Debug, PartialEq, Eq)]
 pub struct YubiAnswer {
     pub number: u64,
     pub place: u64,
@@ -16,7 +19,7 @@ pub struct YubiAnswer {
 }
 
 #[repr(C)]
-#[derive(Clone, Copy)]
+#[derive(Clone, Copy, Debug, PartialEq, Eq)]
 pub struct YubiMultiple {
     pub number: u64,
     pub place: u64,
@@ -26,7 +29,7 @@ pub struct YubiMultiple {
 }
 
 #[repr(C)]
-#[derive(Clone, Copy)]
+#[derive(Clone, Copy, Debug, PartialEq, Eq)]
 pub struct YubiTotal {
     pub number: u64,
     pub place: u64,
@@ -35,7 +38,7 @@ pub struct YubiTotal {
 }
 
 #[repr(C)]
-#[derive(Clone, Copy)]
+#[derive(Clone, Copy, Debug, PartialEq, Eq)]
 pub struct YubiRepeat {
     pub number: u64,
     pub place: u64,
@@ -45,7 +48,7 @@ pub struct YubiRepeat {
 }
 
 #[repr(C)]
-#[derive(Clone, Copy)]
+#[derive(Clone, Copy, Debug, PartialEq, Eq)]
 pub struct YubiPole {
     pub number: u64,
     pub place: u64,
@@ -53,100 +56,137 @@ pub struct YubiPole {
     pub pole: u32,
 }
 
-pub fn flatten(a: Answer) -> YubiAnswer
-    ensures { result ≡ as_answer (values_of a) }
-{
-    match a {
-        Answer::Done(n, _, _) => YubiAnswer {
-            number: 0,
-            place: 0,
-            length: n,
-        },
-        Answer::Refused(n, k) => YubiAnswer {
-            number: n,
-            place: k,
-            length: 0,
-        },
+// A check writes nothing.
+impl From<Result<(), Refused>> for YubiAnswer {
+    ghost from_gives = { λ r a. a ≡ as_check r };
+
+    fn from(r: Result<(), Refused>) -> YubiAnswer {
+        match r {
+            Ok(()) => YubiAnswer {
+                number: 0,
+                place: 0,
+                length: 0,
+            },
+            Err(e) => YubiAnswer {
+                number: u64::from(e.by),
+                place: e.place,
+                length: 0,
+            },
+        }
     }
 }
 
-pub fn flatten_multiple(a: Answer) -> YubiMultiple
-    ensures { result ≡ as_multiple (values_of a) }
-{
-    match a {
-        Answer::Done(n, d, s) => YubiMultiple {
-            number: 0,
-            place: 0,
-            length: n,
-            doublings: d,
-            additions: s,
-        },
-        Answer::Refused(n, k) => YubiMultiple {
-            number: n,
-            place: k,
-            length: 0,
-            doublings: 0,
-            additions: 0,
-        },
+impl From<Result<u64, Refused>> for YubiAnswer {
+    ghost from_gives = { λ r a. a ≡ as_answer r };
+
+    fn from(r: Result<u64, Refused>) -> YubiAnswer {
+        match r {
+            Ok(length) => YubiAnswer {
+                number: 0,
+                place: 0,
+                length,
+            },
+            Err(e) => YubiAnswer {
+                number: u64::from(e.by),
+                place: e.place,
+                length: 0,
+            },
+        }
     }
 }
 
-pub fn flatten_total(a: Answer) -> YubiTotal
-    ensures { result ≡ as_total (values_of a) }
-{
-    match a {
-        Answer::Done(n, k, _) => YubiTotal {
-            number: 0,
-            place: 0,
-            length: n,
-            count: k,
-        },
-        Answer::Refused(n, k) => YubiTotal {
-            number: n,
-            place: k,
-            length: 0,
-            count: 0,
-        },
+impl From<Result<Multiplied, Refused>> for YubiMultiple {
+    ghost from_gives = { λ r a. a ≡ as_multiple r };
+
+    fn from(r: Result<Multiplied, Refused>) -> YubiMultiple {
+        match r {
+            Ok(t) => YubiMultiple {
+                number: 0,
+                place: 0,
+                length: t.length,
+                doublings: t.doublings,
+                additions: t.additions,
+            },
+            Err(e) => YubiMultiple {
+                number: u64::from(e.by),
+                place: e.place,
+                length: 0,
+                doublings: 0,
+                additions: 0,
+            },
+        }
     }
 }
 
-pub fn flatten_repeat(a: Answer) -> YubiRepeat
-    ensures { result ≡ as_repeat (values_of a) }
-{
-    match a {
-        Answer::Done(n, i, j) => YubiRepeat {
-            number: 0,
-            place: 0,
-            length: n,
-            first: i,
-            second: j,
-        },
-        Answer::Refused(n, k) => YubiRepeat {
-            number: n,
-            place: k,
-            length: 0,
-            first: 0,
-            second: 0,
-        },
+impl From<Result<Totalled, Refused>> for YubiTotal {
+    ghost from_gives = { λ r a. a ≡ as_total r };
+
+    fn from(r: Result<Totalled, Refused>) -> YubiTotal {
+        match r {
+            Ok(t) => YubiTotal {
+                number: 0,
+                place: 0,
+                length: t.length,
+                count: t.count,
+            },
+            Err(e) => YubiTotal {
+                number: u64::from(e.by),
+                place: e.place,
+                length: 0,
+                count: 0,
+            },
+        }
     }
 }
 
-pub fn flatten_pole(a: Answer) -> YubiPole
-    requires { Fits32 a }
-    ensures { result ≡ as_pole (values_of a) }
-{
-    match a {
-        Answer::Done(n, pole, _) => YubiPole {
-            number: 0,
-            place: 0,
-            length: n,
-            pole: pole as u32,
-        },
-        Answer::Refused(n, k) => YubiPole {
-            number: n,
-            place: k,
-            length: 0,
-            pole: 0,
-        },
+// Nothing is written; both places are 0 where nothing is repeated.
+impl From<Result<Option<Repeat>, Refused>> for YubiRepeat {
+    ghost from_gives = { λ r a. a ≡ as_repeat r };
+
+    fn from(r: Result<Option<Repeat>, Refused>) -> YubiRepeat {
+        match r {
+            Ok(Some(x)) => YubiRepeat {
+                number: 0,
+                place: 0,
+                length: 0,
+                first: x.first,
+                second: x.second,
+            },
+            Ok(None) => YubiRepeat {
+                number: 0,
+                place: 0,
+                length: 0,
+                first: 0,
+                second: 0,
+            },
+            Err(e) => YubiRepeat {
+                number: u64::from(e.by),
+                place: e.place,
+                length: 0,
+                first: 0,
+                second: 0,
+            },
+        }
+    }
+}
+
+impl From<Result<PoleRead, Refused>> for YubiPole {
+    ghost from_gives = { λ r a. a ≡ as_pole r };
+
+    fn from(r: Result<PoleRead, Refused>) -> YubiPole {
+        match r {
+            Ok(t) => YubiPole {
+                number: 0,
+                place: 0,
+                length: t.length,
+                pole: t.pole,
+            },
+            Err(e) => YubiPole {
+                number: u64::from(e.by),
+                place: e.place,
+                length: 0,
+                pole: 0,
+            },
+        }
     }
 }

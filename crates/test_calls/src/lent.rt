@@ -15,8 +15,5 @@ pub fn scan_own(t: YubiRunning, curve: &[u8], record: &[u8]) -> Lent
 {
     let mut total = t;
     let answer = tablet::yubi_scan_lent(&mut total, curve, record);
-    Lent {
-        total: total,
-        answer: answer,
-    }
+    Lent { total, answer }
 }

@@ -2,138 +2,143 @@
 // say no more than safety asks.
 #![tactic(auto)]
 
+pub mod lent;
+pub mod lines;
+pub mod operation;
+
+use crate::lines::{checked, multiplied, pole_read, repeated, scanned, totalled, written};
+use crate::operation::Operation;
 use scan_flat::YubiScanned;
 use scan_total::Running;
 use tablet_answers::{YubiAnswer, YubiMultiple};
 
-pub mod lent;
-pub mod lines;
+// What a frame asks. Where a scan has its running total, an order has its primes, and a written file its pole's number.
+#[derive(Clone, Copy)]
+pub struct Call<'a> {
+    pub operation: Operation,
+    pub curve: &'a [u8],
+    pub first: &'a [u8],
+    pub second: &'a [u8],
+    pub total: &'a [u8],
+}
 
-fn scan(text: &mut [u8], curve: &[u8], record: &[u8], total: &[u8]) -> usize {
-    if total.len() != 68 {
-        return 0;
-    }
-    let a = tablet::yubi_scan(lines::running(total), curve, record);
-    lines::scanned(text, a)
+fn scan(text: &mut [u8], call: Call) -> Option<usize> {
+    let t = lines::running(call.total)?;
+    Some(scanned(text, tablet::yubi_scan(t, call.curve, call.first)))
 }
 
 // The same scan into a total that is lent. A total of zeros, but for its pole, is the library's own fresh one.
-fn scan_lent(text: &mut [u8], curve: &[u8], record: &[u8], total: &[u8]) -> usize {
-    if total.len() != 68 {
-        return 0;
-    }
-    let mut t = lines::running(total);
+fn scan_lent(text: &mut [u8], call: Call) -> Option<usize> {
+    let mut t = lines::running(call.total)?;
     if lines::is_fresh(t) {
         t = tablet::yubi_fresh_total(t.pole);
     }
-    let s = lent::scan_own(t, curve, record);
-    let a = s.answer;
-    let after = s.total;
-    lines::scanned(
-        text,
-        YubiScanned {
-            number: a.number,
-            place: a.place,
-            length: a.length,
-            total: after,
-        },
-    )
+    let s = lent::scan_own(t, call.curve, call.first);
+    let a = YubiScanned {
+        number: s.answer.number,
+        place: s.answer.place,
+        length: s.answer.length,
+        total: s.total,
+    };
+    Some(scanned(text, a))
 }
 
 // And into a lent total inside Rattle, from a fresh one; any other is left to C's.
-fn scan_inside(text: &mut [u8], curve: &[u8], record: &[u8], total: &[u8]) -> usize {
-    if total.len() != 68 {
-        return 0;
-    }
-    let t = lines::running(total);
+fn scan_inside(text: &mut [u8], call: Call) -> Option<usize> {
+    let t = lines::running(call.total)?;
     if !lines::is_fresh(t) {
-        return scan(text, curve, record, total);
+        return scan(text, call);
     }
-    let s = scan_record::lent::scan_own(Running::fresh(t.pole), curve, record);
-    lines::scanned(
-        text,
-        YubiScanned {
-            number: s.report.number,
-            place: s.report.place,
-            length: 0,
-            total: scan_flat::flatten_running(s.total),
-        },
-    )
+    let s = scan_record::lent::scan_own(Running::fresh(t.pole), call.curve, call.first);
+    let (number, place) = match s.report {
+        Ok(()) => (0, 0),
+        Err(r) => (r.by.into(), r.place),
+    };
+    let a = YubiScanned {
+        number,
+        place,
+        length: 0,
+        total: s.total.into(),
+    };
+    Some(scanned(text, a))
 }
 
-// The calls with an output that answer number, place and length alone: 3 to 7, 16 and 17.
-fn write(operation: u8, curve: &[u8], first: &[u8], second: &[u8], out: &mut [u8]) -> YubiAnswer {
-    match operation {
-        3 => tablet::yubi_rewrite_curve(curve, out),
-        4 => tablet::yubi_rewrite_divisor(curve, first, out),
-        5 => tablet::yubi_add(curve, first, second, out),
-        6 => tablet::yubi_double(curve, first, out),
-        7 => tablet::yubi_opposite(curve, first, out),
-        16 => tablet::yubi_split(curve, first, out),
-        _ => tablet::yubi_next_divisor(curve, first, out),
+fn write_file(text: &mut [u8], call: Call, out: &mut [u8]) -> Option<usize> {
+    let pole = lines::pole(call.total)?;
+    let a = tablet::yubi_write_pole_file(pole, call.curve, call.first, out);
+    Some(written(text, a, out))
+}
+
+// Those with an output that answer number, place and length alone; None of any other.
+fn write(call: Call, out: &mut [u8]) -> Option<YubiAnswer> {
+    let a = match call.operation {
+        Operation::RewriteCurve => tablet::yubi_rewrite_curve(call.curve, out),
+        Operation::RewriteDivisor => tablet::yubi_rewrite_divisor(call.curve, call.first, out),
+        Operation::Add => tablet::yubi_add(call.curve, call.first, call.second, out),
+        Operation::Double => tablet::yubi_double(call.curve, call.first, out),
+        Operation::Opposite => tablet::yubi_opposite(call.curve, call.first, out),
+        Operation::Split => tablet::yubi_split(call.curve, call.first, out),
+        Operation::NextDivisor => tablet::yubi_next_divisor(call.curve, call.first, out),
+        _ => return None,
+    };
+    Some(a)
+}
+
+// Both multiply calls; None of any other.
+fn multiply(call: Call, out: &mut [u8]) -> Option<YubiMultiple> {
+    let a = match call.operation {
+        Operation::Multiply => { tablet::yubi_multiply(call.curve, call.first, call.second, out) }
+        Operation::InversionFree => {
+            tablet::yubi_multiply_inversion_free(call.curve, call.first, call.second, out)
+        }
+        _ => return None,
+    };
+    Some(a)
+}
+
+fn check(call: Call) -> Option<YubiAnswer> {
+    match call.operation {
+        Operation::CheckCurve => Some(tablet::yubi_check_curve(call.curve)),
+        Operation::CheckDivisor => Some(tablet::yubi_check_divisor(call.curve, call.first)),
+        Operation::CheckOrder => Some(tablet::yubi_check_order(
+            call.curve,
+            call.first,
+            call.second,
+            call.total,
+        )),
+        _ => None,
     }
 }
 
-// Both multiply calls: 8 and 12.
-fn multiply(
-    operation: u8,
-    curve: &[u8],
-    first: &[u8],
-    second: &[u8],
-    out: &mut [u8],
-) -> YubiMultiple {
-    match operation {
-        8 => tablet::yubi_multiply(curve, first, second, out),
-        _ => tablet::yubi_multiply_inversion_free(curve, first, second, out),
+// The frame's line at the front of the text; answers its length, None where a scan's total isn't 68 bytes or a written file's pole 4.
+pub fn line(call: Call, out: &mut [u8], text: &mut [u8]) -> Option<usize> {
+    if let Some(a) = check(call) {
+        return Some(checked(text, a));
     }
-}
-
-// The pole's number stands where a scan has its total.
-fn write_file(text: &mut [u8], curve: &[u8], batch: &[u8], out: &mut [u8], pole: &[u8]) -> usize {
-    if pole.len() != 4 {
-        return 0;
+    if let Some(a) = write(call, out) {
+        return Some(written(text, a, out));
     }
-    let a = tablet::yubi_write_pole_file(lines::pole(pole), curve, batch, out);
-    lines::written(text, a, out)
-}
-
-// The frame's line at the front of the text; answers its length, 0 where there is no such operation, a scan's total isn't 68 bytes or a written
-// file's pole 4.
-pub fn line(
-    operation: u8,
-    curve: &[u8],
-    first: &[u8],
-    second: &[u8],
-    out: &mut [u8],
-    total: &[u8],
-    text: &mut [u8],
-) -> usize {
-    match operation {
-        0 => test_text::label(text, curve),
-        1 => lines::checked(text, tablet::yubi_check_curve(curve)),
-        2 => lines::checked(text, tablet::yubi_check_divisor(curve, first)),
-        3..=7 | 16 | 17 => {
-            let a = write(operation, curve, first, second, out);
-            lines::written(text, a, out)
+    if let Some(a) = multiply(call, out) {
+        return Some(multiplied(text, a, out));
+    }
+    match call.operation {
+        Operation::Label => Some(test_text::label(text, call.curve)),
+        Operation::TotalBatch => {
+            let a = tablet::yubi_total_batch(call.curve, call.first, out);
+            Some(totalled(text, a, out))
         }
-        8 | 12 => {
-            let a = multiply(operation, curve, first, second, out);
-            lines::multiplied(text, a, out)
+        Operation::FirstRepeat => {
+            let a = tablet::yubi_first_repeat(call.curve, call.first);
+            Some(repeated(text, a))
         }
-        9 => {
-            let a = tablet::yubi_total_batch(curve, first, out);
-            lines::totalled(text, a, out)
+        Operation::Scan => scan(text, call),
+        Operation::ScanLent => scan_lent(text, call),
+        Operation::ScanInside => scan_inside(text, call),
+        Operation::WritePoleFile => write_file(text, call, out),
+        Operation::ReadPoleFile => {
+            let a = tablet::yubi_read_pole_file(call.first, out);
+            Some(pole_read(text, a, out))
         }
-        10 => lines::repeated(text, tablet::yubi_first_repeat(curve, first)),
-        11 => scan(text, curve, first, total),
-        13 => scan_lent(text, curve, first, total),
-        14 => scan_inside(text, curve, first, total),
-        15 => lines::checked(text, tablet::yubi_check_order(curve, first, second, total)),
-        18 => write_file(text, curve, first, out, total),
-        19 => {
-            let a = tablet::yubi_read_pole_file(first, out);
-            lines::pole_read(text, a, out)
-        }
-        _ => 0,
+        _ => None,
     }
 }

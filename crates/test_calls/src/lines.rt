@@ -1,38 +1,34 @@
 // Each of C's answers as the line that tools/README.md says, a running total by its 68 bytes and a pole's number by its 4. For tests: the contracts
 // say no more than safety asks.
-ghost use Rattle.std.specs.Prelude.{◌≡◌, length};
-
 use scan_flat::{YubiRunning, YubiScanned};
 use tablet_answers::{YubiAnswer, YubiMultiple, YubiPole, YubiRepeat, YubiTotal};
 
 pub fn checked(text: &mut [u8], a: YubiAnswer) -> usize {
-    let values = [a.number, a.place, a.length];
-    test_text::plain(text, &values)
-}
-
-pub fn written(text: &mut [u8], a: YubiAnswer, out: &[u8]) -> usize {
-    let values = [a.number, a.place, a.length];
-    test_text::with_output(text, &values, out)
-}
-
-pub fn multiplied(text: &mut [u8], a: YubiMultiple, out: &[u8]) -> usize {
-    let values = [a.number, a.place, a.length, a.doublings, a.additions];
-    test_text::with_output(text, &values, out)
-}
-
-pub fn totalled(text: &mut [u8], a: YubiTotal, out: &[u8]) -> usize {
-    let values = [a.number, a.place, a.length, a.count];
-    test_text::with_output(text, &values, out)
+    test_text::plain(text, &[a.number, a.place, a.length])
 }
 
 pub fn repeated(text: &mut [u8], a: YubiRepeat) -> usize {
-    let values = [a.number, a.place, a.length, a.first, a.second];
-    test_text::plain(text, &values)
+    test_text::plain(text, &[a.number, a.place, a.length, a.first, a.second])
+}
+
+pub fn written(text: &mut [u8], a: YubiAnswer, out: &[u8]) -> usize {
+    test_text::with_output(text, &[a.number, a.place, a.length], out)
+}
+
+pub fn multiplied(text: &mut [u8], a: YubiMultiple, out: &[u8]) -> usize {
+    test_text::with_output(
+        text,
+        &[a.number, a.place, a.length, a.doublings, a.additions],
+        out,
+    )
+}
+
+pub fn totalled(text: &mut [u8], a: YubiTotal, out: &[u8]) -> usize {
+    test_text::with_output(text, &[a.number, a.place, a.length, a.count], out)
 }
 
 pub fn pole_read(text: &mut [u8], a: YubiPole, out: &[u8]) -> usize {
-    let values = [a.number, a.place, a.length, a.pole as u64];
-    test_text::with_output(text, &values, out)
+    test_text::with_output(text, &[a.number, a.place, a.length, a.pole.into()], out)
 }
 
 pub fn scanned(text: &mut [u8], a: YubiScanned) -> usize {
@@ -49,15 +45,17 @@ pub fn scanned(text: &mut [u8], a: YubiScanned) -> usize {
         t.v1,
         t.v2,
         t.count,
-        t.pole as u64,
+        t.pole.into(),
     ];
     test_text::plain(text, &values)
 }
 
-pub fn running(s: &[u8]) -> YubiRunning
-    requires { length s.now ≡ 68 }
-{
-    YubiRunning {
+// A running total by its 68 bytes; None of any other number of bytes.
+pub fn running(s: &[u8]) -> Option<YubiRunning> {
+    if s.len() != 68 {
+        return None;
+    }
+    Some(YubiRunning {
         weight: record_bytes::read64(s, 0),
         u0: record_bytes::read64(s, 8),
         u1: record_bytes::read64(s, 16),
@@ -67,13 +65,13 @@ pub fn running(s: &[u8]) -> YubiRunning
         v2: record_bytes::read64(s, 48),
         count: record_bytes::read64(s, 56),
         pole: record_bytes::read32(s, 64) as u32,
-    }
+    })
 }
 
-pub fn pole(s: &[u8]) -> u32
-    requires { length s.now ≡ 4 }
-{
-    record_bytes::read32(s, 0) as u32
+// A pole's number by its 4 bytes; None of any other number of bytes.
+pub fn pole(s: &[u8]) -> Option<u32> {
+    let bytes: [u8; 4] = s.try_into().ok()?;
+    Some(u32::from_be_bytes(bytes))
 }
 
 pub fn is_fresh(t: YubiRunning) -> bool {

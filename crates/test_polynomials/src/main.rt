@@ -4,10 +4,9 @@
 #![tactic(auto)]
 
 ghost use Rattle.std.specs.Prelude.{◌+◌, ◌<◌, ◌≤◌, IfOk};
-ghost use Rattle.field.specs.Residues.{Good};
 ghost use Rattle.poly.specs.Polys.{Ok};
 
-use field::{Modulus, ModulusRead};
+use field::{Modulus, PrimeModulus};
 use poly::Poly;
 use std::io;
 
@@ -16,10 +15,7 @@ const MOST: usize = 65536;
 
 // The number at at; 0 past the end.
 fn number(s: &[u8], at: usize) -> u64 {
-    if s.len() < 4 {
-        return 0;
-    }
-    if s.len() - 4 < at {
+    if s.len() < 4 || s.len() - 4 < at {
         return 0;
     }
     record_bytes::read32(s, at)
@@ -29,14 +25,11 @@ fn length(s: &[u8], at: usize) -> usize
     ensures { result ≤ 10 }
 {
     let n = number(s, at);
-    if n <= 10 {
-        return n as usize;
-    }
-    0
+    if n <= 10 { n as usize } else { 0 }
 }
 
 fn read_poly(s: &[u8], at: usize, m: Modulus) -> Poly
-    requires { Good m × (at ≤ 100000) }
+    requires { at ≤ 100000 }
     ensures { Ok m result }
 {
     let n = length(s, at);
@@ -77,70 +70,73 @@ fn sums(rt: &impl Print, a: Poly, b: Poly, m: Modulus) -> io::Result<()>
 }
 
 // Where the product fits.
-fn product(rt: &impl Print, a: Poly, b: Poly, m: Modulus) -> io::Result<()>
-    requires { Ok m a × Ok m b }
+fn product(rt: &impl Print, a: Poly, b: Poly, prime: PrimeModulus) -> io::Result<()>
+    requires { Ok prime.m a × Ok prime.m b }
 {
-    let i = a.n;
-    let j = b.n;
-    if i + j <= 12 {
-        show(rt, "product", a.mul(b, m), m)
+    if a.n + b.n <= 12 {
+        show(rt, "product", a.mul(b, prime), prime.m)
     } else {
         println!(rt; "product none")
     }
 }
 
 // By b made monic.
-fn division(rt: &impl Print, a: Poly, b: Poly, m: Modulus) -> io::Result<()>
-    requires { Ok m a × Ok m b }
+fn division(rt: &impl Print, a: Poly, b: Poly, prime: PrimeModulus) -> io::Result<()>
+    requires { Ok prime.m a × Ok prime.m b }
 {
+    let m = prime.m;
     if b.n == 0 {
         return println!(rt; "quotient none");
     }
-    let d = a.div_rem(b.monic(m), m);
+    let d = a.div_rem(b.monic(prime), m);
     show(rt, "quotient", d.quotient, m)?;
     show(rt, "remainder", d.remainder, m)
 }
 
-fn gcds(rt: &impl Print, a: Poly, b: Poly, m: Modulus) -> io::Result<()>
-    requires { Ok m a × Ok m b }
+fn gcds(rt: &impl Print, a: Poly, b: Poly, prime: PrimeModulus) -> io::Result<()>
+    requires { Ok prime.m a × Ok prime.m b }
 {
-    show(rt, "gcd", poly_euclid::gcd(a, b, m), m)?;
-    let x = poly_euclid::xgcd(a, b, m);
+    let m = prime.m;
+    show(rt, "gcd", poly_euclid::gcd(a, b, prime), m)?;
+    let x = poly_euclid::xgcd(a, b, prime);
     show(rt, "again", x.r, m)?;
     show(rt, "s", x.s, m)?;
     show(rt, "t", x.t, m)
 }
 
-fn alone(rt: &impl Print, a: Poly, m: Modulus) -> io::Result<()>
-    requires { Ok m a }
+fn alone(rt: &impl Print, a: Poly, prime: PrimeModulus) -> io::Result<()>
+    requires { Ok prime.m a }
 {
+    let m = prime.m;
     show(rt, "derivative", a.derivative(m), m)?;
-    if poly_euclid::is_square_free(a, m) {
+    if poly_euclid::is_square_free(a, prime) {
         println!(rt; "square-free")
     } else {
         println!(rt; "repeated factor")
     }
 }
 
-fn pair(rt: &impl Print, a: Poly, b: Poly, m: Modulus) -> io::Result<()>
-    requires { Ok m a × Ok m b }
+fn pair(rt: &impl Print, a: Poly, b: Poly, prime: PrimeModulus) -> io::Result<()>
+    requires { Ok prime.m a × Ok prime.m b }
 {
+    let m = prime.m;
     show(rt, "a", a, m)?;
     show(rt, "b", b, m)?;
     sums(rt, a, b, m)?;
-    product(rt, a, b, m)?;
-    division(rt, a, b, m)?;
-    gcds(rt, a, b, m)?;
-    alone(rt, a, m)
+    product(rt, a, b, prime)?;
+    division(rt, a, b, prime)?;
+    gcds(rt, a, b, prime)?;
+    alone(rt, a, prime)
 }
 
-fn modulo(rt: &impl Print, s: &[u8], at: usize, next: usize, m: Modulus) -> io::Result<()>
-    requires { Good m × (at ≤ 100000) × (next ≤ 100000) }
+fn modulo(rt: &impl Print, s: &[u8], at: usize, next: usize, prime: PrimeModulus) -> io::Result<()>
+    requires { (at ≤ 100000) × (next ≤ 100000) }
 {
+    let m = prime.m;
     print!(rt; "p")?;
     item(rt, m.number())?;
     println!(rt;)?;
-    pair(rt, read_poly(s, at, m), read_poly(s, next, m), m)
+    pair(rt, read_poly(s, at, m), read_poly(s, next, m), prime)
 }
 
 // One pair, and where the next one stands.
@@ -150,9 +146,8 @@ fn case(rt: &impl Print, s: &[u8], at: usize) -> io::Result<usize>
 {
     let first = at + 4;
     let second = first + 4 * (length(s, first) + 1);
-    match Modulus::read(number(s, at)) {
-        ModulusRead::Modulo(m) => modulo(rt, s, first, second, m)?,
-        ModulusRead::NoPrime => {}
+    if let Some(prime) = Modulus::read(number(s, at)) {
+        modulo(rt, s, first, second, prime)?;
     }
     Ok(second + 4 * (length(s, second) + 1))
 }
@@ -163,6 +158,7 @@ fn run(rt: &impl Print, s: &[u8]) -> io::Result<()> {
         return Ok(());
     }
     let mut at: usize = 0;
+    // No range: each case says where the next one begins.
     while at < end {
         at = case(rt, s, at)?;
     }
@@ -172,6 +168,6 @@ fn run(rt: &impl Print, s: &[u8]) -> io::Result<()> {
 fn main(rt: HostRuntime) -> io::Result<()> {
     // Room for one byte more, so that a text that is too long shows.
     let mut text = [0u8; MOST + 1];
-    let n = test_text::input::read(&mut rt.stdin(), &mut text)?;
-    run(&rt, &text[..n])
+    let s = test_text::input::read(&mut rt.stdin(), &mut text)?;
+    run(&rt, s)
 }

@@ -1,7 +1,7 @@
 // Residues at the edges of their range, 0 to 2p - 1: the numbers inside are 0, 1, p - 1, p, p + 1 and 2p - 1. 2^-64 modulo p, read as a residue,
 // holds 1; its opposite holds 2p - 1, and settled p - 1; a product with zero holds p. Each row has the numbers inside its operands.
-ghost use Rattle.field.specs.Constants.{Odd};
-ghost use Rattle.field.specs.Residues.{Ring, Kept};
+ghost use Rattle.field.specs.Numbers.{Odd};
+ghost use Rattle.field.specs.Residues.{Kept};
 
 use field::{Modulus, Residue};
 use std::io;
@@ -14,7 +14,6 @@ fn last(rt: &impl Print, r: Residue, m: Modulus) -> io::Result<()>
 
 // The k-th operand, where n is 2^-64 modulo p: x holds 1, y 2p - 1, z 0, w p, v p + 1.
 fn operand(k: usize, n: u64, m: Modulus) -> Residue
-    requires { Ring m }
     ensures { Kept m result }
 {
     let x = test_text::numbers::residue(n, m);
@@ -22,22 +21,14 @@ fn operand(k: usize, n: u64, m: Modulus) -> Residue
     let z = x.sub(x, m);
     let w = z.mul(z, m);
     let v = x.add(w, m);
-    if k == 0 {
-        return z;
+    match k {
+        0 => z,
+        1 => x,
+        2 => y.settle(m),
+        3 => w,
+        4 => v,
+        _ => y,
     }
-    if k == 1 {
-        return x;
-    }
-    if k == 2 {
-        return y.settle(m);
-    }
-    if k == 3 {
-        return w;
-    }
-    if k == 4 {
-        return v;
-    }
-    y
 }
 
 fn print_powers(rt: &impl Print, a: Residue, m: Modulus) -> io::Result<()>
@@ -96,18 +87,14 @@ fn print_two(rt: &impl Print, a: Residue, b: Residue, n: u64, m: Modulus) -> io:
     last(rt, a.mul(b, m), m)
 }
 
-fn print_ones(rt: &impl Print, n: u64, m: Modulus) -> io::Result<()>
-    requires { Ring m }
-{
+fn print_ones(rt: &impl Print, n: u64, m: Modulus) -> io::Result<()> {
     for k in 0..6 {
         print_one(rt, operand(k, n, m), m)?;
     }
     Ok(())
 }
 
-fn print_twos(rt: &impl Print, n: u64, m: Modulus) -> io::Result<()>
-    requires { Ring m }
-{
+fn print_twos(rt: &impl Print, n: u64, m: Modulus) -> io::Result<()> {
     for k in 0..36 {
         print_two(rt, operand(k / 6, n, m), operand(k % 6, n, m), n, m)?;
     }

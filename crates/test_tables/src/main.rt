@@ -2,9 +2,9 @@
 // operation on residues at the edges of their range. The expected text is made by tools/make/field_vectors.py, which shares no code with this.
 #![tactic(auto)]
 
-ghost use Rattle.field.specs.Residues.{Good, Kept, Settled};
+ghost use Rattle.field.specs.Residues.{Kept, Settled};
 
-use field::{Modulus, ModulusRead, Residue, ResidueRead};
+use field::{Modulus, PrimeModulus, Residue};
 use std::io;
 
 mod edges;
@@ -73,13 +73,14 @@ fn sample(p: u64, k: usize) -> u64 {
     n % p
 }
 
-fn print_inverse(rt: &impl Print, a: Residue, m: Modulus) -> io::Result<()>
-    requires { Good m × Settled m a }
+fn print_inverse(rt: &impl Print, a: Residue, prime: PrimeModulus) -> io::Result<()>
+    requires { Settled prime.m a }
 {
+    let m = prime.m;
     if a.is_zero(m) {
         println!(rt; "none")
     } else {
-        line(rt, a.inverse(m).settle(m).number(m))
+        line(rt, a.inverse(prime).settle(m).number(m))
     }
 }
 
@@ -89,9 +90,10 @@ fn print_kept(rt: &impl Print, r: Residue, m: Modulus) -> io::Result<()>
     item(rt, r.settle(m).number(m))
 }
 
-fn print_pair(rt: &impl Print, a: Residue, b: Residue, m: Modulus) -> io::Result<()>
-    requires { Good m × Settled m a × Settled m b }
+fn print_pair(rt: &impl Print, a: Residue, b: Residue, prime: PrimeModulus) -> io::Result<()>
+    requires { Settled prime.m a × Settled prime.m b }
 {
+    let m = prime.m;
     item(rt, m.number())?;
     item(rt, a.number(m))?;
     item(rt, b.number(m))?;
@@ -99,32 +101,18 @@ fn print_pair(rt: &impl Print, a: Residue, b: Residue, m: Modulus) -> io::Result
     print_kept(rt, a.sub(b, m), m)?;
     print_kept(rt, a.mul(b, m), m)?;
     print_kept(rt, a.neg(m), m)?;
-    print_inverse(rt, a, m)
+    print_inverse(rt, a, prime)
 }
 
-fn try_second(rt: &impl Print, x: Residue, b: u64, m: Modulus) -> io::Result<()>
-    requires { Good m × Settled m x }
-{
-    match Residue::read(b, m) {
-        ResidueRead::Below(y) => print_pair(rt, x, y, m),
-        ResidueRead::TooLarge => Ok(()),
-    }
-}
-
-fn try_first(rt: &impl Print, a: u64, b: u64, m: Modulus) -> io::Result<()>
-    requires { Good m }
-{
-    match Residue::read(a, m) {
-        ResidueRead::Below(x) => try_second(rt, x, b, m),
-        ResidueRead::TooLarge => Ok(()),
-    }
-}
-
+// Where p is an odd prime and both numbers are below it.
 fn try_pair(rt: &impl Print, p: u64, a: u64, b: u64) -> io::Result<()> {
-    match Modulus::read(p) {
-        ModulusRead::Modulo(m) => try_first(rt, a, b, m),
-        ModulusRead::NoPrime => Ok(()),
+    let Some(prime) = Modulus::read(p) else {
+        return Ok(());
+    };
+    if let (Some(x), Some(y)) = (Residue::read(a, prime.m), Residue::read(b, prime.m)) {
+        print_pair(rt, x, y, prime)?;
     }
+    Ok(())
 }
 
 fn try_prime(rt: &impl Print, p: u64) -> io::Result<()> {

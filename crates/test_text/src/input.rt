@@ -4,10 +4,11 @@ ghost use Rattle.std.specs.Prelude.{◌≤◌, length, IfOk};
 use std::io;
 use std::io::Read;
 
-pub fn read(source: &mut impl Read, buf: &mut [u8]) -> io::Result<usize>
-    ensures { IfOk result (λ n. n ≤ length buf.new) }
+pub fn read<'a>(source: &mut impl Read, buf: &'a mut [u8]) -> io::Result<&'a [u8]>
+    ensures { IfOk result (λ s. length s.now ≤ length buf.old) }
 {
     let mut end = 0;
+    // No range: each read says how much it brought.
     while end < buf.len() {
         let more = source.read(&mut buf[end..])?;
         if more == 0 {
@@ -15,5 +16,5 @@ pub fn read(source: &mut impl Read, buf: &mut [u8]) -> io::Result<usize>
         }
         end += more;
     }
-    Ok(end)
+    Ok(&buf[..end])
 }

@@ -29,6 +29,7 @@ fn digit(text: &mut [u8], at: usize, n: u64, unit: u64) -> usize
 fn decimal(text: &mut [u8], at: usize, n: u64) -> usize {
     let mut unit: u64 = 10000000000000000000;
     let mut end = at;
+    // No range: each turn has a tenth of the unit before.
     while 1 < unit {
         end = digit(text, end, n, unit);
         unit /= 10;
@@ -57,22 +58,18 @@ fn byte(text: &mut [u8], at: usize, b: u8, in_hex: bool) -> usize {
 
 fn bytes(text: &mut [u8], at: usize, s: &[u8], in_hex: bool) -> usize {
     let mut end = at;
-    let mut k: usize = 0;
-    while k < s.len() {
-        end = byte(text, end, s[k], in_hex);
-        k += 1;
+    for b in s {
+        end = byte(text, end, *b, in_hex);
     }
     end
 }
 
 // Numbers in decimal, a space after each.
 fn fields(text: &mut [u8], values: &[u64]) -> usize {
-    let mut end: usize = 0;
-    let mut k: usize = 0;
-    while k < values.len() {
-        end = decimal(text, end, values[k]);
+    let mut end = 0;
+    for n in values {
+        end = decimal(text, end, *n);
         end = put(text, end, b' ');
-        k += 1;
     }
     end
 }
@@ -89,7 +86,7 @@ pub fn plain(text: &mut [u8], values: &[u64]) -> usize {
 // The fields and the whole output as it returned, as a line.
 pub fn with_output(text: &mut [u8], values: &[u64], out: &[u8]) -> usize {
     let at = fields(text, values);
-    if out.len() == 0 {
+    if out.is_empty() {
         let last = put(text, at, b'-');
         return put(text, last, b'\n');
     }

@@ -1,14 +1,11 @@
 // For tests: a number as a residue, 1 where it isn't below p.
-ghost use Rattle.field.specs.Residues.{Ring, Kept, Settled};
+ghost use Rattle.field.specs.Residues.{Kept, Settled};
 
-use field::{Modulus, Residue, ResidueRead};
+use field::{Modulus, Residue};
 
+#[tactic(auto, using(field::proofs::Laws::settled_kept))]
 pub fn residue(x: u64, m: Modulus) -> Residue
-    requires { Ring m }
     ensures { Settled m result × Kept m result }
 {
-    match Residue::read(x, m) {
-        ResidueRead::Below(r) => r,
-        ResidueRead::TooLarge => Residue::one(m),
-    }
+    Residue::read(x, m).unwrap_or(Residue::one(m))
 }

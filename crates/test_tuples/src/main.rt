@@ -4,12 +4,12 @@
 #![tactic(auto)]
 
 ghost use Rattle.std.specs.Prelude.{◌≡◌, ◌≤◌, length};
-ghost use Rattle.field.specs.Residues.{Good, Kept, Settled};
+ghost use Rattle.field.specs.Residues.{Kept, Settled};
 ghost use Rattle.divisor.specs.Divisors.{Held};
 ghost use Rattle.multiple_tuple.specs.Tuples.{KeptTuple};
 
 use divisor::{Divisor, Quadratic};
-use field::{Modulus, ModulusRead, Residue};
+use field::{Modulus, PrimeModulus, Residue};
 use multiple_tuple::Tuple;
 use std::io;
 
@@ -20,27 +20,22 @@ const ROW: usize = 56;
 
 // The residue at place k of a row.
 fn number(s: &[u8], k: usize, m: Modulus) -> Residue
-    requires { Good m × (length s.now ≡ 56) × (k ≤ 13) }
+    requires { (length s.now ≡ 56) × (k ≤ 13) }
     ensures { Settled m result }
 {
     test_text::numbers::residue(record_bytes::read32(s, 4 * k), m)
 }
 
 fn tuple(s: &[u8], k: usize, m: Modulus) -> Tuple
-    requires { Good m × (length s.now ≡ 56) × (k ≤ 9) }
+    requires { (length s.now ≡ 56) × (k ≤ 9) }
     ensures { KeptTuple m result × Settled m result.z }
 {
-    let u1 = number(s, k, m);
-    let u0 = number(s, k + 1, m);
-    let v1 = number(s, k + 2, m);
-    let v0 = number(s, k + 3, m);
-    let z = number(s, k + 4, m);
     Tuple {
-        u1: u1,
-        u0: u0,
-        v1: v1,
-        v0: v0,
-        z: z,
+        u1: number(s, k, m),
+        u0: number(s, k + 1, m),
+        v1: number(s, k + 2, m),
+        v0: number(s, k + 3, m),
+        z: number(s, k + 4, m),
     }
 }
 
@@ -61,67 +56,70 @@ fn print_plain(rt: &impl Print, q: Quadratic, m: Modulus) -> io::Result<()>
     println!(rt;)
 }
 
-fn show(rt: &impl Print, name: &str, t: Tuple, m: Modulus) -> io::Result<()>
-    requires { KeptTuple m t × Settled m t.z }
+fn show(rt: &impl Print, name: &str, t: Tuple, prime: PrimeModulus) -> io::Result<()>
+    requires { KeptTuple prime.m t × Settled prime.m t.z }
 {
+    let m = prime.m;
     print!(rt; "{name}")?;
-    let z = t.z;
-    if z.is_zero(m) {
+    if t.z.is_zero(m) {
         return println!(rt; " special");
     }
-    print_plain(rt, multiple_tuple::back(t, m), m)
+    print_plain(rt, multiple_tuple::back(t, prime), m)
 }
 
 // The second one made plain.
-fn mixed(rt: &impl Print, a: Tuple, b: Tuple, f4: Residue, m: Modulus) -> io::Result<()>
-    requires { KeptTuple m a × KeptTuple m b × Settled m b.z × Kept m f4 }
+fn mixed(rt: &impl Print, a: Tuple, b: Tuple, f4: Residue, prime: PrimeModulus) -> io::Result<()>
+    requires { KeptTuple prime.m a × KeptTuple prime.m b × Settled prime.m b.z × Kept prime.m f4 }
 {
-    let z = b.z;
-    if z.is_zero(m) {
+    let m = prime.m;
+    if b.z.is_zero(m) {
         return println!(rt; "mixed none");
     }
-    let q = multiple_tuple::back(b, m);
-    show(rt, "mixed", multiple_tuple::mixed(a, q, f4, m), m)
+    let q = multiple_tuple::back(b, prime);
+    show(rt, "mixed", multiple_tuple::mixed(a, q, f4, prime), prime)
 }
 
-fn double(rt: &impl Print, s: &[u8], a: Tuple, f4: Residue, m: Modulus) -> io::Result<()>
-    requires { Good m × (length s.now ≡ 56) × KeptTuple m a × Kept m f4 }
+fn double(rt: &impl Print, s: &[u8], a: Tuple, f4: Residue, prime: PrimeModulus) -> io::Result<()>
+    requires { (length s.now ≡ 56) × KeptTuple prime.m a × Kept prime.m f4 }
 {
+    let m = prime.m;
     let f2 = number(s, 1, m);
     let f3 = number(s, 2, m);
-    show(rt, "double", multiple_tuple::double(a, f2, f3, f4, m), m)
+    show(
+        rt,
+        "double",
+        multiple_tuple::double(a, f2, f3, f4, prime),
+        prime,
+    )
 }
 
-fn row(rt: &impl Print, s: &[u8], m: Modulus) -> io::Result<()>
-    requires { Good m × (length s.now ≡ 56) }
+fn row(rt: &impl Print, s: &[u8], prime: PrimeModulus) -> io::Result<()>
+    requires { (length s.now ≡ 56) }
 {
+    let m = prime.m;
     let f4 = number(s, 3, m);
     let a = tuple(s, 4, m);
     let b = tuple(s, 9, m);
-    show(rt, "sum", multiple_tuple::add(a, b, f4, m), m)?;
-    mixed(rt, a, b, f4, m)?;
-    double(rt, s, a, f4, m)
+    show(rt, "sum", multiple_tuple::add(a, b, f4, prime), prime)?;
+    mixed(rt, a, b, f4, prime)?;
+    double(rt, s, a, f4, prime)
 }
 
 fn case(rt: &impl Print, s: &[u8]) -> io::Result<()>
     requires { length s.now ≡ 56 }
 {
-    match Modulus::read(record_bytes::read32(s, 0)) {
-        ModulusRead::Modulo(m) => row(rt, s, m),
-        ModulusRead::NoPrime => Ok(()),
-    }
+    let Some(prime) = Modulus::read(record_bytes::read32(s, 0)) else {
+        return Ok(());
+    };
+    row(rt, s, prime)
 }
 
 fn run(rt: &impl Print, s: &[u8]) -> io::Result<()> {
-    let end = s.len();
-    if MOST < end {
+    if MOST < s.len() {
         return Ok(());
     }
-    let mut at: usize = 0;
-    while at + ROW <= end {
-        let next = at + ROW;
-        case(rt, &s[at..next])?;
-        at = next;
+    for row in s.chunks_exact(ROW) {
+        case(rt, row)?;
     }
     Ok(())
 }
@@ -129,6 +127,6 @@ fn run(rt: &impl Print, s: &[u8]) -> io::Result<()> {
 fn main(rt: HostRuntime) -> io::Result<()> {
     // Room for one byte more, so that a text that is too long shows.
     let mut text = [0u8; MOST + 1];
-    let n = test_text::input::read(&mut rt.stdin(), &mut text)?;
-    run(&rt, &text[..n])
+    let s = test_text::input::read(&mut rt.stdin(), &mut text)?;
+    run(&rt, s)
 }

@@ -1,8 +1,7 @@
--- What can be promised of a file's bytes: as many as are counted stand in the buffer.
-use Rattle.std.specs.Prelude.{ℕ, ◌≤◌}
-use Rattle.text_tally.specs.declared.FileRead.{FileRead}
-use Rattle.text_tally.specs.declared.FileRead.TheVariants.{Holds, Unreadable}
+-- What can be promised of a file's bytes: no more than the buffer has room for.
+use Rattle.std.specs.Prelude.{ℕ, ◌≤◌, List, Option, Some, None, length}
+use Rattle.std.specs.Borrow.{Bor}
 
-abbrev pub Within : FileRead → ℕ → Type 0
-Within (Holds n) room = n ≤ room
-Within Unreadable room = Unit {0}
+abbrev pub Within : Option (Bor (List ℕ)) → ℕ → Type 0
+Within (Some s) room = length s.now ≤ room
+Within None room = Unit {0}

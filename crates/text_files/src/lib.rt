@@ -4,47 +4,39 @@
 
 ghost use Rattle.std.specs.Prelude.{length};
 ghost use Rattle.divisor.specs.Divisors.{Held};
-ghost use Rattle.curve.specs.Curves.{Sound};
 ghost use Rattle.text_files.specs.Files.{Within};
 
 use curve::Curve;
 use divisor::Divisor;
-use divisor_census::Next;
 use field::Modulus;
 use std::io::Read;
 use std::rt::Files;
 use std::{fs, io};
-use text_tally::FileRead;
-use text_tally::census::Opened;
 
 // Reads on until the end, a failed read or a full buffer. A read that fails, as of a directory, isn't the end of a file.
-fn read_open(file: &mut impl Read, buf: &mut [u8]) -> FileRead
+fn read_open<'a>(file: &mut impl Read, buf: &'a mut [u8]) -> Option<&'a [u8]>
     ensures { Within result (length buf.old) }
 {
-    let mut n: usize = 0;
+    let mut n = 0;
+    // No range: each read says how much it brought.
     while n < buf.len() {
-        let Ok(more) = file.read(&mut buf[n..]) else {
-            return FileRead::Unreadable;
-        };
+        let more = file.read(&mut buf[n..]).ok()?;
         if more == 0 {
-            return FileRead::Holds(n);
+            break;
         }
         n += more;
     }
-    FileRead::Holds(n)
+    Some(&buf[..n])
 }
 
-// The file's bytes at the front of the buffer, as many as it has room for. Paths of std are text: one that isn't can't be read.
-pub fn read(rt: &impl Files, path: &[u8], buf: &mut [u8]) -> FileRead
+// The file's bytes, at the front of the buffer, as many as it has room for; None of one that can't be opened or read. Paths of std are text: one
+// that isn't can't be read.
+pub fn read<'a>(rt: &impl Files, path: &[u8], buf: &'a mut [u8]) -> Option<&'a [u8]>
     ensures { Within result (length buf.old) }
 {
-    let Ok(name) = str::from_utf8(path) else {
-        return FileRead::Unreadable;
-    };
-    match fs::open(rt, name) {
-        Ok(mut file) => read_open(&mut file, buf),
-        Err(_) => FileRead::Unreadable,
-    }
+    let name = str::from_utf8(path).ok()?;
+    let mut file = fs::open(rt, name).ok()?;
+    read_open(&mut file, buf)
 }
 
 // Writes to standard output what crate `text_tally` makes of the two files, and nothing else. The buffers have room for one byte more than a file
@@ -55,7 +47,7 @@ pub fn print(rt: &(impl Files + Print), curve: &[u8], batch: &[u8]) -> io::Resul
     let c = read(rt, curve, &mut s);
     let b = read(rt, batch, &mut t);
     let mut out = [0u8; 256];
-    let n = text_tally::tally_files(c, &s, b, &t, &mut out);
+    let n = text_tally::tally_files(c, b, &mut out);
     rt.write_all(&out[..n])
 }
 
@@ -69,18 +61,15 @@ fn print_record(rt: &impl Print, d: Divisor, m: Modulus) -> io::Result<()>
 }
 
 // The lines of a training curve, from the neutral divisor on, next after next.
-fn print_lines(rt: &impl Print, c: Curve) -> io::Result<()>
-    requires { Sound c }
-{
+fn print_lines(rt: &impl Print, c: Curve) -> io::Result<()> {
     let mut d = Divisor::neutral();
+    // No range: only the next divisor says whether there is one more.
     loop {
-        print_record(rt, d, c.m)?;
-        match divisor_census::next_valid(c, d) {
-            Next::Found(y) => {
-                d = y;
-            }
-            Next::Last => return Ok(()),
-        }
+        print_record(rt, d, c.prime.m)?;
+        let Some(y) = divisor_census::next_valid(c, d) else {
+            return Ok(());
+        };
+        d = y;
     }
 }
 
@@ -89,8 +78,8 @@ pub fn print_census(rt: &(impl Files + Print), curve: &[u8]) -> io::Result<()> {
     let mut s = [0u8; 65537];
     let f = read(rt, curve, &mut s);
     let mut out = [0u8; 256];
-    match text_tally::census::open(f, &s, &mut out) {
-        Opened::Training(c) => print_lines(rt, c),
-        Opened::Refused(n) => rt.write_all(&out[..n]),
+    match text_tally::census::open(f, &mut out) {
+        Ok(c) => print_lines(rt, c),
+        Err(line) => rt.write_all(&out[..line.length]),
     }
 }

@@ -1,6 +1,7 @@
 -- The lines by their parts, as the code puts them: the places of a repeat by their case, numbers one after the other, a record's line by its
 -- weight and its numbers, the total's line by its word.
 use Prim.Native.Nat.{ℕ, suc, ◌+◌, ◌*◌, ◌≤◌, ◌<◌}
+use Rattle.std.specs.Prelude.{Option, Some, None}
 use mathlib.Core.Path.{◌≡◌, refl, sym, ap, ap₂, ◌∙◌}
 use mathlib.Core.List.{List, [], ◌∷◌, ◌++◌, append_assoc, append-nil}
 use native.Mathlib.Omega.{arith}
@@ -14,19 +15,29 @@ use Rattle.divisor.specs.Divisors.{weight_of, pair}
 use Rattle.record_numbers.specs.write.Write.{NumbersOf}
 use Rattle.divisor.proofs.Laws.{weight_le, weight_is, weight_is_v}
 use Rattle.text_lines.specs.digits.Digits.{letters, hex}
+use Rattle.text_lines.specs.declared.Places.{Places}
 use Rattle.text_lines.specs.Lines.{two, places, spaced, record_line, total_line}
+use Rattle.text_lines.specs.Printed.{places_of}
 use Rattle.text_lines.specs.digits.Put.{PutAt, Room}
 use Rattle.text_lines.proofs.digits.Decimals.{length-hex}
 use Rattle.text_lines.proofs.Lengths.{length-spaced, record_short}
 use Rattle.text_lines.proofs.digits.Putting.{put_as, put_then, room_as, room-first, room_next}
 
-pub places-none : (i j : ℕ) → i ≡ 0 → places i j ≡ (letters "none")
-unfolding places
-places-none i j h = ap (λ t. choose t (letters "none") (two i j)) (eq-eqb i 0 h)
+abbrev pub shown : Option Places → List ℕ
+shown q = places (places_of q).first (places_of q).second
 
-pub places-some : (i j : ℕ) → (i ≡ 0 → ⊥) → places i j ≡ two i j
+pub shown_none : (q : Option Places) → q ≡ None → shown q ≡ (letters "none")
 unfolding places
-places-some i j h = ap (λ t. choose t (letters "none") (two i j)) (ne_eqb i 0 h)
+shown_none q e = ap shown e
+
+module _ (q : Option Places) (r : Places) (e : q ≡ Some r) where
+  pub shown_zero : r.first ≤ 0 → shown q ≡ (letters "none")
+  unfolding places
+  shown_zero h = ap shown e ∙ ap (λ t. choose t (letters "none") (two r.first r.second)) (eq-eqb r.first 0 (omega arith))
+
+  pub shown_two : 0 < r.first → shown q ≡ two r.first r.second
+  unfolding places
+  shown_two h = ap shown e ∙ ap (λ t. choose t (letters "none") (two r.first r.second)) (ne_eqb r.first 0 (λ z. omega arith))
 
 -- ---- numbers, each after a space
 spaced-append : (l m : List ℕ) → spaced (l ++ m) ≡ spaced l ++ spaced m
@@ -40,9 +51,9 @@ module _ (x : List ℕ) (k : ℕ) (h : k < length x) where
   spaced_more = ap (λ (n : ℕ). spaced (take n x)) {x = k + 1} {y = suc k} (omega arith) ∙ ap spaced (take-suc x k 0 h) ∙ spaced-append (take k x) (get_or x k 0 ∷ [])
       ∙ ap (λ (t : List ℕ). spaced (take k x) ++ (32 ∷ t)) (append-nil (hex 16 (get_or x k 0)))
 
-  module _ (n a : ℕ) (l : k < n) (some : n ≤ length x) (room : Room a (spaced (take n x))) {out o : List ℕ} {b : ℕ} (i : PutAt out a (spaced (take k x)) o b) where
+  module _ (a : ℕ) (room : Room a (spaced x)) {out o : List ℕ} {b : ℕ} (i : PutAt out a (spaced (take k x)) o b) where
     pub turn_room : b + 17 ≤ 256
-    turn_room = omega (arith, i.next, length-spaced (take k x), length-take-le k x (omega arith), length-spaced (take n x), length-take-le n x some)
+    turn_room = omega (arith, i.next, length-spaced (take k x), length-take-le k x (omega arith), length-spaced x)
 
     module _ {o' : List ℕ} {c : ℕ} (j : PutAt o b (32 ∷ []) o' c) where
       pub hex_room : Room c (hex 16 (get_or x k 0))

@@ -23,12 +23,9 @@ pub fn put_bytes(out: &mut [u8; 256], a: usize, s: &[u8]) -> usize
     requires { Room a s.now }
     ensures { PutAt out.old a s.now out.new result }
 {
-    let mut k: usize = 0;
-    while k < s.len() {
-        out[a + k] = s[k];
-        k += 1;
-    }
-    a + k
+    let b = a + s.len();
+    out[a..b].copy_from_slice(s);
+    b
 }
 
 pub fn put_decimal(out: &mut [u8; 256], a: usize, n: u64) -> usize

@@ -1,7 +1,7 @@
 // The lines that the program prints, put on slices: each function's promise fixes every byte.
 #![tactic(auto)]
 
-ghost use Rattle.std.specs.Prelude.{◌≤◌, take};
+ghost use Rattle.refusals.specs.Refusal.{number_of};
 ghost use Rattle.divisor.specs.Divisors.{pair, Held};
 ghost use Rattle.text_lines.specs.digits.Put.{PutAt, Room};
 ghost use Rattle.text_lines.specs.Lines.{count_line, repeat_line, record_line, total_line, refused_line, spaced, two, places};
@@ -9,11 +9,12 @@ ghost use Rattle.text_lines.specs.Printed.{Printed, places_of};
 
 use divisor::Divisor;
 use field::Modulus;
+use refusals::Refused;
 
 pub mod digits;
 
-// The places of the first repeat, 0 and 0 for none.
-#[derive(Clone, Copy)]
+// The places of the first repeat, counted from 1: call_batch's Repeat again, so that lines stand on no call.
+#[derive(Clone, Copy, Debug, PartialEq, Eq)]
 pub struct Places {
     pub first: u64,
     pub second: u64,
@@ -38,36 +39,35 @@ pub fn put_count(out: &mut [u8; 256], a: usize, n: u64) -> usize
     digits::put_byte(out, c, b'\n')
 }
 
-fn put_places(out: &mut [u8; 256], a: usize, i: u64, j: u64) -> usize
-    requires { Room a (places i j) }
-    ensures { PutAt out.old a (places i j) out.new result }
+// No place is 0: the paper's 0 and 0 are none.
+fn put_places(out: &mut [u8; 256], a: usize, r: Option<Places>) -> usize
+    requires { Room a (places (places_of r).first (places_of r).second) }
+    ensures { PutAt out.old a (places (places_of r).first (places_of r).second) out.new result }
 {
-    if i == 0 {
-        return digits::put_bytes(out, a, b"none");
+    match r {
+        Some(r) if 0 < r.first => put_two(out, a, r.first, r.second),
+        _ => digits::put_bytes(out, a, b"none"),
     }
-    put_two(out, a, i, j)
 }
 
-pub fn put_repeat(out: &mut [u8; 256], a: usize, r: Places) -> usize
+pub fn put_repeat(out: &mut [u8; 256], a: usize, r: Option<Places>) -> usize
     requires { Room a (repeat_line (places_of r)) }
     ensures { PutAt out.old a (repeat_line (places_of r)) out.new result }
 {
     let b = digits::put_bytes(out, a, b"repeat ");
-    let c = put_places(out, b, r.first, r.second);
+    let c = put_places(out, b, r);
     digits::put_byte(out, c, b'\n')
 }
 
-// The first n numbers, each after a space.
-fn put_numbers(out: &mut [u8; 256], a: usize, x: [u64; 8], n: usize) -> usize
-    requires { (n ≤ 8) × Room a (spaced (take n x)) }
-    ensures { PutAt out.old a (spaced (take n x)) out.new result }
+// Numbers, each after a space.
+fn put_numbers(out: &mut [u8; 256], a: usize, x: &[u64]) -> usize
+    requires { Room a (spaced x.now) }
+    ensures { PutAt out.old a (spaced x.now) out.new result }
 {
-    let mut k: usize = 0;
     let mut b = a;
-    while k < n {
+    for n in x {
         let c = digits::put_byte(out, b, b' ');
-        b = digits::put_hex(out, c, 16, x[k]);
-        k += 1;
+        b = digits::put_hex(out, c, 16, *n);
     }
     b
 }
@@ -80,7 +80,7 @@ pub fn put_record(out: &mut [u8; 256], a: usize, t: Divisor, m: Modulus) -> usiz
     let w = t.weight();
     let x = record_numbers::write::numbers_of(t, m);
     let c = digits::put_hex(out, a, 2, w as u64);
-    let d = put_numbers(out, c, x, 2 * w);
+    let d = put_numbers(out, c, &x[..2 * w]);
     digits::put_byte(out, d, b'\n')
 }
 
@@ -107,4 +107,11 @@ pub fn refusal(number: u64, place: u64, out: &mut [u8; 256]) -> usize
     let a = digits::put_bytes(out, 0, b"refused ");
     let b = put_two(out, a, number, place);
     digits::put_byte(out, b, b'\n')
+}
+
+// The same, by which refusal it is.
+pub fn refused(r: Refused, out: &mut [u8; 256]) -> usize
+    ensures { Printed out.old (refused_line (number_of r.by) r.place) out.new result }
+{
+    refusal(r.by.into(), r.place, out)
 }

@@ -1,54 +1,59 @@
--- The text by what its parts answer: the curve, the batch's total, its first repeat; then by what was read of the two files.
+-- The text by what its parts answer: the file's bytes, the curve, the batch's total, its first repeat.
 use Prim.Native.Nat.{ℕ, ◌≤◌, ◌<◌}
-use mathlib.Core.Path.{◌≡◌, sym, ap, ◌∙◌, subst}
-use mathlib.Core.List.{List, ◌++◌}
+use mathlib.Core.Path.{◌≡◌, refl, sym, ap, subst, ◌∙◌}
+use mathlib.Core.List.{List, [], ◌++◌}
 use mathlib.Core.Bool.{Bool}
 use native.Mathlib.Omega.{arith}
 use borrow.Author.Tests.{lt-ltb, le-ltb}
 use lib.Dec.{ltb}
-use lib.ListN.{length, take, length-append}
+use lib.ListN.{length, length-append}
+use Rattle.std.specs.Prelude.{Option, Some, None, Result, Ok, Err, IsErrAnd}
+use Rattle.std.specs.Borrow.{Bor}
 use Rattle.rules.specs.Pair.{neutral}
 use Rattle.rules.specs.Sum.{sum}
 use Rattle.rules.specs.Records.{Checked, CurveRecord, PairOf, choose, curve}
-use Rattle.rules.specs.Lists.{Batch, batch}
+use Rattle.rules.specs.Lists.{Batch, batch, Repeat}
 use Rattle.rules.proofs.Calls.Refusals.{check}
-use Rattle.rules.specs.Calls.{repeat_call}
+use Rattle.rules.specs.Calls.{Reply, repeat_call}
+use Rattle.refusals.specs.declared.Refusal.{Refusal}
+use Rattle.refusals.specs.declared.Refusal.TheVariants.{Unreadable, FileLength}
+use Rattle.refusals.specs.declared.Refused.{Refused}
+use Rattle.refusals.specs.Refusal.{number_of}
 use Rattle.field.specs.declared.Modulus.{Modulus}
 use Rattle.divisor.specs.declared.Divisor.{Divisor}
 use Rattle.divisor.specs.Divisors.{pair}
-use Rattle.divisor.proofs.Laws.{weight_le}
+use Rattle.divisor.proofs.Laws.{weight_le, weight_is, weight_is_v}
 use Rattle.curve.specs.declared.Curve.{Curve}
-use Rattle.curve.specs.Curves.{Holds as OnCurve}
-use Rattle.record_curve.specs.declared.CurveRead.TheVariants.{Taken as TakenCurve, Refused as RefusedCurve}
 use Rattle.curve.specs.Record.{record_of}
 use Rattle.record_curve.specs.Read.{CurveIs}
-use Rattle.divisor.proofs.Laws.{weight_is, weight_is_v}
-use Rattle.call_answer.specs.declared.Answer.{Answer}
-use Rattle.call_answer.specs.Answers.{Values, values_of}
-use Rattle.call_total.specs.declared.TotalRead.{TotalRead}
-use Rattle.call_total.specs.declared.TotalRead.TheVariants.{Done, Refused}
+use Rattle.call_answer.specs.Answers.{reply}
+use Rattle.call_total.specs.declared.Total.{Total}
 use Rattle.call_total.specs.Totals.{TotalIs}
+use Rattle.call_batch.specs.declared.places.Repeat.{Repeat as Found}
 use Rattle.call_batch.specs.repeat.Repeats.{repeat_on, RepeatIs}
 use Rattle.call_batch.proofs.repeat.Calls.{on_curve as repeat-called}
-use Rattle.text_tally.specs.declared.FileRead.{FileRead}
-use Rattle.text_tally.specs.declared.FileRead.TheVariants.{Holds, Unreadable}
 use Rattle.text_lines.specs.declared.Places.{Places}
 use Rattle.text_lines.specs.Lines.{count_line, repeat_line, total_line, refused_line}
-use Rattle.text_lines.specs.Rule.Text.{holds, with_file, text_of}
+use Rattle.text_lines.specs.Rule.Text.{File, unreadable, holds, with_file, text, text_of, lines_of, census_of, census_text}
 use Rattle.text_lines.specs.digits.Put.{PutAt, Room}
 use Rattle.text_lines.specs.Printed.{Printed, places_of}
-use Rattle.text_tally.specs.Read.{file_of}
+use Rattle.text_tally.specs.Read.{file_of, FileIs}
+use Rattle.text_tally.specs.Tallied.{OwnPlaces, ShortPlaces, Shows}
+use Rattle.text_tally.specs.census.Opened.{TrainingOf}
+use Rattle.text_tally.specs.declared.PoleList.{PoleList}
+use Rattle.call_census.specs.Training.{TrainingIs}
+use Rattle.refusals.proofs.Exits.{exit_err}
 use Rattle.text_lines.proofs.digits.Decimals.{Word}
 use Rattle.text_lines.proofs.Lengths.{count-short, repeat_short, total-short}
 use Rattle.text_lines.proofs.Printing.{printed}
 use Rattle.text_lines.proofs.digits.Putting.{room-first, room_next, put_then}
 
 -- ---- three lines, and room for them
-module _ (n : ℕ) (q : Places) (m : Modulus) (d : Divisor) where
+module _ (n : ℕ) (q : Option Places) (m : Modulus) (d : Divisor) where
   abbrev pub three : List ℕ
   three = count_line n ++ (repeat_line (places_of q) ++ total_line m.p (pair m d))
 
-  module _ (hn : Word n) (hi : Word q.first) (hj : Word q.second) where
+  module _ (hn : Word n) (hi : Word (places_of q).first) (hj : Word (places_of q).second) where
     three_room : Room 0 three
     three_room =
         omega (
@@ -82,44 +87,79 @@ module _ (s b : List ℕ) where
   abbrev next : CurveRecord → List ℕ
   next c = after c (batch c (sum (curve c)) b neutral)
 
-  pub no_curve : {n : ℕ} → CurveIs s (RefusedCurve n) → refused_line n 0 ≡ text_of s b
+  pub no_curve : (by : Refusal) → CurveIs s (Err by) → Shows (text_of s b) (Err (record { by = by; place = 0 }))
   unfolding text_of
-  no_curve h = sym (ap (λ (x : Checked CurveRecord). check x refused_line next) h)
+  no_curve by h = (tt, sym (ap (λ (x : Checked CurveRecord). check x refused_line next) h))
 
-  module _ (c : Curve) (h : CurveIs s (TakenCurve c)) (t : TotalRead) (is : TotalIs c b t) where
+  module _ (c : Curve) (h : CurveIs s (Ok c)) where
     on_curve : text_of s b ≡ next (record_of c)
     unfolding text_of
-    on_curve = ap (λ (x : Checked CurveRecord). check x refused_line next) h.1
+    on_curve = ap (λ (x : Checked CurveRecord). check x refused_line next) h
 
-    pub no_total : {n k : ℕ} → t ≡ Refused n k → refused_line n k ≡ text_of s b
-    no_total e = sym (on_curve ∙ ap (after (record_of c)) (subst (TotalIs c b) e is))
+    pub no_total : (r : Refused) → TotalIs c b (Err r) → Shows (text_of s b) (Err r)
+    no_total r e = (tt, sym (on_curve ∙ ap (after (record_of c)) e))
 
-    module _ {d : Divisor} {n : ℕ} (e : t ≡ Done d n) where
-      pub total_holds : OnCurve c d
-      total_holds = (subst (TotalIs c b) e is).0
+    pub tallied : (t : Total) → TotalIs c b (Ok t) → (a : Result (Option Found) Refused) → RepeatIs a (repeat_on c b) → (q : Option Places) → OwnPlaces a q → ShortPlaces q
+        → Shows (text_of s b) (Ok (record { count = t.count; repeat = q; total = t.divisor; m = c.prime.m }))
+    tallied t e a f q g w = (
+      (e.0.held, w),
+      sym (on_curve ∙ ap (after (record_of c)) e.1
+          ∙ ap (λ (x : Repeat). count_line t.count ++ (repeat_line x ++ total_line c.prime.m.p (pair c.prime.m t.divisor)))
+          (sym (g ∙ ap (λ (x : Reply Repeat). x.own) (repeat-called s b c h a f)))),
+    )
 
-      pub three_lines : (a : Answer) (q : Places) → RepeatIs a (repeat_on c b) → (q.first, q.second) ≡ (values_of a).1 → three n q c.m d ≡ text_of s b
-      three_lines a q f g = sym (on_curve ∙ ap (after (record_of c)) (subst (TotalIs c b) e is).1
-          ∙ ap (λ (x : ℕ × ℕ). count_line n ++ (repeat_line (record { first = x.0; second = x.1 }) ++ total_line c.m.p (pair c.m d))) (sym (g ∙ ap (λ (v : Values). v.1) (repeat-called s b c h f).values)))
-
--- ---- of a file, and what goes on from its bytes
-module _ (f : FileRead) (s : List ℕ) (go : List ℕ → List ℕ) where
-  pub no_file : f ≡ Unreadable → refused_line 17 0 ≡ with_file (file_of f s) go
+-- ---- of a file's bytes, and what goes on from them
+module _ (q : Option (Bor (List ℕ))) where
+  pub no_file : (r : Result (Bor (List ℕ)) Refusal) → (q ≡ None) × (r ≡ Err Unreadable) → FileIs (file_of q) r
   unfolding with_file
-  no_file e = sym (ap (λ (x : FileRead). with_file (file_of x s) go) e)
+  no_file r h = subst (FileIs (file_of q)) (sym h.1) (λ go. ap (λ (x : Option (Bor (List ℕ))). with_file (file_of x) go) h.0)
 
-  module _ {n : ℕ} {t : List ℕ} (e : f ≡ Holds n) (is : t ≡ take n s) where
-    long_or : Bool → List ℕ
-    long_or b = choose b (refused_line 16 0) (go t)
+  module _ (s : Bor (List ℕ)) (e : q ≡ Some s) where
+    long_or : (List ℕ → List ℕ) → Bool → List ℕ
+    long_or go b = choose b (refused_line 16 0) (go s.now)
 
-    file_is : with_file (file_of f s) go ≡ long_or (ltb 65536 (length t))
+    file_is : (go : List ℕ → List ℕ) → with_file (file_of q) go ≡ long_or go (ltb 65536 (length s.now))
     unfolding with_file long_or
-    file_is = ap (λ (x : FileRead). with_file (file_of x s) go) e ∙ ap (λ (x : List ℕ). with_file (holds x) go) (sym is)
+    file_is go = ap (λ (x : Option (Bor (List ℕ))). with_file (file_of x) go) e
 
-    pub long_file : 65536 < length t → refused_line 16 0 ≡ with_file (file_of f s) go
+    pub long_file : 65536 < length s.now → FileIs (file_of q) (Err FileLength)
     unfolding long_or
-    long_file l = sym (file_is ∙ ap long_or (lt-ltb 65536 (length t) l))
+    long_file l go = file_is go ∙ ap (long_or go) (lt-ltb 65536 (length s.now) l)
 
-    pub whole_file : length t ≤ 65536 → go t ≡ with_file (file_of f s) go
+    pub whole_file : length s.now ≤ 65536 → FileIs (file_of q) (Ok s)
     unfolding long_or
-    whole_file l = sym (file_is ∙ ap long_or (le-ltb 65536 (length t) l))
+    whole_file l go = file_is go ∙ ap (long_or go) (le-ltb 65536 (length s.now) l)
+
+-- ---- of two files, the curve's first
+module _ (f g : File) where
+  pub curve_file : (by : Refusal) → FileIs f (Err by) → Shows (text f g) (Err (record { by = by; place = 0 }))
+  unfolding text
+  curve_file by h = (tt, sym (h (λ s. with_file g (λ b. text_of s b))))
+
+  module _ (s : Bor (List ℕ)) (h : FileIs f (Ok s)) where
+    pub batch_file : (by : Refusal) → FileIs g (Err by) → Shows (text f g) (Err (record { by = by; place = 0 }))
+    unfolding text
+    batch_file by k = (tt, sym (h (λ x. with_file g (λ b. text_of x b)) ∙ k (λ b. text_of s.now b)))
+
+    pub both_files : (t : Bor (List ℕ)) → FileIs g (Ok t) → (r : Result PoleList Refused) → Shows (text_of s.now t.now) r → Shows (text f g) r
+    unfolding text
+    both_files t k r e = (e.0, e.1 ∙ sym (h (λ x. with_file g (λ b. text_of x b)) ∙ k (λ b. text_of s.now b)))
+
+-- ---- of a training curve's file
+module _ (f : File) where
+  pub no_training_file : (by : Refusal) → FileIs f (Err by) → TrainingOf (census_text f) (Err (record { by = by; place = 0 }))
+  unfolding census_text
+  no_training_file by h = sym (h census_of)
+
+  module _ (s : Bor (List ℕ)) (h : FileIs f (Ok s)) where
+    pub no_training : (by : Refusal) → TrainingIs s.now (Err by) → TrainingOf (census_text f) (Err (record { by = by; place = 0 }))
+    unfolding census_text census_of
+    no_training by k = sym (h census_of ∙ ap (λ (x : Checked CurveRecord). check x refused_line lines_of) k)
+
+    pub training : (c : Curve) → TrainingIs s.now (Ok c) → TrainingOf (census_text f) (Ok c)
+    unfolding census_text census_of
+    training c k = h census_of ∙ ap (λ (x : Checked CurveRecord). check x refused_line lines_of) k
+
+-- what leaves by `?`
+pub left_by : {T : Type 0} (P : Result T Refused → Type 0) (r : Result T Refused) (d : Refused) → IsErrAnd r (λ y. y ≡ d) → P (Err d) → P r
+left_by P r d h p = subst P (sym (exit_err r h)) p

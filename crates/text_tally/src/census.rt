@@ -1,40 +1,33 @@
 // What opens the census' text (W-211), made on slices: a training curve, whose lines follow, or the line of what refuses it. Nothing here opens, reads or writes a file.
-ghost use Rattle.text_lines.specs.Rule.Text.{census_of, census_text};
+ghost use Rattle.text_lines.specs.Rule.Text.{census_text};
 ghost use Rattle.text_tally.specs.Read.{file_of};
-ghost use Rattle.text_tally.specs.census.Opened.{OpenedIs};
+ghost use Rattle.text_tally.specs.census.Opened.{TrainingOf, OpenedIs};
 
-use crate::FileRead;
 use curve::Curve;
-use record_curve::CurveRead;
+use refusals::Refused;
 
-#[derive(Clone, Copy)]
-pub enum Opened {
-    Training(Curve),
-    Refused(usize),
+// The line of what refuses a curve, at the front of the output: its length.
+#[derive(Clone, Copy, Debug, PartialEq, Eq)]
+pub struct Line {
+    pub length: usize,
 }
 
-// Of a curve's bytes.
-fn open_bytes(curve: &[u8], out: &mut [u8; 256]) -> Opened
-    ensures { OpenedIs (census_of curve.now) out.old out.new result }
+fn read(file: Option<&[u8]>) -> Result<Curve, Refused>
+    ensures { TrainingOf (census_text (file_of file.entry)) result }
 {
-    match call_census::read_training(curve) {
-        CurveRead::Taken(c) => Opened::Training(c),
-        CurveRead::Refused(n) => Opened::Refused(text_lines::refusal(n, 0, out)),
-    }
+    let s = crate::whole(file)?;
+    let c = call_census::read_training(s)?;
+    Ok(c)
 }
 
-// Of what was read of the file, whose bytes stand at the front of `curve`.
-pub fn open(f: FileRead, curve: &[u8], out: &mut [u8; 256]) -> Opened
-    ensures { OpenedIs (census_text (file_of f curve.now)) out.old out.new result }
+// Of the bytes of a curve's file, None of one that can't be opened or read.
+pub fn open(file: Option<&[u8]>, out: &mut [u8; 256]) -> Result<Curve, Line>
+    ensures { OpenedIs (census_text (file_of file.entry)) out.old out.new result }
 {
-    match f {
-        FileRead::Unreadable => Opened::Refused(text_lines::refusal(refusals::UNREADABLE, 0, out)),
-        FileRead::Holds(n) => {
-            let s = crate::front(curve, n);
-            if refusals::MOST_BYTES < s.len() {
-                return Opened::Refused(text_lines::refusal(refusals::FILE_LENGTH, 0, out));
-            }
-            open_bytes(s, out)
-        }
+    match read(file) {
+        Ok(c) => Ok(c),
+        Err(r) => Err(Line {
+            length: text_lines::refused(r, out),
+        }),
     }
 }

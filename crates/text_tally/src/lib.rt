@@ -1,112 +1,106 @@
 // What the program prints, made on slices: each function's promise fixes every byte. Nothing here opens, reads or writes a file.
 #![tactic(auto)]
 
-ghost use Rattle.std.specs.Prelude.{◌≡◌, take};
-ghost use Rattle.call_answer.specs.Answers.{values_of};
-ghost use Rattle.text_lines.specs.Lines.{refused_line};
 ghost use Rattle.text_lines.specs.Printed.{Printed};
-ghost use Rattle.text_lines.specs.Rule.Text.{text, with_file, text_of};
-ghost use Rattle.text_tally.specs.Read.{file_of};
+ghost use Rattle.text_lines.specs.Rule.Text.{text, text_of};
+ghost use Rattle.text_tally.specs.Read.{file_of, FileIs};
+ghost use Rattle.text_tally.specs.Tallied.{OwnPlaces, ShortPlaces, Printable, shown, lines_of_list, Shows};
 
-use call_answer::Answer;
-use call_total::TotalRead;
-use record_curve::CurveRead;
+use call_batch::places::Repeat;
+use divisor::Divisor;
+use field::Modulus;
+use refusals::{Refusal, Refused};
 use text_lines::Places;
 
 pub mod census;
 
-// What was read of a file: how many bytes, or that it can't be opened or read.
+// What the three lines of a pole's list tell.
 #[derive(Clone, Copy)]
-pub enum FileRead {
-    Holds(usize),
-    Unreadable,
+struct PoleList {
+    count: u64,
+    repeat: Option<Places>,
+    total: Divisor,
+    m: Modulus,
 }
 
-// The places that a search answers: both 0 for none, and on a refusal.
-fn places_of(r: Answer) -> Places
-    ensures { (result.first, result.second) ≡ (values_of r).1 }
+// A file's bytes, None where it can't be opened or read: where they can be taken.
+fn whole(file: Option<&[u8]>) -> Result<&[u8], Refusal>
+    ensures { FileIs (file_of file.entry) result }
+{
+    let s = file.ok_or(Refusal::Unreadable)?;
+    if refusals::MOST_BYTES < s.len() {
+        return Err(Refusal::FileLength);
+    }
+    Ok(s)
+}
+
+// The rule has no places on a refusal; a batch that has a total is not refused here.
+fn places_of(r: Result<Option<Repeat>, Refused>) -> Option<Places>
+    ensures own { OwnPlaces r result }
+    ensures short { ShortPlaces result }
 {
     match r {
-        Answer::Done(_, i, j) => Places {
-            first: i,
-            second: j,
-        },
-        Answer::Refused(_, _) => Places {
-            first: 0,
-            second: 0,
-        },
+        Ok(Some(r)) => Some(Places {
+            first: r.first,
+            second: r.second,
+        }),
+        Ok(None) => None,
+        Err(_) => None,
     }
 }
 
-// The first n bytes of s, or all where it has fewer.
-pub fn front(s: &[u8], n: usize) -> &[u8]
-    ensures { result.now ≡ take n s.now }
+fn read_bytes(curve: &[u8], batch: &[u8]) -> Result<PoleList, Refused>
+    ensures { Shows (text_of curve.now batch.now) result }
 {
-    if n < s.len() {
-        return &s[..n];
+    let c = record_curve::read_curve(curve)?;
+    let t = call_total::total_on(c, batch)?;
+    let repeat = places_of(call_batch::repeat::repeat_on(c, batch));
+    Ok(PoleList {
+        count: t.count,
+        repeat,
+        total: t.divisor,
+        m: c.prime.m,
+    })
+}
+
+fn read_files(curve: Option<&[u8]>, batch: Option<&[u8]>) -> Result<PoleList, Refused>
+    ensures { Shows (text (file_of curve.entry) (file_of batch.entry)) result }
+{
+    let s = whole(curve)?;
+    let t = whole(batch)?;
+    read_bytes(s, t)
+}
+
+fn put_list(t: PoleList, out: &mut [u8; 256]) -> usize
+    requires { Printable (Ok t) }
+    ensures { Printed out.old (lines_of_list t) out.new result }
+{
+    let a = text_lines::put_count(out, 0, t.count);
+    let b = text_lines::put_repeat(out, a, t.repeat);
+    text_lines::put_total(out, b, t.total, t.m)
+}
+
+// The one place that prints a refusal.
+fn print(t: Result<PoleList, Refused>, out: &mut [u8; 256]) -> usize
+    requires { Printable t }
+    ensures { Printed out.old (shown t) out.new result }
+{
+    match t {
+        Ok(t) => put_list(t, out),
+        Err(r) => text_lines::refused(r, out),
     }
-    s
 }
 
 // The three lines of a curve's and a batch's bytes, or the line of what refuses them: its length, and the text at the front of the output.
 pub fn tally(curve: &[u8], batch: &[u8], out: &mut [u8; 256]) -> usize
     ensures { Printed out.old (text_of curve.now batch.now) out.new result }
 {
-    match record_curve::read_curve(curve) {
-        CurveRead::Taken(c) => match call_total::total_on(c, batch) {
-            TotalRead::Done(t, n) => {
-                let r = places_of(call_batch::repeat::repeat_on(c, batch));
-                let a = text_lines::put_count(out, 0, n);
-                let b = text_lines::put_repeat(out, a, r);
-                text_lines::put_total(out, b, t, c.m)
-            }
-            TotalRead::Refused(n, k) => text_lines::refusal(n, k, out),
-        },
-        CurveRead::Refused(n) => text_lines::refusal(n, 0, out),
-    }
+    print(read_bytes(curve, batch), out)
 }
 
-// The line of a file that can't be opened or read.
-fn unreadable(out: &mut [u8; 256]) -> usize
-    ensures { Printed out.old (refused_line 17 0) out.new result }
+// The same from the bytes of the two files, None of one that can't be opened or read.
+pub fn tally_files(curve: Option<&[u8]>, batch: Option<&[u8]>, out: &mut [u8; 256]) -> usize
+    ensures { Printed out.old (text (file_of curve.entry) (file_of batch.entry)) out.new result }
 {
-    text_lines::refusal(refusals::UNREADABLE, 0, out)
-}
-
-// The same from the bytes of a curve and what was read of the file of the batch, whose bytes stand at the front of `batch`.
-fn tally_batch(curve: &[u8], b: FileRead, batch: &[u8], out: &mut [u8; 256]) -> usize
-    ensures { Printed out.old (with_file (file_of b batch.now) (λ t. text_of curve.now t)) out.new result }
-{
-    match b {
-        FileRead::Unreadable => unreadable(out),
-        FileRead::Holds(n) => {
-            let s = front(batch, n);
-            if refusals::MOST_BYTES < s.len() {
-                return text_lines::refusal(refusals::FILE_LENGTH, 0, out);
-            }
-            tally(curve, s, out)
-        }
-    }
-}
-
-// The same from what was read of the two files, whose bytes stand at the front of `curve` and `batch`.
-pub fn tally_files(
-    c: FileRead,
-    curve: &[u8],
-    b: FileRead,
-    batch: &[u8],
-    out: &mut [u8; 256],
-) -> usize
-    ensures { Printed out.old (text (file_of c curve.now) (file_of b batch.now)) out.new result }
-{
-    match c {
-        FileRead::Unreadable => unreadable(out),
-        FileRead::Holds(n) => {
-            let s = front(curve, n);
-            if refusals::MOST_BYTES < s.len() {
-                return text_lines::refusal(refusals::FILE_LENGTH, 0, out);
-            }
-            tally_batch(s, b, batch, out)
-        }
-    }
+    print(read_files(curve, batch), out)
 }

@@ -1,18 +1,18 @@
 -- The call `repeat_call`, by what its parts answer: the curve, and the first repeat of the batch on it.
 use Prim.Native.Nat.{ℕ}
-use mathlib.Core.Path.{refl, ap}
+use mathlib.Core.Path.{sym, ap, ◌∙◌}
 use mathlib.Core.List.{List, [], ◌∷◌, ◌++◌}
+use Rattle.std.specs.Prelude.{Option, Result as Outcome, Ok, Err}
+use Rattle.refusals.specs.declared.Refusal.{Refusal}
+use Rattle.refusals.specs.declared.Refused.{Refused}
 use Rattle.rules.specs.Records.{CurveRecord}
 use Rattle.rules.specs.Checks.{Checked, taken, go_on}
 use Rattle.rules.specs.Lists.{batch, Repeat, first_repeat}
 use Rattle.rules.specs.Calls.{Result, deliver, repeat_call}
 use Rattle.rules.proofs.Calls.Refusals.{on_taken, on_refused}
 use Rattle.curve.specs.declared.Curve.{Curve}
-use Rattle.record_curve.specs.declared.CurveRead.TheVariants.{Taken as TakenCurve, Refused as RefusedCurve}
 use Rattle.record_curve.specs.Read.{CurveIs}
-use Rattle.call_answer.specs.declared.Answer.{Answer}
-use Rattle.call_answer.specs.declared.Answer.TheVariants.{Refused}
-use Rattle.call_answer.proofs.Written.{goes_on, stopped_as}
+use Rattle.call_batch.specs.declared.places.Repeat.{Repeat as Found}
 use Rattle.call_batch.specs.repeat.Repeats.{no_repeat, repeat_on, RepeatIs}
 
 module _ (s b : List ℕ) where
@@ -20,10 +20,10 @@ module _ (s b : List ℕ) where
   abbrev next : CurveRecord → Checked (Result Repeat)
   next c = go_on (batch c (λ l d. l ++ (d ∷ [])) b []) (λ x. taken (record { bytes = []; own = first_repeat c.p x.result }))
 
-  pub no_curve : {n : ℕ} → CurveIs s (RefusedCurve n) → RepeatIs (Refused n 0) (repeat_call s b)
+  pub no_curve : (by : Refusal) → CurveIs s (Err by) → RepeatIs (Err (record { by = by; place = 0 })) (repeat_call s b)
   unfolding repeat_call
-  no_curve h = stopped_as no_repeat refl refl (ap (deliver no_repeat []) (on_refused _ next h))
+  no_curve by h = sym (ap (deliver no_repeat []) (on_refused _ next h))
 
-  pub on_curve : (c : Curve) → CurveIs s (TakenCurve c) → {x : Answer} → RepeatIs x (repeat_on c b) → RepeatIs x (repeat_call s b)
+  pub on_curve : (c : Curve) → CurveIs s (Ok c) → (x : Outcome (Option Found) Refused) → RepeatIs x (repeat_on c b) → RepeatIs x (repeat_call s b)
   unfolding repeat_call
-  on_curve c h e = goes_on (ap (deliver no_repeat []) (on_taken _ next h.1)) e
+  on_curve c h x e = e ∙ sym (ap (deliver no_repeat []) (on_taken _ next h))

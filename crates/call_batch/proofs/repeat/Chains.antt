@@ -15,23 +15,21 @@ use Rattle.algebra.proofs.Zmod.PrimeField.{modulo}
 use Rattle.rules.specs.Checks.{Checked, refused, taken}
 use Rattle.rules.specs.Pair.{neutral}
 use Rattle.rules.specs.Records.{PairOf, us_at, numbers, divisor_at}
-use Rattle.rules.specs.First.{Clear, FirstAt}
+use Rattle.rules.specs.First.{Clear, FirstIs}
 use Rattle.rules.specs.Lists.{Same}
 use Rattle.rules.proofs.Calls.Same.{same_sym, same_trans}
 use Rattle.rules.proofs.Calls.Tests.{both_true}
 use Rattle.rules.proofs.Calls.Elements.{numbers_elements}
 use Rattle.rules.proofs.Calls.DivisorRecords.{pair_at_row, DivisorBytes, divisor_read}
 use Rattle.field.specs.Primes.{Decides}
+use Rattle.std.specs.Prelude.{Ok, Err}
+use Rattle.refusals.specs.declared.Refusal.{Refusal}
 use Rattle.divisor.specs.declared.Divisor.{Divisor}
 use Rattle.divisor.specs.Divisors.{pair}
 use Rattle.curve.specs.declared.Curve.{Curve}
-use Rattle.curve.specs.Curves.{Sound}
 use Rattle.curve.specs.Record.{record_of}
-use Rattle.record_divisor.specs.declared.DivisorRead.{DivisorRead}
-use Rattle.record_divisor.specs.declared.DivisorRead.TheVariants.{Taken, Refused}
 use Rattle.record_divisor.specs.Read.{DivisorIs}
 use Rattle.divisor_repeat.proofs.alike.Compared.{same_u}
-use Rattle.call_answer.proofs.Turns.{read_taken}
 use Rattle.call_batch.specs.repeat.Chains.{chain_of, Whole, Excludes}
 use Rattle.call_batch.specs.repeat.Rows.{taken_or, pair_at, SameAs, SameIn, Row, Rows}
 
@@ -49,27 +47,27 @@ module _ (c : Curve) (s : List ℕ) where
   pair_is : (a : ℕ) → Row c s a → pair_at c s a ≡ pair_at_row (record_of c) s a
   pair_is a r = stands a r.is ∙ sym (divisor_read (record_of c) 0 false s a (r.is 0)).1
 
-  pub same_us : Sound c → (a b : ℕ) → Row c s a → Row c s b → SameAs c s a b → us_at s a ≡ us_at s b
-  same_us h a b x y e = sym (number a x) ∙ ap (numbers c.m.p) (same_u (modulo c.m.p) _ _ (subst₂ Same (pair_is a x) (pair_is b y) e)) ∙ number b y
+  pub same_us : (a b : ℕ) → Row c s a → Row c s b → SameAs c s a b → us_at s a ≡ us_at s b
+  same_us a b x y e = sym (number a x) ∙ ap (numbers c.prime.m.p) (same_u (modulo c.prime.m.p) _ _ (subst₂ Same (pair_is a x) (pair_is b y) e)) ∙ number b y
     where
-      number : (a : ℕ) → Row c s a → numbers c.m.p (pair_at_row (record_of c) s a).u ≡ us_at s a
-      number a x = numbers_elements c.m.p (omega (arith, h.good.ring.from)) (us_at s a) (both_true _ _ (bytes_of a x).below).0
+      number : (a : ℕ) → Row c s a → numbers c.prime.m.p (pair_at_row (record_of c) s a).u ≡ us_at s a
+      number a x = numbers_elements c.prime.m.p (omega (arith, c.prime.m.odd)) (us_at s a) (both_true _ _ (bytes_of a x).below).0
 
-  pub not_same : Sound c → (a b : ℕ) → Row c s a → Row c s b → (t : Bool) → Excludes t (us_at s a ≡ us_at s b) → t ≡ false → SameAs c s a b → ⊥
-  not_same h a b x y t ex e same = subst (λ (t : Bool). Excludes t (us_at s a ≡ us_at s b)) e ex (same_us h a b x y same)
+  pub not_same : (a b : ℕ) → Row c s a → Row c s b → (t : Bool) → Excludes t (us_at s a ≡ us_at s b) → t ≡ false → SameAs c s a b → ⊥
+  not_same a b x y t ex e same = subst (λ (t : Bool). Excludes t (us_at s a ≡ us_at s b)) e ex (same_us a b x y same)
 
   was_taken : Checked (PairOf (record_of c)) → ℕ
   was_taken (refused n k) = 0
   was_taken (taken x) = 1
 
   -- a good record isn't refused
-  pub not_refused : (a : ℕ) {n : ℕ} → Row c s a → (r : DivisorRead) → DivisorIs c false s a r → r ≡ Refused n → ⊥
+  pub not_refused : (a : ℕ) (by : Refusal) → Row c s a → DivisorIs c false s a (Err by) → ⊥
   unfolding was_taken
-  not_refused a {n} row r is e = omega (arith, ap was_taken (sym (row.is 0) ∙ subst (DivisorIs c false s a) e is 0))
+  not_refused a by row is = omega (arith, ap was_taken (sym (row.is 0) ∙ is 0))
 
   -- what was read at both
-  pub read_both : (a b : ℕ) (q r : DivisorRead) → DivisorIs c false s a q → DivisorIs c false s b r → {d e : Divisor} → q ≡ Taken d → r ≡ Taken e → (x : Bool) → Decides x (Same (pair c.m d) (pair c.m e)) → Decides x (SameAs c s a b)
-  read_both a b q r hq hr {d} {e} p t x h = subst₂ (λ u v. Decides x (Same u v)) (sym (stands a (read_taken c s a q hq p).1)) (sym (stands b (read_taken c s b r hr t).1)) h
+  pub read_both : (a b : ℕ) {d e : Divisor} → DivisorIs c false s a (Ok d) → DivisorIs c false s b (Ok e) → (x : Bool) → Decides x (Same (pair c.prime.m d) (pair c.prime.m e)) → Decides x (SameAs c s a b)
+  read_both a b hd he x h = subst₂ (λ u v. Decides x (Same u v)) (sym (stands a hd.1)) (sym (stands b he.1)) h
 
 -- ---- the chains
 module _ (s places : List ℕ) where
@@ -122,8 +120,8 @@ module _ (s places : List ℕ) where
       new_head t l (no p) = subst (Latest t (j + 1)) (sym (get_or-set_other head b t (j + 1) 0 p)) (later t j (get_or head t 0) (h.heads t l) (λ e. p (sym (eb ∙ e))))
 
 -- ---- a walk
-pub same_bucket : (c : Curve) (s places : List ℕ) (n : ℕ) → Sound c → Rows c s places n → (x y : ℕ) → x < n → y < n → SameIn c s places x y → bucket s places x ≡ bucket s places y
-same_bucket c s places n h rows x y lx ly e = ap chain_of (same_us c s h _ _ (rows.row x lx) (rows.row y ly) e)
+pub same_bucket : (c : Curve) (s places : List ℕ) (n : ℕ) → Rows c s places n → (x y : ℕ) → x < n → y < n → SameIn c s places x y → bucket s places x ≡ bucket s places y
+same_bucket c s places n rows x y lx ly e = ap chain_of (same_us c s _ _ (rows.row x lx) (rows.row y ly) e)
 
 -- under way at i: none from there on is as j is
 pub record Walk (c : Curve) (s places : List ℕ) (j i : ℕ) : Type 0 where
@@ -131,11 +129,11 @@ pub record Walk (c : Curve) (s places : List ℕ) (j i : ℕ) : Type 0 where
   pub is : (y : ℕ) → i ≡ suc y → bucket s places y ≡ bucket s places j
   pub none : (x : ℕ) → i ≤ x → x < j → SameIn c s places x j → ⊥
 
-module _ (c : Curve) (s places : List ℕ) (n : ℕ) (sound : Sound c) (rows : Rows c s places n) (head before : List ℕ) (j : ℕ) (lj : j < n) (h : Chained s places head before j) where
+module _ (c : Curve) (s places : List ℕ) (n : ℕ) (rows : Rows c s places n) (head before : List ℕ) (j : ℕ) (lj : j < n) (h : Chained s places head before j) where
   pub walk_begin : (b i : ℕ) → b < 4096 → b ≡ bucket s places j → i ≡ get_or head b 0 → Walk c s places j i
   walk_begin b i lb eb ei =
       let l : Latest s places (bucket s places j) j i = subst₂ (λ (t u : ℕ). Latest s places t j u) eb (sym ei) (h.heads b lb) in
-      record { on = l.on; is = l.is; none = λ x lo hi q. l.none x lo hi (same_bucket c s places n sound rows x j (omega (arith, hi, lj)) lj q) }
+      record { on = l.on; is = l.is; none = λ x lo hi q. l.none x lo hi (same_bucket c s places n rows x j (omega (arith, hi, lj)) lj q) }
 
   pub walk_turn : (i x i' : ℕ) → Walk c s places j i → i ≡ suc x → (SameIn c s places x j → ⊥) → i' ≡ get_or before x 0 → Walk c s places j i'
   walk_turn i x i' w ex no-x ei =
@@ -147,15 +145,15 @@ module _ (c : Curve) (s places : List ℕ) (n : ℕ) (sound : Sound c) (rows : R
       }
     where
       by_side : Latest s places (bucket s places x) x i' → (t : ℕ) → Dec (t < x) → Dec (t ≡ x) → i' ≤ t → t < j → SameIn c s places t j → ⊥
-      by_side l t (yes p) q lo hi e = l.none t lo p (same_bucket c s places n sound rows t j (omega (arith, hi, lj)) lj e ∙ sym (w.is x ex))
+      by_side l t (yes p) q lo hi e = l.none t lo p (same_bucket c s places n rows t j (omega (arith, hi, lj)) lj e ∙ sym (w.is x ex))
       by_side l t (no p) (yes q) lo hi e = no-x (subst (λ (u : ℕ). SameIn c s places u j) q e)
       by_side l t (no p) (no q) lo hi e = w.none t (omega (arith, p, q, ex)) hi e
 
-pub found_first : (c : Curve) (s places : List ℕ) (n x j : ℕ) → x < j → j < n → Clear (SameIn c s places) j → SameIn c s places x j → FirstAt (SameIn c s places) n x j
-found_first c s places n x j lx lj clear same = record {
+pub found_first : (c : Curve) (s places : List ℕ) (n x j : ℕ) → x < j → j < n → Clear (SameIn c s places) j → SameIn c s places x j → FirstIs (SameIn c s places) n (record { first = x + 1; second = j + 1 })
+found_first c s places n x j lx lj clear same = subst₂ (λ a b. FirstIs (SameIn c s places) n (record { first = a; second = b })) {x = suc x} {y = x + 1} {u = suc j} {v = j + 1} (omega arith) (omega arith) (record {
   within = lj;
   before = lx;
   same = same;
   least_j = clear;
-  least_i = λ a l q. clear x lx a l (same_trans (modulo c.m.p) _ _ _ q (same_sym (modulo c.m.p) _ _ same));
-}
+  least_i = λ a l q. clear x lx a l (same_trans (modulo c.prime.m.p) _ _ _ q (same_sym (modulo c.prime.m.p) _ _ same));
+})

@@ -1,6 +1,6 @@
 -- The records of a batch by where each begins: what is found by these is found among the divisors that the records stand for. Places in the list are
 -- counted from 0 in code.
-use Rattle.std.specs.Prelude.{ℕ, suc, ◌≤◌, ◌<◌, ◌≡◌, false, List, get_or, length}
+use Rattle.std.specs.Prelude.{ℕ, ◌≤◌, ◌<◌, ◌≡◌, false, Option, Some, None, List, get_or, length}
 use Rattle.rules.specs.Checks.{Checked, refused, taken}
 use Rattle.rules.specs.Pair.{neutral}
 use Rattle.rules.specs.Records.{PairOf, divisor_at}
@@ -8,8 +8,7 @@ use Rattle.rules.specs.First.{Repeat as Places}
 use Rattle.rules.specs.Lists.{Same}
 use Rattle.curve.specs.declared.Curve.{Curve}
 use Rattle.curve.specs.Record.{record_of}
-use Rattle.call_batch.specs.declared.repeat.Repeat.{Repeat}
-use Rattle.call_batch.specs.declared.repeat.Repeat.TheVariants.{Pair, Nothing}
+use Rattle.call_batch.specs.declared.places.Repeat.{Repeat}
 
 abbrev pub taken_or : {A : Type 0} → A → Checked A → A
 taken_or z (refused n k) = z
@@ -37,6 +36,7 @@ pub record Rows (c : Curve) (s places : List ℕ) (n : ℕ) : Type 0 where
   pub long : length places ≡ 4096
   pub row : (x : ℕ) → x < n → Row c s (get_or places x 0)
 
-abbrev pub places_of : Repeat → Places
-places_of (Pair i j) = record { first = suc i; second = suc j }
-places_of Nothing = record { first = 0; second = 0 }
+-- what was found, as the rules have it: 0 and 0 for nothing
+abbrev pub places_of : Option Repeat → Places
+places_of (Some x) = record { first = x.first; second = x.second }
+places_of None = record { first = 0; second = 0 }

@@ -35,12 +35,12 @@ use Rattle.call_multiply.specs.order.Folds.{is_neutral_fold_by, Folded, NoneBelo
 pub folded : (c : Curve) (a : Divisor) (n : ℕ) (y : Multiple) → Multiplied c a n y → (w : ℕ) → w ≡ weight_of y.divisor → Folded c a n (eqb w 0)
 folded c a n y h w e = record { is = go (ℕ_discrete w 0) }
   where
-    same : not (is_weight (pair c.m y.divisor)) ≡ is_neutral_fold_by c a n
+    same : not (is_weight (pair c.prime.m y.divisor)) ≡ is_neutral_fold_by c a n
     same = ap (λ t. not (is_weight t)) h.gives.is
 
     go : Dec (w ≡ 0) → eqb w 0 ≡ is_neutral_fold_by c a n
-    go (yes z) = eq-eqb w 0 z ∙ sym (ap not (weightless c.m y.divisor (sym e ∙ z))) ∙ same
-    go (no z) = ne_eqb w 0 z ∙ sym (ap not (weighty c.m y.divisor (λ q. z (e ∙ q)))) ∙ same
+    go (yes z) = eq-eqb w 0 z ∙ sym (ap not (weightless c.prime.m y.divisor (sym e ∙ z))) ∙ same
+    go (no z) = ne_eqb w 0 z ∙ sym (ap not (weighty c.prime.m y.divisor (λ q. z (e ∙ q)))) ∙ same
 
 -- ---- none below, one of the row after the other
 pub record Looking (c : Curve) (a : Divisor) (n : ℕ) (s : List ℕ) (k j : ℕ) : Type 0 where
@@ -75,7 +75,7 @@ module _ (c : Curve) (a : Divisor) (n : ℕ) (s : List ℕ) (k j : ℕ) (h : Loo
 -- ---- the whole test: m is the order's number
 module _ (c : Curve) (a : Divisor) (order primes : List ℕ) (m : ℕ) (m-is : m ≡ number order) where
   abbrev Is : Type 0
-  Is = Tested (record_of c) (pair c.m a) order primes
+  Is = Tested (record_of c) (pair c.prime.m a) order primes
 
   passes : Is → is_order (is_neutral_fold_by c a) m (listed primes) ≡ true
   passes o = ap (λ (k : ℕ). is_order (is_neutral_fold_by c a) k (listed primes)) m-is ∙ o.is

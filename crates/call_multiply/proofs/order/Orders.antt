@@ -1,47 +1,44 @@
--- From what was read and tested to the rule's answer: a curve or divisor refused, an order too long, an order that isn't, and one that is.
+-- From what was read and tested to the rule's answer: an order too long, an order that isn't, and one that is.
 use Prim.Native.Nat.{ℕ, ◌≤◌, ◌<◌}
 use mathlib.Core.Path.{◌≡◌, sym, ap, ◌∙◌}
 use mathlib.Core.List.{List, []}
 use lib.ListN.{length}
+use Rattle.std.specs.Prelude.{Ok, Err}
+use Rattle.refusals.specs.declared.Refusal.TheVariants.{ScalarLength, Order}
 use Rattle.rules.specs.Checks.{Checked, first_failed}
 use Rattle.rules.specs.Records.{CurveRecord, PairOf}
-use Rattle.rules.specs.Calls.{Result, order_checks, check_order}
+use Rattle.rules.specs.Calls.{Answer, Result, deliver, order_checks, check_order}
+use Rattle.rules.proofs.Calls.Refusals.{on_taken}
 use Rattle.rules.proofs.Calls.Written.{only}
 use Rattle.rules.proofs.Calls.Orders.{Tested, checks_long, checks_pass, checks_fail}
 use Rattle.divisor.specs.declared.Divisor.{Divisor}
 use Rattle.divisor.specs.Divisors.{pair}
 use Rattle.curve.specs.declared.Curve.{Curve}
 use Rattle.curve.specs.Record.{record_of}
-use Rattle.call_answer.specs.declared.Answer.TheVariants.{Done, Refused}
-use Rattle.call_answer.specs.declared.CurveAndDivisor.TheVariants.{Taken, Refused as RefusedFirst}
-use Rattle.call_answer.specs.Answers.{CheckIs, FirstRead, OneIs}
-use Rattle.call_answer.proofs.Firsts.{one_stops, one_goes}
-use Rattle.call_answer.proofs.Written.{answer}
+use Rattle.call_answer.specs.Answers.{CheckIs, Firsts}
 
-module _ (s a order primes : List ℕ) where
-  go : FirstRead → Checked (Result (Unit {0}))
-  go p = first_failed (order_checks p.0 order primes p.1) (only [])
+answer : Checked (Result (Unit {0})) → Answer
+answer x = (deliver tt [] x).answer
 
-  pub order_refused : {n k : ℕ} → OneIs s a (RefusedFirst n k) → CheckIs (Refused n k) (check_order s a order primes)
-  unfolding go check_order
-  order_refused {n} {k} h = sym (ap answer (one_stops go s a n k h))
+module _ (s a order primes : List ℕ) (e : Curve) (x : Divisor) (h : Firsts s a e x) where
+  abbrev c : CurveRecord
+  c = record_of e
 
-  module _ (e : Curve) (x : Divisor) (h : OneIs s a (Taken e x)) where
-    abbrev c : CurveRecord
-    c = record_of e
+  abbrev d : PairOf c
+  d = pair e.prime.m x
 
-    abbrev d : PairOf c
-    d = pair e.m x
+  on : {r : Checked (Result (Unit {0}))} → first_failed (order_checks c order primes d) (only []) ≡ r → answer r ≡ check_order s a order primes
+  unfolding check_order answer
+  on q = sym (ap answer (on_taken _ _ h.curve ∙ on_taken _ _ h.divisor ∙ q))
 
-    on : {r : Checked (Result (Unit {0}))} → first_failed (order_checks c order primes d) (only []) ≡ r → answer r ≡ (check_order s a order primes, (0, 0))
-    unfolding go check_order
-    on q = sym (ap answer (one_goes go s a (c, d) h.is ∙ q))
+  pub order_long : 32 < length order → CheckIs (Err (record { by = ScalarLength; place = 0 })) (check_order s a order primes)
+  unfolding answer
+  order_long l = on (checks_long (only []) c order primes d l)
 
-    pub order_long : 32 < length order → CheckIs (Refused 12 0) (check_order s a order primes)
-    order_long l = on (checks_long (only []) c order primes d l)
+  pub order_done : length order ≤ 32 → Tested c d order primes → CheckIs (Ok tt) (check_order s a order primes)
+  unfolding answer
+  order_done l t = on (checks_pass (only []) c order primes d l t)
 
-    pub order_done : length order ≤ 32 → Tested c d order primes → CheckIs (Done 0 0 0) (check_order s a order primes)
-    order_done l t = on (checks_pass (only []) c order primes d l t)
-
-    pub order_not : length order ≤ 32 → (Tested c d order primes → ⊥) → CheckIs (Refused 27 0) (check_order s a order primes)
-    order_not l t = on (checks_fail (only []) c order primes d l t)
+  pub order_not : length order ≤ 32 → (Tested c d order primes → ⊥) → CheckIs (Err (record { by = Order; place = 0 })) (check_order s a order primes)
+  unfolding answer
+  order_not l t = on (checks_fail (only []) c order primes d l t)

@@ -5,20 +5,15 @@ use Rattle.rules.specs.Calls.{is_neutral_fold}
 use Rattle.divisor.specs.declared.Divisor.{Divisor}
 use Rattle.divisor.specs.Divisors.{pair}
 use Rattle.curve.specs.declared.Curve.{Curve}
-use Rattle.curve.specs.Curves.{Sound, Holds}
+use Rattle.curve.specs.Curves.{Holds}
 use Rattle.curve.specs.Record.{record_of}
 use Rattle.field_witness.specs.Witness.{AllSome}
 
 abbrev pub is_neutral_fold_by : Curve → Divisor → ℕ → Bool
-is_neutral_fold_by c a = is_neutral_fold (record_of c) (pair c.m a)
-
-pub record Folding (c : Curve) (a : Divisor) : Type 0 where
-  pub sound : Sound c
-  pub holds : Holds c a
+is_neutral_fold_by c a = is_neutral_fold (record_of c) (pair c.prime.m a)
 
 -- with listed numbers above 0
 pub record ToLook (c : Curve) (a : Divisor) (l : List ℕ) : Type 0 where
-  pub sound : Sound c
   pub holds : Holds c a
   pub some : AllSome l
 

@@ -1,14 +1,14 @@
--- A curve's f as a polynomial of code.
+-- An equation's f as a polynomial of code.
 use Rattle.std.specs.Prelude.{◌+◌, ◌≡◌}
 use Rattle.rules.specs.Curve.{f}
 use Rattle.poly.specs.declared.Poly.{Poly}
 use Rattle.poly.specs.Polys.{pol, Ok}
 use Rattle.poly.specs.Operations.{IsMonic}
-use Rattle.curve.specs.declared.Curve.{Curve}
-use Rattle.curve.specs.Curves.{curve_of}
+use Rattle.curve.specs.declared.Equation.{Equation}
+use Rattle.curve.specs.Equations.{equation}
 
-pub record OfCurve (c : Curve) (x : Poly) : Type 0 where
-  pub ok : Ok c.m x
-  pub odd : x.n ≡ c.g + c.g + 2
-  pub monic : IsMonic c.m x
-  pub is : pol c.m x ≡ f (curve_of c)
+pub record OfEquation (e : Equation) (x : Poly) : Type 0 where
+  pub ok : Ok e.prime.m x
+  pub odd : x.n ≡ e.g + e.g + 2
+  pub monic : IsMonic e.prime.m x
+  pub is : pol e.prime.m x ≡ f (equation e.prime.m e.g e.f0 e.f1 e.f2 e.f3 e.f4 e.f5 e.f6)

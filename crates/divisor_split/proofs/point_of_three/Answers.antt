@@ -1,13 +1,6 @@
-use Rattle.field.proofs.Laws.{settled_kept}
 use Rattle.divisor.specs.declared.Divisor.TheVariants.{Three}
 use Rattle.divisor_split.proofs.Parts.{point_is, left_of_three, settled_as}
 use Rattle.divisor_split.proofs.point_of_three.Goals as goal
 
-pub less-w-requires : goal.less-w-requires
-less-w-requires c = (settled_kept c.args.m c.requires.held.v.1.0, (settled_kept c.args.m c.requires.held.v.1.1.0, settled_kept c.args.m c.settle-u0.ensures.settled))
-
-pub less-requires : goal.less-requires
-less-requires c = (settled_kept c.args.m c.requires.held.v.0, (c.less-w.ensures.kept, settled_kept c.args.m c.settle-u0.ensures.settled))
-
 pub returns : goal.returns
-returns c = point_is c.args.m c.requires.held.good (Three c.args.d) (settled_as c.args.m c.neg.ensures c.settle-u0.ensures) (left_of_three c.args.m c.args.d c.requires.held _ c.less-w.ensures c.less.ensures) c.settle-v0.ensures
+returns c = point_is c.args.m (Three c.args.d) (settled_as c.args.m c.neg.ensures c.settle-u0.ensures) (left_of_three c.args.m c.args.d c.requires.held _ c.less-w.ensures c.less.ensures) c.settle-v0.ensures

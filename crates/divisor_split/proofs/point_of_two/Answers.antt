@@ -1,10 +1,6 @@
-use Rattle.field.proofs.Laws.{settled_kept}
 use Rattle.divisor.specs.declared.Divisor.TheVariants.{Two}
 use Rattle.divisor_split.proofs.Parts.{point_is, left_of_two, settled_as}
 use Rattle.divisor_split.proofs.point_of_two.Goals as goal
 
-pub less-requires : goal.less-requires
-less-requires c = (settled_kept c.args.m c.requires.held.v.0, (settled_kept c.args.m c.requires.held.v.1.0, settled_kept c.args.m c.settle-u0.ensures.settled))
-
 pub returns : goal.returns
-returns c = point_is c.args.m c.requires.held.good (Two c.args.d) (settled_as c.args.m c.neg.ensures c.settle-u0.ensures) (left_of_two c.args.m c.args.d c.requires.held _ c.less.ensures) c.settle-v0.ensures
+returns c = point_is c.args.m (Two c.args.d) (settled_as c.args.m c.neg.ensures c.settle-u0.ensures) (left_of_two c.args.m c.args.d c.requires.held _ c.less.ensures) c.settle-v0.ensures

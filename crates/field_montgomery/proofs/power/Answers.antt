@@ -5,14 +5,8 @@ use Rattle.field_montgomery.proofs.power.Goals as goal
 pub loop-k-init : goal.loop-k-init
 loop-k-init c = power_begin _ _ _ _ c.requires
 
-pub product-x-requires : goal.product-x-requires
-product-x-requires c = both_requires _ _ _ _ c.loop-k.invariant
-
 pub loop-k-preserved-then-k-eq1 : goal.loop-k-preserved-then-k-eq1
 loop-k-preserved-then-k-eq1 c = power_odd_turn _ _ _ _ c.loop-k.invariant c.loop-k-test.true c.product-x.ensures
-
-pub product-y-requires : goal.product-y-requires
-product-y-requires c = square_requires _ _ _ _ c.loop-k.invariant
 
 pub loop-k-preserved : goal.loop-k-preserved
 loop-k-preserved c = power_even_turn _ _ _ _ c.loop-k.invariant (omega (arith, c.if-k-eq1.false)) c.product-y.ensures

@@ -7,4 +7,4 @@ use Rattle.field.specs.Residues.{el}
 use Rattle.field_root.proofs.is_square.Goals as goal
 
 pub returns : goal.returns
-returns c = by_power c.args.m c.requires.good c.is_one.result (el c.args.m c.args.a) _ c.requires.nonzero (c.power.ensures.is ∙ ap (λ (n : ℕ). power (zmod c.args.m.p) (el c.args.m c.args.a) ((n - 1) / 2)) c.number.ensures) c.is_one.ensures
+returns c = by_power c.args.prime.m c.args.prime.prime c.is_one.result (el c.args.prime.m c.args.a) _ c.requires.nonzero (c.power.ensures.is ∙ ap (λ (n : ℕ). power (zmod c.args.prime.m.p) (el c.args.prime.m c.args.a) ((n - 1) / 2)) c.number.ensures) c.is_one.ensures

@@ -1,5 +1,7 @@
+use native.Mathlib.Omega.{arith}
+use mathlib.Core.Path.{refl}
 use Rattle.field_words.proofs.Newton.{closer_is}
 use Rattle.field_words.proofs.closer.Goals as goal
 
 pub returns : goal.returns
-returns c = closer_is _ _ _ _ _ c.low.ensures c.wrapping_sub_u64.ensures.value c.low-2.ensures
+returns c = closer_is _ _ _ _ _ refl (omega arith) refl

@@ -2,8 +2,5 @@ use Rattle.std.proofs.Common.{arith}
 use Rattle.field_words.proofs.Montgomery.{covered, reduced}
 use Rattle.field_words.proofs.reduce.Goals as goal
 
-pub overflow_sub-result : goal.overflow_sub-result
-overflow_sub-result c = covered c.args.p c.args.q c.requires.0 c.args.l (omega arith) _ _ c.low.ensures c.high-n.ensures c.args.h
-
 pub returns : goal.returns
 returns c = reduced c.args.p c.args.q c.requires.0 c.args.l (omega arith) _ _ c.low.ensures c.high-n.ensures c.args.h c.requires.1

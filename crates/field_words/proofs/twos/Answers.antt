@@ -3,8 +3,5 @@ use lib.Count.{trailing_le}
 use Rattle.field_words.proofs.Trailing.{twos_is}
 use Rattle.field_words.proofs.twos.Goals as goal
 
-pub overflow_cast-result : goal.overflow_cast-result
-overflow_cast-result c = omega (arith, trailing_le 64 c.args.n)
-
 pub returns : goal.returns
 returns c = twos_is c.args.n c.requires (omega arith)

@@ -5,13 +5,10 @@ use Rattle.multiple_affine.proofs.promise.Multiplying.{begin, turn, end, by_none
 use Rattle.multiple_affine.proofs.affine.Goals as goal
 
 pub returns-then-length-eq0 : goal.returns-then-length-eq0
-returns-then-length-eq0 c = by_none c.args.c c.args.a (number c.args.s.now) c.from_bytes-n.result c.from_bytes-n.ensures c.requires.sound c.requires.holds (omega arith) c.neutral.ensures
+returns-then-length-eq0 c = by_none c.args.c c.args.a (number c.args.s.now) c.from_bytes-n.result c.from_bytes-n.ensures c.requires.holds (omega arith) c.neutral.ensures
 
 pub loop-k-init : goal.loop-k-init
-loop-k-init c = begin c.args.c c.args.a (number c.args.s.now) c.from_bytes-n.result c.from_bytes-n.ensures c.requires.sound c.requires.holds (omega arith)
-
-pub step-r-requires : goal.step-r-requires
-step-r-requires c = record { sound = c.requires.sound; left = c.loop-k.invariant.gives.holds; right = c.requires.holds; opposed = c.opposite-b.ensures }
+loop-k-init c = begin c.args.c c.args.a (number c.args.s.now) c.from_bytes-n.result c.from_bytes-n.ensures c.requires.holds (omega arith)
 
 pub loop-k-preserved : goal.loop-k-preserved
 loop-k-preserved c = turn c.args.c c.args.a c.from_bytes-n.result.at c.from_bytes-n.result.length c.loop-k.r c.step-r.result c.loop-k.k c.loop-k.invariant (omega arith) (omega (arith, c.loop-k.invariant.place, c.from_bytes-n.ensures.within, c.from_bytes-n.ensures.room)) c.step-r.ensures

@@ -3,6 +3,3 @@ use Rattle.multiple_affine.proofs.affine.Given as goal
 
 abbrev pub invariant-loop-k : goal.invariant-loop-k
 invariant-loop-k l = Multiplying l.c l.a l.at l.length l.r l.k
-
-abbrev pub decreases-loop-k : goal.decreases-loop-k
-decreases-loop-k l = l.k

@@ -3,34 +3,6 @@ use Rattle.algebra.proofs.Zmod.Zmod.{zmod}
 use Rattle.sum_formulas.proofs.Tuples.Projective2.{differ_1, differ_2, chord_r, chord_s1, chord_s0}
 use Rattle.multiple_tuple.proofs.chord.Goals as goal
 
-pub dot-z3-requires : goal.dot-z3-requires
-dot-z3-requires c = (c.requires.0.u1, c.requires.1.1.1.kept.z1, c.requires.1.1.1.kept.z2, c.requires.0.z)
-
-pub mul-y-requires : goal.mul-y-requires
-mul-y-requires c = (c.requires.1.1.1.kept.z1, c.requires.0.u0)
-
-pub dot-r-requires : goal.dot-r-requires
-dot-r-requires c = (c.requires.1.1.1.kept.z2, c.dot-z3.ensures.kept, c.requires.1.1.1.kept.z1, c.mul-y.ensures.kept)
-
-pub sub-w0-requires : goal.sub-w0-requires
-sub-w0-requires c = (c.requires.1.0.v0, c.requires.1.1.0.v0)
-
-pub sub-w1-requires : goal.sub-w1-requires
-sub-w1-requires c = (c.requires.1.0.v1, c.requires.1.1.0.v1)
-
-pub dot-requires : goal.dot-requires
-dot-requires c = (c.requires.1.1.1.kept.z2, c.sub-w1.ensures.kept, c.requires.1.1.1.kept.z1, c.sub-w0.ensures.kept)
-
-pub mul-s1-requires : goal.mul-s1-requires
-mul-s1-requires c = (c.dot.ensures.kept, c.requires.0.z)
-
-pub cross-requires : goal.cross-requires
-cross-requires c = (c.dot-z3.ensures.kept, c.sub-w0.ensures.kept, c.sub-w1.ensures.kept, c.mul-y.ensures.kept)
-
-pub mul-s0-requires : goal.mul-s0-requires
-mul-s0-requires c =
-    (c.cross.ensures.kept, c.requires.1.1.0.z)
-
 pub returns : goal.returns
 returns c =
     let K = zmod c.args.m.p in

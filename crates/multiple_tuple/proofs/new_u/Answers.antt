@@ -3,45 +3,6 @@ use Rattle.algebra.proofs.Zmod.Zmod.{zmod}
 use Rattle.sum_formulas.proofs.Tuples.Projective2.{new_u0, new_u1}
 use Rattle.multiple_tuple.proofs.new_u.Goals as goal
 
-pub mul-y-requires : goal.mul-y-requires
-mul-y-requires c = (c.requires.1.0.s1, c.requires.1.1.1.0.z1)
-
-pub sub-d-requires : goal.sub-d-requires
-sub-d-requires c = (c.requires.1.0.s0, c.mul-y.ensures.kept)
-
-pub add-requires : goal.add-requires
-add-requires c = (c.requires.1.0.s0, c.sub-d.ensures.kept)
-
-pub cross-n1-requires : goal.cross-n1-requires
-cross-n1-requires c = (c.requires.1.1.0.kept.s3, c.add.ensures.kept, c.requires.1.1.0.kept.rz, c.requires.1.1.0.kept.rz)
-
-pub dbl-requires : goal.dbl-requires
-dbl-requires c = c.requires.0.v1
-
-pub mul-requires : goal.mul-requires
-mul-requires c = (c.requires.1.1.1.1, c.requires.0.z)
-
-pub sub-requires : goal.sub-requires
-sub-requires c = (c.requires.1.1.1.0.both, c.mul.ensures.kept)
-
-pub dot-c-requires : goal.dot-c-requires
-dot-c-requires c = (c.requires.1.0.s1, c.dbl.ensures.kept, c.requires.1.0.r, c.sub.ensures.kept)
-
-pub dot-requires : goal.dot-requires
-dot-requires c =
-    (c.sub-d.ensures.kept, c.sub-d.ensures.kept, c.mul-y.ensures.kept, c.requires.1.1.0.kept.t)
-
-pub mul-requires-2 : goal.mul-requires-2
-mul-requires-2 c =
-    (c.requires.1.0.s1, c.requires.1.1.1.0.z2)
-
-pub dot-requires-2 : goal.dot-requires-2
-dot-requires-2 c =
-    (c.requires.1.1.0.kept.s3, c.mul-2.ensures.kept, c.requires.1.1.0.kept.rz, c.dot-c.ensures.kept)
-
-pub add-n0-requires : goal.add-n0-requires
-add-n0-requires c = (c.dot.ensures.kept, c.dot-2.ensures.kept)
-
 pub returns : goal.returns
 returns c =
     let K = zmod c.args.m.p in

@@ -15,9 +15,10 @@ use Rattle.algebra.proofs.Poly.Term.{C, X, term, constants}
 use Rattle.algebra.proofs.Poly.Degree.{Degree, deg_monic, deg_ne}
 use Rattle.algebra.proofs.List.Ops.{whole}
 use Rattle.algebra.proofs.List.Value.{pol as list-pol, mon, mon_monic}
+use Rattle.algebra.proofs.Zmod.Prime.{Prime}
 use Rattle.field.specs.declared.Modulus.{Modulus}
 use Rattle.field.specs.declared.Residue.{Residue}
-use Rattle.field.specs.Residues.{el, Good, Settles, Stands}
+use Rattle.field.specs.Residues.{el, Settles, Stands}
 use Rattle.field.proofs.Laws.{residue_field}
 use Rattle.poly.specs.declared.Poly.{Poly}
 use Rattle.poly.specs.Polys.{pol, Is}
@@ -48,9 +49,9 @@ module _ (m : Modulus) where
   pub rest_poly : (r : Rest) {a b c : Residue} {x : Poly} → Settles m a (el m r.c0) → Settles m b (el m r.c1) → Settles m c (el m r.c2) → Is m x (list-pol (K m) (el m a ∷ el m b ∷ el m c ∷ [])) 3 → Is m x (rest m r) 3
   rest_poly r {a} {b} {c} ha hb hc h = record { ok = h.ok; is = h.is ∙ ap₂ (λ s t. list-pol (K m) (s ∷ t ∷ el m c ∷ [])) ha.is hb.is ∙ ap (λ t. list-pol (K m) (el m r.c0 ∷ el m r.c1 ∷ t ∷ [])) hc.is; short = h.short }
 
-  module _ (good : Good m) where
-    pub cubic_degree : (u : MonicCubic) → Degree (residue_field m good) 3 (cubic m u)
-    cubic_degree u = deg_monic (residue_field m good) (mon_monic (K m) (lows m u))
+  module _ (prime : Prime m.p) where
+    pub cubic_degree : (u : MonicCubic) → Degree (residue_field m prime) 3 (cubic m u)
+    cubic_degree u = deg_monic (residue_field m prime) (mon_monic (K m) (lows m u))
 
     pub shared : (u : MonicCubic) (r : Rest) {a b g : Poly} → Is m a (cubic m u) 4 → Is m b (rest m r) 3 → Gcd m a b g → Shared m u r g
     shared u r {a} {b} {g} ha hb h = record {
@@ -67,7 +68,7 @@ module _ (m : Modulus) where
           where
             go : Dec (g.n ≡ 0) → 0 < g.n
             go (no n) = omega arith
-            go (yes e) = absurd (deg_ne (residue_field m good) (cubic_degree u) (sym ha.is ∙ h.left.is ∙ ap (λ t. h.left.factor *P t) (none_is m h.ok e) ∙ mul_zer (P m) h.left.factor))
+            go (yes e) = absurd (deg_ne (residue_field m prime) (cubic_degree u) (sym ha.is ∙ h.left.is ∙ ap (λ t. h.left.factor *P t) (none_is m h.ok e) ∙ mul_zer (P m) h.left.factor))
 
     -- ---- the gcd with what d leaves
     pub part_of : (u : MonicCubic) (r : Rest) {g : Poly} → Shared m u r g → (d q : Po) → d ≡ q *P cubic m u +P rest m r → Part m u d g

@@ -5,7 +5,7 @@ use Rattle.algebra.proofs.Zmod.Zmod.{zmod}
 use Rattle.algebra.proofs.Poly.Poly.{poly}
 use Rattle.algebra.proofs.List.Value.{pol, mon}
 use Rattle.field.specs.declared.Modulus.{Modulus}
-use Rattle.field.specs.Residues.{el, Good, Kept, Settled}
+use Rattle.field.specs.Residues.{el, Kept, Settled}
 use Rattle.poly_root.specs.declared.rests.MonicCubic.{MonicCubic}
 use Rattle.poly_root.specs.declared.rests.Rest.{Rest}
 
@@ -26,7 +26,6 @@ abbrev pub rest : (m : Modulus) → Rest → (P m).El
 rest m r = pol (K m) (el m r.c0 ∷ el m r.c1 ∷ el m r.c2 ∷ [])
 
 pub record SettledCubic (m : Modulus) (u : MonicCubic) : Type 0 where
-  pub good : Good m
   pub s0 : Settled m u.u0
   pub s1 : Settled m u.u1
   pub s2 : Settled m u.u2

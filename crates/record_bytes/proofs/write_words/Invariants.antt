@@ -6,7 +6,4 @@ use Rattle.rules.specs.Bytes.{all_bytes}
 use Rattle.record_bytes.proofs.write_words.Given as goal
 
 abbrev pub invariant-loop-k : goal.invariant-loop-k
-invariant-loop-k l = (l.k ≤ l.n) × (l.out ≡ sets l.initial.out l.a (all_bytes (take l.k l.x)))
-
-abbrev pub decreases-loop-k : goal.decreases-loop-k
-decreases-loop-k l = l.n - l.k
+invariant-loop-k l = l.out ≡ sets l.initial.out l.a (all_bytes (take l.k l.x))

@@ -1,23 +1,16 @@
-use Rattle.field.proofs.Decide.{decided_yes, decided_no}
-use Rattle.record_curve.proofs.Coefficients.{shaped, built_curve, repeated, low_large, high_large}
+use Rattle.refusals.specs.declared.Refusal.TheVariants.{CurveCoefficient}
+use Rattle.refusals.proofs.Exits.{exit_none}
+use Rattle.record_curve.proofs.Coefficients.{low_large, high_large, of_equation}
 use Rattle.record_curve.proofs.read_coefficients.Goals as goal
 
-pub f_of-requires : goal.f_of-requires
-f_of-requires c =
-    shaped c.args.s.now c.args.g c.args.m c.requires c.residues_at-low.result c.residues_at-high.result c.residues_at-low.ensures c.residues_at-high.ensures _
+pub returns-in_err-l : goal.returns-in_err-l
+returns-in_err-l c = let x = exit_none c.residues_at.result CurveCoefficient c.from_residual.result c.in_err-l.ensures.value c.from_residual.ensures.1 in
+    rw x.1 (low_large c.args.s.now c.args.g c.args.prime c.requires (rw x.0 at c.residues_at.ensures))
 
-pub returns-then-is_square_free : goal.returns-then-is_square_free
-returns-then-is_square_free c =
-    built_curve c.args.s.now c.args.g c.args.m c.requires c.residues_at-low.result c.residues_at-high.result c.residues_at-low.ensures c.residues_at-high.ensures _ c.if-low.true c.if-high.true c.f_of.result c.f_of.ensures (decided_yes c.if-is_square_free.true c.is_square_free.ensures)
+pub returns-in_err-h : goal.returns-in_err-h
+returns-in_err-h c = let x = exit_none c.residues_at-2.result CurveCoefficient c.from_residual-in_err-h.result c.in_err-h.ensures.value c.from_residual-in_err-h.ensures.1 in
+    rw x.1 (high_large c.args.s.now c.args.g c.args.prime c.requires _ (rw c.in_ok-l.ensures.ok_part at c.residues_at.ensures) (rw x.0 at c.residues_at-2.ensures))
 
-pub returns-then-high : goal.returns-then-high
-returns-then-high c =
-    repeated c.args.s.now c.args.g c.args.m c.requires c.residues_at-low.result c.residues_at-high.result c.residues_at-low.ensures c.residues_at-high.ensures _ c.if-low.true c.if-high.true c.f_of.result c.f_of.ensures (decided_no c.if-is_square_free.false c.is_square_free.ensures)
-
-pub returns-else-high : goal.returns-else-high
-returns-else-high c =
-    high_large c.args.s.now c.args.g c.args.m c.requires c.residues_at-low.result c.residues_at-high.result c.residues_at-low.ensures c.residues_at-high.ensures c.if-low.true c.if-high.false
-
-pub returns-else-low : goal.returns-else-low
-returns-else-low c =
-    low_large c.args.s.now c.args.g c.args.m c.requires c.residues_at-low.result c.residues_at-high.result c.residues_at-low.ensures c.residues_at-high.ensures c.if-low.false
+pub returns : goal.returns
+returns c =
+    of_equation c.args.s.now c.args.g c.args.prime c.requires _ (rw c.in_ok-l.ensures.ok_part at c.residues_at.ensures) _ (rw c.in_ok-h.ensures.ok_part at c.residues_at-2.ensures) _ c.of_equation.result c.of_equation.ensures

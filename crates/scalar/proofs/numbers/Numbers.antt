@@ -8,6 +8,7 @@ use native.Mathlib.Omega.{arith}
 use native.Mathlib.Nat.{div-add-mod, mod-lt, div-lt_iff_lt-mul, mul-add-div, mul-add-mod_self_left, mod-eq_of_lt, div-eq_of_lt}
 use lib.ListN.{length, take, drop, get_or, set, replicate, length-set}
 use lib.Seq.{take-suc-set, take_all, split_at}
+use Rattle.std.specs.Prelude.{Some, None}
 use Rattle.rules.specs.Bytes.{number}
 use Rattle.rules.proofs.Calls.Bytes.{number_more}
 use Rattle.scalar.specs.numbers.Numbers.{Capped, DividedBy}
@@ -76,14 +77,14 @@ large n k l some = omega (
 )
 
 module _ (n : List ℕ) (room : length n ≡ 32) (t k : ℕ) (h : Capping n t k) where
-  pub capping_stop : k < 32 → (t ≡ 0 → ⊥) → Capped (number n) 256
-  capping_stop l some = record { is = λ less. absurd (omega (arith, less, large n k (omega arith) (omega (arith, h.is)))); most = λ m. refl }
+  pub capping_stop : k < 32 → (t ≡ 0 → ⊥) → Capped (number n) None
+  capping_stop l some = large n k (omega arith) (omega (arith, h.is))
 
   pub capping_turn : k < 32 → t ≡ 0 → (b : ℕ) → b ≡ get_or n k 0 → b < 256 → Capping n b (k + 1)
   capping_turn l z b e less = record { within = omega arith; byte = less; is = number_more n k (omega arith) ∙ omega (arith, h.is, z, e) }
 
-  pub capping_end : 32 ≤ k → Capped (number n) t
-  capping_end l = let e = sym (number_all n k (omega arith)) ∙ h.is in record { is = λ less. sym e; most = λ m. absurd (omega (arith, e, m, h.byte)) }
+  pub capping_end : 32 ≤ k → Capped (number n) (Some t)
+  capping_end l = (sym h.is ∙ number_all n k (omega arith), h.byte)
 
 -- ---- divided
 pub record Dividing (n : List ℕ) (q : ℕ) (out : List ℕ) (left k : ℕ) : Type 0 where

@@ -3,12 +3,13 @@
 -- Open: `row`.
 use Prim.Native.Nat.{ℕ, suc, ◌+◌, ◌-◌, ◌*◌, ◌≤◌, ◌<◌}
 use mathlib.Core.Path.{◌≡◌, sym, ap, ap₂, ◌∙◌, subst}
-use mathlib.Core.Bool.{Bool, false}
+use mathlib.Core.Bool.{Bool, true, false, true≢false}
 use mathlib.Core.List.{List, [], ◌∷◌}
-use native.Mathlib.Decide.{dec_lt}
 use native.Mathlib.Omega.{arith}
 use lib.Dec.{eqb}
-use borrow.Author.Tests.{ne_eqb}
+use borrow.Author.Tests.{eqb-true, eq-eqb, ne_eqb}
+use Rattle.std.specs.Prelude.{Option, Some, None}
+use Rattle.std.specs.Option.{option_eq}
 use Rattle.rules.specs.Bytes.{number, word32, words32}
 use Rattle.field.specs.Primes.{Decides}
 use Rattle.field.proofs.Decide.{decided_no}
@@ -45,27 +46,16 @@ module _ (s : List ℕ) (k : ℕ) where
   row_end i l = ap (words32 s (4 * i)) {x = k - i} {y = 0} (omega arith)
 
 -- the tests for 0 and for 1
-module _ (n r : ℕ) (h : Capped n r) where
-  pub capped_none : r ≡ 0 → n ≡ 0
-  capped_none z = go (dec_lt n 256)
-    where
-      go : Dec (n < 256) → n ≡ 0
-      go (yes l) = sym (h.is l) ∙ z
-      go (no l) = absurd (omega (arith, z, h.most (omega arith)))
+capped_is : (k : ℕ) → k < 256 → (n : ℕ) (r : Option ℕ) → Capped n r → option_eq eqb r (Some k) ≡ eqb n k
+capped_is k l n (Some t) h = ap (λ (x : ℕ). eqb x k) h.0
+capped_is k l n None h = sym (ne_eqb n k (λ e. omega (arith, h)))
 
-  pub capped_some : (r ≡ 0 → ⊥) → 0 < n
-  capped_some ne = go (dec_lt 0 n)
-    where
-      go : Dec (0 < n) → 0 < n
-      go (yes l) = l
-      go (no l) = absurd (ne (h.is (omega arith) ∙ omega arith))
+module _ (n : ℕ) (r : Option ℕ) (h : Capped n r) (b : Bool) (e : b ≡ option_eq eqb r (Some 0)) where
+  pub capped_none : b ≡ true → n ≡ 0
+  capped_none t = eqb-true n 0 (sym (capped_is 0 (omega arith) n r h) ∙ sym e ∙ t)
 
-pub capped_one : (n r : ℕ) → Capped n r → eqb n 1 ≡ eqb r 1
-capped_one n r h = go (dec_lt n 256)
-  where
-    go : Dec (n < 256) → eqb n 1 ≡ eqb r 1
-    go (yes l) = ap (λ (x : ℕ). eqb x 1) (sym (h.is l))
-    go (no l) = ne_eqb n 1 (λ e. omega arith) ∙ sym (ne_eqb r 1 (λ e. omega (arith, h.most (omega arith))))
+  pub capped_some : b ≡ false → 0 < n
+  capped_some f = let ne : n ≡ 0 → ⊥ = λ z. true≢false (sym (eq-eqb n 0 z) ∙ sym (capped_is 0 (omega arith) n r h) ∙ sym e ∙ f) in omega (arith, ne)
 
 -- ---- what the loop over the list keeps
 pub record Looking (s : List ℕ) (k n last left i : ℕ) : Type 0 where
@@ -92,5 +82,5 @@ module _ (s : List ℕ) (k n last left i : ℕ) (h : Looking s k n last left i) 
       is = left_turn n (words32 s 0 k) _ last left x _ h.is (row_next s k i l x e) a p (sym g.left ∙ z) r t;
     }
 
-  pub looking_end : k ≤ i → (r : ℕ) → Capped left r → Decides (eqb r 1) (MadeOf n (words32 s 0 k))
-  looking_end l r c = subst (λ (b : Bool). Decides b (MadeOf n (words32 s 0 k))) (capped_one left r c) (left_end n (words32 s 0 k) _ last left h.is (row_end s k i l))
+  pub looking_end : k ≤ i → (r : Option ℕ) → Capped left r → (b : Bool) → b ≡ option_eq eqb r (Some 1) → Decides b (MadeOf n (words32 s 0 k))
+  looking_end l r c b e = subst (λ (b : Bool). Decides b (MadeOf n (words32 s 0 k))) (sym (capped_is 1 (omega arith) left r c) ∙ sym e) (left_end n (words32 s 0 k) _ last left h.is (row_end s k i l))

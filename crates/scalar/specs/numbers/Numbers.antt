@@ -1,12 +1,12 @@
 -- What is promised of a number n of 32 bytes: itself up to 255, and its quotient and remainder.
-use Rattle.std.specs.Prelude.{ℕ, ◌/◌, ◌%◌, ◌≤◌, ◌<◌, ◌≡◌, length}
+use Rattle.std.specs.Prelude.{ℕ, ◌/◌, ◌%◌, ◌≤◌, ◌<◌, ◌≡◌, Option, Some, None, length}
 use Rattle.rules.specs.Bytes.{number}
 use Rattle.scalar.specs.declared.numbers.Divided.{Divided}
 
--- r is n, or 256 where n is as large
-pub record Capped (n r : ℕ) : Type 0 where
-  pub is : n < 256 → r ≡ n
-  pub most : 256 ≤ n → r ≡ 256
+-- n, where it is below 256
+abbrev pub Capped : ℕ → Option ℕ → Type 0
+Capped n (Some r) = (r ≡ n) × (r < 256)
+Capped n None = 256 ≤ n
 
 pub record DividedBy (n q : ℕ) (r : Divided) : Type 0 where
   pub is : number r.quotient ≡ n / q

@@ -12,8 +12,7 @@ use Rattle.divisor.specs.Divisors.{us, vs}
 use Rattle.scan_total.specs.declared.Running.{Running}
 use Rattle.scan_total.specs.Totals.{Fresh}
 use Rattle.scan_record.specs.Scans.{running_of}
-use Rattle.scan_record.specs.declared.lent.Report.{Report}
-use Rattle.scan_record.specs.lent.Lent.{ScanIs}
+use Rattle.scan_record.specs.lent.Lent.{Report, answer_of, ScanIs}
 use Rattle.rules.proofs.Calls.Sequences.{Scan, AllScans, last_total, took, sequence_total}
 
 fresh_is : (pole : ℕ) (t : Running) → Fresh pole t → running_of t ≡ fresh pole
@@ -24,8 +23,8 @@ module _ (s : List ℕ) {c : CurveRecord} (ec : read_curve s ≡ taken c) where
   LentScan t a r after = ScanIs t s a r after
 
   pub lent_is_batch_total : (pole : ℕ) (t : Running) → Fresh pole t → (xs later : List (Scan Running Report)) → AllScans LentScan t (xs ++ later)
-      → (out : List ℕ) → total_call s (flatten (records_of (took (λ (r : Report). r.number) xs))) out ≡ put 0 out (running_result (running_of (last_total t xs)))
+      → (out : List ℕ) → total_call s (flatten (records_of (took (λ (r : Report). (answer_of r).number) xs))) out ≡ put 0 out (running_result (running_of (last_total t xs)))
   lent_is_batch_total pole t f =
-      sequence_total (λ (r : Report). r.number) LentScan s running_of (λ t. Unit {0})
+      sequence_total (λ (r : Report). (answer_of r).number) LentScan s running_of (λ t. Unit {0})
       (λ t a r after f h. record { fine = tt; answers = ap (λ (w : Reply RuleRunning). w.answer.number) h.is; leaves = ap (λ (w : Reply RuleRunning). w.own) h.is })
       ec t tt pole (fresh_is pole t f)

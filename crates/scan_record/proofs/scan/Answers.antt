@@ -1,13 +1,9 @@
-use mathlib.Core.Path.{subst}
-use Rattle.record_curve.specs.Read.{CurveIs}
+use Rattle.refusals.proofs.Exits.{exit_err}
 use Rattle.scan_record.proofs.Scanned.{no_curve, on_curve}
 use Rattle.scan_record.proofs.scan.Goals as goal
 
-pub scan_on-requires : goal.scan_on-requires
-scan_on-requires c = (subst (CurveIs c.args.curve.now) c.in-Taken.is c.read_curve.ensures).0
+pub returns-in_err-c : goal.returns-in_err-c
+returns-in_err-c c = rw (exit_err c.from_residual.result c.from_residual.ensures.1) (no_curve c.args.t c.args.curve.now c.args.«record».now _ c.in_err-c.ensures)
 
-pub returns-in-Taken : goal.returns-in-Taken
-returns-in-Taken c = on_curve c.args.t c.args.curve.now c.args.«record».now _ (subst (CurveIs c.args.curve.now) c.in-Taken.is c.read_curve.ensures) c.scan_on.result c.scan_on.ensures
-
-pub returns-in-Refused : goal.returns-in-Refused
-returns-in-Refused c = no_curve c.args.t c.args.curve.now c.args.«record».now (subst (CurveIs c.args.curve.now) c.in-Refused.is c.read_curve.ensures)
+pub returns : goal.returns
+returns c = on_curve c.args.t c.args.curve.now c.args.«record».now c.in_ok-c.c c.in_ok-c.ensures c.scan_on.result c.scan_on.ensures

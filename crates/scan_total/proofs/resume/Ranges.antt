@@ -13,7 +13,7 @@ use Rattle.rules.specs.Records.{both, is_below}
 use Rattle.rules.proofs.Calls.Tests.{both_true, true_both}
 use Rattle.field.specs.declared.Modulus.{Modulus}
 use Rattle.field.specs.declared.Residue.{Residue}
-use Rattle.field.specs.Residues.{raw, InRange}
+use Rattle.field.specs.Residues.{raw, Settled}
 use Rattle.field.proofs.Decide.{otherwise}
 use Rattle.divisor.specs.declared.Divisor.{Divisor}
 use Rattle.divisor.specs.Divisors.{weight_of, us, vs, coefficients, RowOf}
@@ -34,14 +34,14 @@ module _ (m : Modulus) where
     pub all : ListIn m (take k r)
 
   module _ (d : Divisor) (r : List Residue) (h : RowOf d r) (w : ℕ) (w_is : w ≡ weight_of d) (k : ℕ) where
-    pub range_turn : (z : Residue) → Ranged (2 * w) r k → k < 2 * w → InRange m (get_or r k z) → Ranged (2 * w) r (k + 1)
+    pub range_turn : (z : Residue) → Ranged (2 * w) r k → k < 2 * w → Settled m (get_or r k z) → Ranged (2 * w) r (k + 1)
     range_turn z t l i = record {
       within = omega arith;
       all = subst (λ n. ListIn m (take n r)) {x = suc k} {y = k + 1} (omega arith) (rw (take-suc r k z (omega (arith, row_long d r h))) (in_both m (take k r) (get_or r k z ∷ []) t.all (i, tt)));
     }
 
-    pub range_stop : (z : Residue) → k < 2 * w → (InRange m (get_or r k z) → ⊥) → AllIn m d → ⊥
-    range_stop z l n a = n (subst (InRange m) (sym (row_at d r h k z (omega arith))) (in_at m (coefficients d) k z (in_both m (us d) (vs d) a.0 a.1) (omega (arith, length-coefficients d))))
+    pub range_stop : (z : Residue) → k < 2 * w → (Settled m (get_or r k z) → ⊥) → AllIn m d → ⊥
+    range_stop z l n a = n (subst (Settled m) (sym (row_at d r h k z (omega arith))) (in_at m (coefficients d) k z (in_both m (us d) (vs d) a.0 a.1) (omega (arith, length-coefficients d))))
 
     pub range_end : Ranged (2 * w) r k → 2 * w ≤ k → AllIn m d
     range_end t l = in_parts (us d) (vs d) (subst (ListIn m) h.is (subst (λ n. ListIn m (take n r)) {x = k} {y = 2 * weight_of d} (omega (arith, t.within)) t.all))

@@ -3,7 +3,7 @@ use Rattle.std.specs.Prelude.{◌≡◌, List, [], ◌∷◌, map}
 use Rattle.rules.specs.Records.{elements, numbers}
 use Rattle.field.specs.declared.Modulus.{Modulus}
 use Rattle.field.specs.declared.Residue.{Residue}
-use Rattle.field.specs.Residues.{raw, InRange}
+use Rattle.field.specs.Residues.{raw, Settled}
 use Rattle.divisor.specs.declared.Divisor.{Divisor}
 use Rattle.divisor.specs.Divisors.{weight_of, us, vs, pair, Held}
 
@@ -11,7 +11,7 @@ module _ (m : Modulus) where
   -- every coefficient is below p
   abbrev pub ListIn : List Residue → Type 0
   ListIn [] = Unit {0}
-  ListIn (r ∷ l) = InRange m r × ListIn l
+  ListIn (r ∷ l) = Settled m r × ListIn l
 
   abbrev pub AllIn : Divisor → Type 0
   AllIn d = ListIn (us d) × ListIn (vs d)

@@ -1,12 +1,6 @@
 use Rattle.sum_genus2.proofs.Found.{closes_flat}
 use Rattle.sum_genus2.proofs.close_flat.Goals as goal
 
-pub mul-k-requires : goal.mul-k-requires
-mul-k-requires c = (c.requires.1.1.0.c0, c.requires.1.1.1.1.0.kept)
-
-pub line-requires : goal.line-requires
-line-requires c = (c.requires.0, (c.requires.1.0, (c.mul-k.ensures.kept, c.requires.1.1.1.1.1)))
-
 pub returns : goal.returns
 returns c = closes_flat c.args.m c.args.f4 c.args.a c.args.b c.args.o c.args.i
     c.mul-k.result c.requires.1.1.1.1.0 c.mul-k.ensures c.requires.1.1.1.0.is

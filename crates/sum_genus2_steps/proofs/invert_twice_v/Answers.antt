@@ -1,27 +1,9 @@
 use mathlib.Core.Path.{refl, ap, ap₂, ◌∙◌}
 use Rattle.algebra.proofs.Zmod.Zmod.{zmod}
-use Rattle.field.proofs.Laws.{residue_field, settled_kept}
+use Rattle.field.proofs.Laws.{one_ne, settled_kept}
 use Rattle.sum_formulas.proofs.Coprime.{r2_none_twice}
 use Rattle.sum_genus2_steps.proofs.Tables.{tangent_is}
 use Rattle.sum_genus2_steps.proofs.invert_twice_v.Goals as goal
-
-pub neg-i1-requires : goal.neg-i1-requires
-neg-i1-requires c = settled_kept c.args.m c.requires.0.v.1.0
-
-pub mul-requires : goal.mul-requires
-mul-requires c = (settled_kept c.args.m c.requires.0.u.1.0, c.neg-i1.ensures.kept)
-
-pub add-i0-requires : goal.add-i0-requires
-add-i0-requires c = (c.mul.ensures.kept, settled_kept c.args.m c.requires.0.v.0)
-
-pub dot-requires : goal.dot-requires
-dot-requires c = (settled_kept c.args.m c.requires.0.v.0, c.add-i0.ensures.kept, settled_kept c.args.m c.requires.0.u.0, c.requires.1.kept)
-
-pub dbl-requires : goal.dbl-requires
-dbl-requires c = c.dot.ensures.kept
-
-pub settle-r-requires : goal.settle-r-requires
-settle-r-requires c = c.dbl.ensures.kept
 
 pub returns : goal.returns
 returns c =
@@ -33,5 +15,5 @@ returns c =
       settled = c.settle-r.ensures.settled;
       j = _;
       is = is;
-      none = λ z. r2_none_twice K (residue_field c.args.m c.requires.0.good).one_ne _ _ _ _ _ _ _ _ c.neg-i1.ensures.is h0 is z;
+      none = λ z. r2_none_twice K (one_ne c.args.m) _ _ _ _ _ _ _ _ c.neg-i1.ensures.is h0 is z;
     }

@@ -1,30 +1,9 @@
 use mathlib.Core.Path.{refl, ap, ap₂, ◌∙◌}
 use Rattle.algebra.proofs.Zmod.Zmod.{zmod}
-use Rattle.field.proofs.Laws.{residue_field, settled_kept}
+use Rattle.field.proofs.Laws.{one_ne, settled_kept}
 use Rattle.sum_formulas.proofs.Coprime.{r2_none}
 use Rattle.sum_formulas.proofs.Genus2.{invert2_is}
 use Rattle.sum_genus2_steps.proofs.invert_u.Goals as goal
-
-pub sub-i1-requires : goal.sub-i1-requires
-sub-i1-requires c = (settled_kept c.args.m c.requires.1.u.1.0, settled_kept c.args.m c.requires.0.u.1.0)
-
-pub sub-e-requires : goal.sub-e-requires
-sub-e-requires c = (settled_kept c.args.m c.requires.0.u.0, settled_kept c.args.m c.requires.1.u.0)
-
-pub mul-requires : goal.mul-requires
-mul-requires c = (settled_kept c.args.m c.requires.1.u.1.0, c.sub-i1.ensures.kept)
-
-pub add-i0-requires : goal.add-i0-requires
-add-i0-requires c = (c.mul.ensures.kept, c.sub-e.ensures.kept)
-
-pub sqr-requires : goal.sqr-requires
-sqr-requires c = c.sub-i1.ensures.kept
-
-pub dot-requires : goal.dot-requires
-dot-requires c = (c.sub-e.ensures.kept, c.add-i0.ensures.kept, c.sqr.ensures.kept, settled_kept c.args.m c.requires.1.u.0)
-
-pub settle-r-requires : goal.settle-r-requires
-settle-r-requires c = c.dot.ensures.kept
 
 pub returns : goal.returns
 returns c =
@@ -38,7 +17,7 @@ returns c =
         settled = c.settle-r.ensures.settled;
         j = _;
         is = is;
-        none = λ z. r2_none K (residue_field c.args.m c.requires.0.good).one_ne _ _ _ _ _ _ _ _ c.sub-i1.ensures.is h0 is z;
+        none = λ z. r2_none K (one_ne c.args.m) _ _ _ _ _ _ _ _ c.sub-i1.ensures.is h0 is z;
       },
       record { c1 = c.sub-i1.ensures.is; c0 = h0 },
     )

@@ -3,11 +3,5 @@ use Rattle.field.proofs.Laws.{settled_kept}
 use Rattle.sum_formulas.proofs.Genus2.{gap2_is}
 use Rattle.sum_genus2_steps.proofs.v_gap.Goals as goal
 
-pub sub-c0-requires : goal.sub-c0-requires
-sub-c0-requires c = (settled_kept c.args.m c.requires.1.v.0, settled_kept c.args.m c.requires.0.v.0)
-
-pub sub-c1-requires : goal.sub-c1-requires
-sub-c1-requires c = (settled_kept c.args.m c.requires.1.v.1.0, settled_kept c.args.m c.requires.0.v.1.0)
-
 pub returns : goal.returns
 returns c = record { kept = record { c0 = c.sub-c0.ensures.kept; c1 = c.sub-c1.ensures.kept }; is = gap2_is (zmod c.args.m.p) _ _ _ _ _ _ c.sub-c0.ensures.is c.sub-c1.ensures.is }

@@ -5,23 +5,6 @@ use Rattle.sum_genus3.specs.Steps.{Quotient}
 use Rattle.sum_genus3.proofs.Ends.{ends}
 use Rattle.sum_genus3.proofs.close.Goals as goal
 
-pub divide-y-requires : goal.divide-y-requires
-divide-y-requires c = c.requires.1.1.0
-
-pub stretch-z-requires : goal.stretch-z-requires
-stretch-z-requires c = (c.requires.0, c.divide-y.ensures.kept)
-
-pub new_u-n-requires : goal.new_u-n-requires
-new_u-n-requires c =
-    (c.requires.0, (c.requires.1.0, (c.divide-y.ensures.kept, (c.stretch-z.ensures.kept, c.requires.1.1.1.1.1))))
-
-pub new_v-t-requires : goal.new_v-t-requires
-new_v-t-requires c = (c.requires.0, (c.divide-y.ensures.kept, (c.stretch-z.ensures.kept, c.new_u-n.ensures.kept)))
-
-pub second-requires : goal.second-requires
-second-requires c =
-    (c.requires.0.good, (c.new_u-n.ensures.kept, (c.new_v-t.ensures.kept, (c.requires.1.1.1.0, c.requires.1.1.1.1))))
-
 pub returns : goal.returns
 returns c =
     record {

@@ -6,24 +6,6 @@ use Rattle.sum_formulas.proofs.Genus2.{unit2_is}
 use Rattle.sum_formulas.proofs.Close3.{slope_is}
 use Rattle.sum_genus3.proofs.divide.Goals as goal
 
-pub mul-x-requires : goal.mul-x-requires
-mul-x-requires c = (settled_kept c.args.m c.requires.ready.r, c.requires.kept)
-
-pub sqr-requires : goal.sqr-requires
-sqr-requires c = settled_kept c.args.m c.requires.ready.s.c2
-
-pub mul-w-requires : goal.mul-w-requires
-mul-w-requires c = (c.sqr.ensures.kept, c.requires.kept)
-
-pub mul-wi-requires : goal.mul-wi-requires
-mul-wi-requires c = (settled_kept c.args.m c.requires.ready.r, c.mul-x.ensures.kept)
-
-pub mul-p0-requires : goal.mul-p0-requires
-mul-p0-requires c = (c.mul-x.ensures.kept, c.requires.ready.s.c0)
-
-pub mul-p1-requires : goal.mul-p1-requires
-mul-p1-requires c = (c.mul-x.ensures.kept, c.requires.ready.s.c1)
-
 pub returns : goal.returns
 returns c =
     let K = zmod c.args.m.p in

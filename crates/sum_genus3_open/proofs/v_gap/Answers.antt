@@ -3,15 +3,6 @@ use Rattle.field.proofs.Laws.{settled_kept}
 use Rattle.sum_formulas.proofs.Open3.{gap_is}
 use Rattle.sum_genus3_open.proofs.v_gap.Goals as goal
 
-pub sub-c0-requires : goal.sub-c0-requires
-sub-c0-requires c = (settled_kept c.args.m c.requires.1.v.0, settled_kept c.args.m c.requires.0.v.0)
-
-pub sub-c1-requires : goal.sub-c1-requires
-sub-c1-requires c = (settled_kept c.args.m c.requires.1.v.1.0, settled_kept c.args.m c.requires.0.v.1.0)
-
-pub sub-c2-requires : goal.sub-c2-requires
-sub-c2-requires c = (settled_kept c.args.m c.requires.1.v.1.1.0, settled_kept c.args.m c.requires.0.v.1.1.0)
-
 pub returns : goal.returns
 returns c =
     let K = zmod c.args.m.p in

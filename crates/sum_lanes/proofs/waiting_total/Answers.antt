@@ -7,13 +7,4 @@ use Rattle.sum_lanes.proofs.Side.{together_none, together_more}
 use Rattle.sum_lanes.proofs.waiting_total.Goals as goal
 
 pub loop-i-init : goal.loop-i-init
-loop-i-init c = (omega arith, together_none _ c.requires.0 (waiter c.args.l) _ c.neutral-t.ensures)
-
-pub sum-t-requires : goal.sum-t-requires
-sum-t-requires c = (c.requires.0, (c.loop-i.invariant.1.holds, c.requires.1.1 c.loop-i.i (omega arith)))
-
-pub loop-i-preserved : goal.loop-i-preserved
-loop-i-preserved c = (search rules, together_more _ c.requires.0 _ c.loop-i.i _ _ c.loop-i.invariant.1 c.sum-t.ensures)
-
-pub returns : goal.returns
-returns c = subst (λ n. Gives c.args.c c.loop-i.t (together c.args.c (waiter c.args.l) n)) {x = c.loop-i.i} {y = c.args.n} (omega arith) c.loop-i.invariant.1
+loop-i-init c = (omega arith, together_none _ (waiter c.args.l) _ c.neutral-t.ensures)

@@ -19,7 +19,7 @@ use Rattle.sum_lanes.specs.declared.openings.Opening.TheVariants.{Special, ByTwo
 -- by the formula of genus 2
 pub record FromTwo (c : Curve) (a b : Quadratic) (o : Opened2) : Type 0 where
   pub genus : c.g ≡ 2
-  pub opens : Opens2 c.m a b o
+  pub opens : Opens2 c.prime.m a b o
 
 module _ (c : Curve) where
   -- both of weight 2, both of weight 3
@@ -39,14 +39,14 @@ module _ (c : Curve) where
   is_three (Three x) Neutral o = ⊥
   is_three (Three x) (One y) o = ⊥
   is_three (Three x) (Two y) o = ⊥
-  is_three (Three x) (Three y) o = Opens3 c.m x y o
+  is_three (Three x) (Three y) o = Opens3 c.prime.m x y o
 
   -- genus 2, the slope is short: its formula has an inverse of its own
   pub record ShortTwo (a b : Divisor) : Type 0 where
     pub o : Opened2
     pub opens : is_two a b o
-    pub nonzero : el c.m o.r ≢ (zmod c.m.p).zer
-    pub top : el c.m o.s.c1 ≡ (zmod c.m.p).zer
+    pub nonzero : el c.prime.m o.r ≢ (zmod c.prime.m.p).zer
+    pub top : el c.prime.m o.s.c1 ≡ (zmod c.prime.m.p).zer
 
   -- nothing is opened only where no formula is to be taken, or that one
   abbrev pub From : Divisor → Divisor → Opening → Type 0
@@ -78,7 +78,7 @@ module _ (m : Modulus) where
 -- opened from a and b
 pub record Opened (c : Curve) (a b : Divisor) (o : Opening) : Type 0 where
   pub from : From c a b o
-  pub fit : Fit c.m o
+  pub fit : Fit c.prime.m o
 
 -- what is to be inverted
 pub record Under (m : Modulus) (o : Opening) (r : Residue) : Type 0 where

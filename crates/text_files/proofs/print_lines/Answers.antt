@@ -7,10 +7,10 @@ use Rattle.text_lines.proofs.Rule.Census.{fewer}
 use Rattle.text_files.proofs.print_lines.Goals as goal
 
 pub loop-y-init : goal.loop-y-init
-loop-y-init g c = subst (Holds c.args.c) (sym c.neutral-d.ensures) (neutral-holds c.args.c c.requires.good)
+loop-y-init g c = subst (Holds c.args.c) (sym c.neutral-d.ensures) (neutral-holds c.args.c)
 
 -- Each turn leaves one divisor less behind the one printed.
 pub loop-y-smaller : goal.loop-y-smaller
 loop-y-smaller g c =
-    fewer (record_of c.args.c) (omega (arith, c.requires.good.ring.from)) (omega (arith, c.requires.good.ring.turns.most))
-    (pair c.args.c.m c.loop-y.d) c.loop-y.invariant.valid _ c.in-Found.ensures.1
+    fewer (record_of c.args.c) (omega (arith, c.args.c.prime.m.odd.from)) (omega (arith, c.args.c.prime.m.odd.most))
+    (pair c.args.c.prime.m c.loop-y.d) c.loop-y.invariant.valid _ c.in-Some.ensures.1

@@ -9,4 +9,4 @@ abbrev pub invariant-loop-y : goal.invariant-loop-y
 invariant-loop-y g l = Holds l.c l.d
 
 abbrev pub decreases-loop-y : goal.decreases-loop-y
-decreases-loop-y g l = length (onward (record_of l.c) (pair l.c.m l.d))
+decreases-loop-y g l = length (onward (record_of l.c) (pair l.c.prime.m l.d))

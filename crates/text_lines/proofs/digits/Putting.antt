@@ -1,10 +1,11 @@
 -- Bytes put one after the other: x, then y behind it, is x ++ y; and where x ++ y has room, x has, and y behind it.
-use Prim.Native.Nat.{ℕ, ◌+◌, ◌<◌}
+use Prim.Native.Nat.{ℕ, ◌+◌, ◌-◌, ◌≤◌, ◌<◌}
 use mathlib.Core.Path.{◌≡◌, refl, sym, ap, subst, ◌∙◌}
-use mathlib.Core.List.{List, [], ◌∷◌, ◌++◌}
+use mathlib.Core.List.{List, [], ◌∷◌, ◌++◌, append_assoc}
 use native.Mathlib.Omega.{arith}
-use lib.ListN.{length, take, length-append}
-use lib.Seq.{sets, take-length}
+use lib.ListN.{length, take, drop, length-append}
+use lib.Seq.{sets, sets-eq}
+use borrow.Rule.Slice.PartMut.{put_mid, post_of, Post-is}
 use Rattle.record_bytes.proofs.Writing.{sets_append}
 use Rattle.text_lines.specs.digits.Put.{PutAt, Room}
 
@@ -43,9 +44,14 @@ module _ {text : List ℕ} (x : List ℕ) (d : ℕ) (e : text ≡ x ++ (d ∷ []
     pub put_last : {o' : List ℕ} {l r : ℕ} → l ≡ d → PutAt o b (l ∷ []) o' r → PutAt out a text o' r
     put_last q k = put_as (sym e) (put_then h (put_as (ap (λ (n : ℕ). n ∷ []) q) k))
 
--- all of s
-pub put_all : (out s o : List ℕ) (a k : ℕ) → k ≡ length s → o ≡ sets out a (take k s) → PutAt out a s o (a + k)
-put_all out s o a k e h = record { next = omega arith; put = h ∙ ap (sets out a) (ap (λ (n : ℕ). take n s) e ∙ take-length s) }
+-- all of s, in the part from a on
+pub put_all : (out s part : List ℕ) (a : ℕ) → part ≡ s → a + length s ≤ length out → PutAt out a s (put_mid a (a + length s - a) out part) (a + length s)
+put_all out s part a e h = record {
+  next = refl;
+  put = ap (λ (l : List ℕ). take a out ++ (l ++ post_of a (a + length s - a) out)) e
+      ∙ ap (λ (l : List ℕ). take a out ++ (s ++ l)) (Post-is a (a + length s) out (omega arith))
+      ∙ sym (append_assoc (take a out) s (drop (a + length s) out)) ∙ sym (sets-eq s out a h);
+}
 
 -- x, then y, then one byte d
 module _ (a : ℕ) (x y : List ℕ) (d : ℕ) (room : Room a (x ++ (y ++ (d ∷ [])))) where

@@ -1,24 +1,17 @@
 -- src/lib.rt:75:9
-use native.Mathlib.Omega.{arith}
-use Prim.Native.Nat.{◌≤◌, ◌*◌}
+use Prim.Native.Nat.{◌*◌}
 use lib.ListN.{take}
-use Rattle.divisor.specs.Divisors.{weight_of}
-use Rattle.divisor.proofs.Laws.{weight_le}
 use Rattle.text_lines.specs.digits.Digits.{hex}
 use Rattle.text_lines.specs.Lines.{spaced}
 use Rattle.text_lines.proofs.digits.Putting.{put_then, first_room, second_room, third_room}
 use Rattle.text_lines.proofs.Lines.{parts_room, record_put}
-use borrow.Author.Rules.{rules}
 use Rattle.text_lines.proofs.put_record.Goals as goal
 
 pub put_hex-c-requires : goal.put_hex-c-requires
 put_hex-c-requires c = first_room c.args.a (hex 2 c.weight-w.result) (spaced (take (2 * c.weight-w.result) c.numbers_of-x.result)) 10 (parts_room c.args.m c.args.t c.numbers_of-x.result c.weight-w.result c.weight-w.ensures c.numbers_of-x.ensures c.args.a c.requires.1)
 
-pub overflow_mul-w : goal.overflow_mul-w
-overflow_mul-w c = let l : weight_of c.args.t ≤ 3 = weight_le c.args.t in search rules
-
 pub put_numbers-d-requires : goal.put_numbers-d-requires
-put_numbers-d-requires c = (omega (arith, weight_le c.args.t, c.weight-w.ensures), second_room c.args.a (hex 2 c.weight-w.result) (spaced (take (2 * c.weight-w.result) c.numbers_of-x.result)) 10 (parts_room c.args.m c.args.t c.numbers_of-x.result c.weight-w.result c.weight-w.ensures c.numbers_of-x.ensures c.args.a c.requires.1) c.put_hex-c.ensures)
+put_numbers-d-requires c = second_room c.args.a (hex 2 c.weight-w.result) (spaced (take (2 * c.weight-w.result) c.numbers_of-x.result)) 10 (parts_room c.args.m c.args.t c.numbers_of-x.result c.weight-w.result c.weight-w.ensures c.numbers_of-x.ensures c.args.a c.requires.1) c.put_hex-c.ensures
 
 pub put_byte-requires : goal.put_byte-requires
 put_byte-requires c = third_room c.args.a (hex 2 c.weight-w.result) (spaced (take (2 * c.weight-w.result) c.numbers_of-x.result)) 10 (parts_room c.args.m c.args.t c.numbers_of-x.result c.weight-w.result c.weight-w.ensures c.numbers_of-x.ensures c.args.a c.requires.1) c.put_hex-c.ensures c.put_numbers-d.ensures

@@ -1,13 +1,14 @@
 use native.Mathlib.Omega.{arith}
 use Prim.Native.Nat.{ℕ}
+use mathlib.Core.Path.{ap}
+use borrow.Author.Rules.{rules}
 use Rattle.text_lines.specs.digits.Digits.{letters}
 use Rattle.text_lines.specs.digits.Put.{Room}
 use Rattle.text_lines.specs.Lines.{refused_line, two}
 use Rattle.text_lines.proofs.Lengths.{refused-short}
 use Rattle.text_lines.proofs.digits.Decimals.{Word}
 use Rattle.text_lines.proofs.digits.Putting.{second_room, third_room, all_three}
-use Rattle.text_lines.proofs.Printing.{printed}
-use borrow.Author.Rules.{rules}
+use Rattle.text_lines.proofs.Printing.{printed, printed_as}
 use Rattle.text_lines.proofs.refusal.Goals as goal
 
 room : (n k : ℕ) → Word n → Word k → Room 0 (refused_line n k)
@@ -23,4 +24,4 @@ put_byte-requires c = third_room 0 (letters "refused ") (two c.args.number c.arg
 
 pub returns : goal.returns
 unfolding refused_line
-returns c = let r = room c.args.number c.args.place (search rules) (search rules) in printed r (all_three 0 (letters "refused ") (two c.args.number c.args.place) 10 r c.put_bytes-a.ensures c.put_two-b.ensures c.put_byte.ensures)
+returns c = printed (room c.args.number c.args.place (search rules) (search rules)) (all_three 0 (letters "refused ") (two c.args.number c.args.place) 10 (room c.args.number c.args.place (search rules) (search rules)) c.put_bytes-a.ensures c.put_two-b.ensures c.put_byte.ensures)

@@ -3,4 +3,4 @@ use Rattle.call_multiply.proofs.order.Folds.{folded}
 use Rattle.call_multiply.proofs.order.is_neutral_fold.Goals as goal
 
 pub returns : goal.returns
-returns c = folded c.args.c c.args.a (number c.args.n) c.quicker-y.result c.quicker-y.ensures c.weight-w.result c.weight-w.ensures
+returns c = folded c.args.c c.args.a (number c.args.n) c.quicker.result c.quicker.ensures c.weight.result c.weight.ensures

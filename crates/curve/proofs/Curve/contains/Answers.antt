@@ -8,17 +8,8 @@ use Rattle.curve.specs.Curves.{Divided}
 use Rattle.curve.proofs.Contains.{neutral-holds, contains_by, contains_one}
 use Rattle.curve.proofs.Curve.contains.Goals as goal
 
-pub rest_one-requires : goal.rest_one-requires
-rest_one-requires c = (c.requires.0, subst (Held c.args.self.m) c.in-One.is c.requires.1.0)
-
-pub rest_two-requires : goal.rest_two-requires
-rest_two-requires c = (c.requires.0, subst (Held c.args.self.m) c.in-Two.is c.requires.1.0)
-
-pub rest_three-requires : goal.rest_three-requires
-rest_three-requires c = (c.requires.0, (omega (arith, c.requires.0.most, subst (λ (d : Divisor). weight_of d ≤ c.args.self.g) c.in-Three.is c.requires.1.1), subst (Held c.args.self.m) c.in-Three.is c.requires.1.0))
-
 pub returns-in-Neutral : goal.returns-in-Neutral
-returns-in-Neutral c = subst (Divided c.args.self) (sym c.in-Neutral.is) (neutral-holds c.args.self c.requires.0.good).valid.divides
+returns-in-Neutral c = subst (Divided c.args.self) (sym c.in-Neutral.is) (neutral-holds c.args.self).valid.divides
 
 pub returns-in-One : goal.returns-in-One
 returns-in-One c = subst (λ (d : Divisor). Decides c.is_none.result (Divided c.args.self d)) (sym c.in-One.is) (contains_one c.args.self _ _ c.rest_one.ensures _ refl c.is_none.result c.is_none.ensures)

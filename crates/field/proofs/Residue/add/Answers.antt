@@ -3,9 +3,6 @@ use Rattle.field_words.proofs.Bounds.{room}
 use Rattle.field.proofs.Sums.{sum_below, sum_past}
 use Rattle.field.proofs.Residue.add.Goals as goal
 
-pub overflow_add-sum : goal.overflow_add-sum
-overflow_add-sum c = room c.requires.0.ring.turns.most _ (omega (arith, c.requires.0.below, c.requires.1.below))
-
 pub returns-then-sum-m : goal.returns-then-sum-m
 returns-then-sum-m c = sum_below c.args.m c.args.self c.requires.0 c.args.other c.requires.1 c.if-sum-m.true
 

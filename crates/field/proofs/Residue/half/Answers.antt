@@ -6,8 +6,5 @@ use Rattle.field.proofs.Residue.half.Goals as goal
 pub returns-then-self-eq0 : goal.returns-then-self-eq0
 returns-then-self-eq0 c = half_even c.args.m c.args.self c.requires c.if-self-eq0.true
 
-pub overflow_add-result : goal.overflow_add-result
-overflow_add-result c = room c.requires.ring.turns.most _ (omega (arith, c.requires.below))
-
 pub returns : goal.returns
 returns c = half_odd c.args.m c.args.self c.requires c.if-self-eq0.false

@@ -1,8 +1,5 @@
 use Rattle.field.proofs.Products.{mul_requires, mul_is}
 use Rattle.field.proofs.Residue.mul.Goals as goal
 
-pub product-requires : goal.product-requires
-product-requires c = mul_requires c.args.m c.args.self c.requires.0 c.args.other c.requires.1
-
 pub returns : goal.returns
 returns c = mul_is c.args.m c.args.self c.requires.0 c.args.other c.requires.1 c.product.ensures

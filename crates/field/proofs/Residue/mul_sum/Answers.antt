@@ -3,11 +3,5 @@ use Rattle.field_words.proofs.Bounds.{room}
 use Rattle.field.proofs.Products.{sum_requires, mul_sum_is}
 use Rattle.field.proofs.Residue.mul_sum.Goals as goal
 
-pub overflow_add-b : goal.overflow_add-b
-overflow_add-b c = room c.requires.0.ring.turns.most _ (omega (arith, c.requires.1.below, c.requires.2.below))
-
-pub product-requires : goal.product-requires
-product-requires c = sum_requires c.args.m c.args.self c.requires.0 c.args.b c.requires.1 c.args.c c.requires.2
-
 pub returns : goal.returns
 returns c = mul_sum_is c.args.m c.args.self c.requires.0 c.args.b c.requires.1 c.args.c c.requires.2 c.product.ensures

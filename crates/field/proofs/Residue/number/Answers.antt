@@ -2,8 +2,5 @@ use Rattle.field.proofs.Laws.{settled_kept}
 use Rattle.field.proofs.Products.{number_requires, number_is}
 use Rattle.field.proofs.Residue.number.Goals as goal
 
-pub product-requires : goal.product-requires
-product-requires c = number_requires c.args.m c.args.self (settled_kept c.args.m c.requires)
-
 pub returns : goal.returns
 returns c = number_is c.args.m c.args.self (settled_kept c.args.m c.requires) c.product.ensures c.lower.ensures

@@ -3,9 +3,6 @@ use Rattle.field_words.proofs.Bounds.{room}
 use Rattle.field.proofs.Sums.{difference_past, difference_is}
 use Rattle.field.proofs.Residue.sub.Goals as goal
 
-pub overflow_add-result : goal.overflow_add-result
-overflow_add-result c = room c.requires.0.ring.turns.most _ (omega (arith, c.requires.0.below, c.requires.0.ring.twice))
-
 pub returns-then-self-other : goal.returns-then-self-other
 returns-then-self-other c = difference_past c.args.m c.args.self c.requires.0 c.args.other c.requires.1 c.if-self-other.true
 

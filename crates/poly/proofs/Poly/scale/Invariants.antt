@@ -1,4 +1,3 @@
-use Prim.Native.Nat.{◌-◌}
 use Rattle.field.specs.Residues.{el}
 use Rattle.poly.specs.Polys.{P}
 use Rattle.poly.proofs.Rows.{Rowing}
@@ -6,6 +5,3 @@ use Rattle.poly.proofs.Poly.scale.Given as goal
 
 abbrev pub invariant-loop-k : goal.invariant-loop-k
 invariant-loop-k l = Rowing l.m (P l.m).zer (el l.m l.x) 0 l.self l.r.c l.k
-
-abbrev pub decreases-loop-k : goal.decreases-loop-k
-decreases-loop-k l = l.n - l.k

@@ -1,14 +1,8 @@
 use Rattle.scalar.proofs.Recoding.{begin, turn, recoded}
 use Rattle.scalar.proofs.Digits.from_bytes.Goals as goal
 
-pub bit-next-requires : goal.bit-next-requires
-bit-next-requires c = λ i. (c.shared_slice_known-1.given i).fits
-
 pub loop-k-init : goal.loop-k-init
 loop-k-init c = begin c.args.s.now c.bit-next.result c.bit-next.ensures
-
-pub bit-next-requires-in-loop-k : goal.bit-next-requires-in-loop-k
-bit-next-requires-in-loop-k c = λ i. (c.shared_slice_known-1.given i).fits
 
 pub loop-k-preserved : goal.loop-k-preserved
 loop-k-preserved c =
@@ -16,4 +10,4 @@ loop-k-preserved c =
 
 pub returns : goal.returns
 returns c =
-    recoded c.args.s.now c.loop-k.at c.loop-k.next c.loop-k.carry c.loop-k.k c.loop-k.invariant c.requires (λ i. (c.shared_slice_known-1.given i).fits) c.loop-k-test.false c.from_bytes-counts.result c.from_bytes-counts.ensures
+    recoded c.args.s.now c.loop-k.at c.loop-k.next c.loop-k.carry c.loop-k.k c.loop-k.invariant c.requires (λ i. (c.type_inv.s i).fits) c.loop-k-test.false c.from_bytes-counts.result c.from_bytes-counts.ensures

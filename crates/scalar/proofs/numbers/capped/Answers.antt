@@ -2,7 +2,7 @@ use native.Mathlib.Omega.{arith}
 use borrow.Author.Rules.{rules}
 use mathlib.Core.Path.{◌≡◌}
 use lib.ListN.{length}
-use Rattle.scalar.proofs.numbers.Numbers.{capping_begin, capping_stop, capping_turn, capping_end}
+use Rattle.scalar.proofs.numbers.Numbers.{capping_begin, capping_stop, capping_turn}
 use Rattle.scalar.proofs.numbers.capped.Goals as goal
 
 pub loop-k-init : goal.loop-k-init
@@ -13,6 +13,3 @@ returns-then-t-ne0 c = let e : length c.args.n ≡ 32 = search rules in capping_
 
 pub loop-k-preserved : goal.loop-k-preserved
 loop-k-preserved c = let e : length c.args.n ≡ 32 = search rules in capping_turn c.args.n e c.loop-k.t c.loop-k.k c.loop-k.invariant c.loop-k-test.true (omega (arith, c.if-t-ne0.false)) c.wide-t.result c.wide-t.ensures.0 c.wide-t.ensures.1
-
-pub returns : goal.returns
-returns c = let e : length c.args.n ≡ 32 = search rules in capping_end c.args.n e c.loop-k.t c.loop-k.k c.loop-k.invariant c.loop-k-test.false

@@ -1,15 +1,11 @@
-use native.Mathlib.Omega.{arith}
 use borrow.Author.Rules.{rules}
 use mathlib.Core.Path.{◌≡◌}
 use lib.ListN.{length}
-use Rattle.scalar.proofs.numbers.Numbers.{dividing_begin, next_byte, dividing_turn, dividing_end}
+use Rattle.scalar.proofs.numbers.Numbers.{dividing_begin, dividing_turn, dividing_end}
 use Rattle.scalar.proofs.numbers.divide.Goals as goal
 
 pub loop-k-init : goal.loop-k-init
 loop-k-init c = dividing_begin c.args.n c.args.q c.requires.0
-
-pub overflow_cast-quotient : goal.overflow_cast-quotient
-overflow_cast-quotient c = omega (arith, next_byte c.args.q c.loop-k.left c.wide.result c.loop-k.invariant.less c.wide.ensures.1)
 
 pub loop-k-preserved : goal.loop-k-preserved
 loop-k-preserved c = let e : length c.args.n ≡ 32 = search rules in dividing_turn c.args.n c.args.q c.loop-k.quotient c.loop-k.left c.loop-k.k c.loop-k.invariant e c.loop-k-test.true c.wide.result c.wide.ensures.0

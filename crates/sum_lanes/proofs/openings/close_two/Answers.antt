@@ -4,30 +4,7 @@ use Rattle.curve.specs.Curves.{Holds}
 use Rattle.sum_lanes.proofs.openings.Sums.{closed_two, gives_known, two_known}
 use Rattle.sum_lanes.proofs.openings.close_two.Goals as goal
 
-pub sum-requires-in-Neutral-b : goal.sum-requires-in-Neutral-b
-sum-requires-in-Neutral-b c = absurd (two_known c.args.c c.in-Two.is c.in-Neutral-b.is c.args.o c.requires.1.1.1.0)
-
-pub sum-requires-in-One-b : goal.sum-requires-in-One-b
-sum-requires-in-One-b c = absurd (two_known c.args.c c.in-Two.is c.in-One-b.is c.args.o c.requires.1.1.1.0)
-
-pub close-requires : goal.close-requires
-close-requires c =
-    let k = two_known c.args.c c.in-Two.is c.in-Two-b.is c.args.o c.requires.1.1.1.0 in
-    ((subst (Holds c.args.c) c.in-Two.is c.requires.1.0).held, ((subst (Holds c.args.c) c.in-Two-b.is c.requires.1.1.0).held, (k.opens.ready, (k.opens.apart, (record { kept = c.requires.1.1.1.1.1.kept; is = c.requires.1.1.1.1.1.is }, settled_kept c.args.c.m c.requires.0.settled.1.1.1.1.0)))))
-
-pub sum-requires-in-Three-b : goal.sum-requires-in-Three-b
-sum-requires-in-Three-b c = absurd (two_known c.args.c c.in-Two.is c.in-Three-b.is c.args.o c.requires.1.1.1.0)
-
-pub returns-in-Neutral-b : goal.returns-in-Neutral-b
-returns-in-Neutral-b c = absurd (two_known c.args.c c.in-Two.is c.in-Neutral-b.is c.args.o c.requires.1.1.1.0)
-
-pub returns-in-One-b : goal.returns-in-One-b
-returns-in-One-b c = absurd (two_known c.args.c c.in-Two.is c.in-One-b.is c.args.o c.requires.1.1.1.0)
-
-pub returns-in-Two-b : goal.returns-in-Two-b
-returns-in-Two-b c =
+pub returns-in-Two-Two : goal.returns-in-Two-Two
+returns-in-Two-Two c =
     let h = Holds c.args.c in
-    gives_known c.args.c c.in-Two.is c.in-Two-b.is _ (closed_two c.args.c c.requires.0 _ _ _ c.args.o (two_known c.args.c c.in-Two.is c.in-Two-b.is c.args.o c.requires.1.1.1.0) c.requires.1.1.1.1.0.0 (subst h c.in-Two.is c.requires.1.0) (subst h c.in-Two-b.is c.requires.1.1.0) c.close.ensures)
-
-pub returns-in-Three-b : goal.returns-in-Three-b
-returns-in-Three-b c = absurd (two_known c.args.c c.in-Two.is c.in-Three-b.is c.args.o c.requires.1.1.1.0)
+    gives_known c.args.c c.in-Two-Two.is-0 c.in-Two-Two.is-1 _ (closed_two c.args.c _ _ _ c.args.o (two_known c.args.c c.in-Two-Two.is-0 c.in-Two-Two.is-1 c.args.o c.requires.1.1.0) c.requires.1.1.1.0.0 (subst h c.in-Two-Two.is-0 c.requires.0) (subst h c.in-Two-Two.is-1 c.requires.1.0) c.close.ensures)

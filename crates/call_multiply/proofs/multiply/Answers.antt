@@ -1,8 +1,0 @@
-use mathlib.Core.Path.{refl}
-use Rattle.rules.specs.Calls.{multiply_call}
-use Rattle.call_answer.proofs.Written.{delivered}
-use Rattle.call_multiply.proofs.multiply.Goals as goal
-
-pub returns : goal.returns
-unfolding multiply_call
-returns c = delivered (λ x. x) (0, 0) refl c.args.out.now c.multiplied.result c.multiplied.ensures c.deliver.ensures
