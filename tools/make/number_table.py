@@ -93,7 +93,7 @@ def faults_of_table():
 
 def faults_of_code():
     """The numbers that refuse, in the one crate that has them; the advice, in the Rust crate's sources."""
-    refusals = re.findall(r"^pub const \w+: u64 = (\d+);", text("crates/refusals/src/lib.rt").split("// The most records")[0], re.M)
+    refusals = re.findall(r"^    \w+ = (\d+),", text("crates/refusals/src/lib.rt").split("pub enum Refusal {")[1].split("}")[0], re.M)
     if [int(number) for number in refusals] != list(range(1, 28)):
         yield "crates/refusals: its numbers aren't 1 to 27"
     rust = re.sub(r"\\\n\s*", "", text("bindings/rust/src/refusal.rs"))

@@ -9,7 +9,7 @@ use refusals::{Refusal, Refused};
 pub mod places;
 pub mod repeat;
 
-// How many records stand on a curve that was taken. Each record says how long it is: no `for`.
+// How many records stand on a curve that was taken.
 fn count_on(c: Curve, s: &[u8]) -> Result<u64, Refused>
     ensures { CountedIs c s.now result }
 {

@@ -94,7 +94,7 @@ fn alike(c: Curve, s: &[u8], a: usize, b: usize) -> bool
 }
 
 // Of the first n records: least j, then least i < j. Each stands in its chain, the latest first: head has 1 and the place of a chain's latest, before of each
-// the one before it, and 0 where there is none. Both loops stop at the first pair of the same.
+// the one before it, and 0 where there is none, since Options would double the room. Both loops stop at the first pair of the same.
 fn search(c: Curve, s: &[u8], places: &[usize], n: usize) -> Option<Repeat>
     requires { Rows c s.now places.now n }
     ensures { FirstIs (SameIn c s.now places.now) n (places_of result) }
@@ -125,7 +125,7 @@ fn search(c: Curve, s: &[u8], places: &[usize], n: usize) -> Option<Repeat>
     answer
 }
 
-// The first repeat of a batch on a curve that was taken: where its records begin. Each record says how long it is: no `for`.
+// The first repeat of a batch on a curve that was taken: where its records begin.
 pub fn repeat_on(c: Curve, s: &[u8]) -> Result<Option<Repeat>, Refused>
     ensures { RepeatIs result (repeat_on c s.now) }
 {

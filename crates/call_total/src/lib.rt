@@ -34,6 +34,7 @@ pub fn total_on(c: Curve, s: &[u8]) -> Result<Total, Refused>
     let mut sums = [Divisor::neutral(); LANES];
     let mut next = [sum_lanes::nobody(one); LANES];
     let mut all = one;
+    // By a name of its own, which proofs cite.
     let most = refusals::MOST_COUNT;
     let mut n: usize = 0;
     let mut k: u64 = 0;

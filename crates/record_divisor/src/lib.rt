@@ -35,9 +35,9 @@ pub fn divisor_at(c: Curve, whole: bool, s: &[u8], a: usize) -> Result<Divisor, 
     if !record_fits(whole, a + 1 + 16 * w, s.len()) {
         return Err(Refusal::DivisorLength);
     }
-    let r = record_numbers::residues_at(s, a + 1, 2 * w, c.prime.m).ok_or(
-        Refusal::DivisorCoefficient,
-    )?;
+    let Some(r) = record_numbers::residues_at(s, a + 1, 2 * w, c.prime.m) else {
+        return Err(Refusal::DivisorCoefficient);
+    };
     let d = Divisor::of_row(w, r);
     if !c.contains(d) {
         return Err(Refusal::NotOnCurve);

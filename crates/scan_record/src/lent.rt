@@ -4,7 +4,7 @@ ghost use Rattle.scan_record.specs.lent.Lent.{ScanIs};
 use refusals::Refused;
 use scan_total::Running;
 
-// A scan writes no output: its length is always 0.
+// The total after a scan, and what it answers: a scan writes no output.
 #[derive(Clone, Copy)]
 pub struct Step {
     pub total: Running,

@@ -13,6 +13,7 @@ fn show(rt: &(impl Files + Print), curve: &str, batch: &str) -> io::Result<()> {
 // A last path with no other behind it goes with the empty one, which no file has.
 fn main(rt: HostRuntime) -> io::Result<()> {
     let mut paths = env::args(&rt)?.skip(1);
+    // Not a `for`: each turn takes two paths.
     while let Some(curve) = paths.next() {
         match paths.next() {
             Some(batch) => show(&rt, curve.as_str(), batch.as_str())?,

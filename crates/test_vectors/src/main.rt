@@ -78,6 +78,7 @@ fn lines(s: &[u8], text: &mut [u8]) -> usize
 {
     let mut at = 0;
     let mut end = 0;
+    // No range: each frame says where the next one begins.
     while let Some(f) = test_text::frames::cut(&s[at..]) {
         let Some(n) = line(&s[at..], f, &mut text[end..]) else {
             break;

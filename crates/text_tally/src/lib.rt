@@ -34,7 +34,7 @@ fn whole(file: Option<&[u8]>) -> Result<&[u8], Refusal>
     Ok(s)
 }
 
-// The rule has no places on a refusal; a batch that has a total is not refused here.
+// The rule has no places on a refusal; a batch that has a total is not refused here. By hand, since text_lines stands on no call.
 fn places_of(r: Result<Option<Repeat>, Refused>) -> Option<Places>
     ensures own { OwnPlaces r result }
     ensures short { ShortPlaces result }

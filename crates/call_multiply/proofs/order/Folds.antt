@@ -1,4 +1,4 @@
--- Folds of a divisor in code. Gives: that a multiple's weight tells whether it is neutral (`folded`); what the loop over the listed primes keeps (`Looking`), to the test of `orders`; and that test with those
+-- Folds of a divisor in code. Gives: that a multiple's weight tells whether it is neutral (`folded`); what the loop over the listed primes keeps (`Looking`), to the rules' test; and that test with those
 -- of n and of the list, as the rule has them together (`not_zero` and its like, `decided`).
 use Prim.Native.Nat.{ℕ, ◌+◌, ◌*◌, ◌/◌, ◌%◌, ◌≤◌, ◌<◌}
 use mathlib.Core.Path.{◌≡◌, sym, ap, ◌∙◌, subst}

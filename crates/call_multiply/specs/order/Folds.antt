@@ -20,6 +20,6 @@ pub record ToLook (c : Curve) (a : Divisor) (l : List ℕ) : Type 0 where
 pub record Folded (c : Curve) (a : Divisor) (n : ℕ) (r : Bool) : Type 0 where
   pub is : r ≡ is_neutral_fold_by c a n
 
--- the test of `orders`, of the folds of a
+-- the rules' test, of the folds of a
 pub record NoneBelow (c : Curve) (a : Divisor) (n : ℕ) (l : List ℕ) (r : Bool) : Type 0 where
   pub is : r ≡ is_none_below (is_neutral_fold_by c a) n l

@@ -5,8 +5,6 @@ use Rattle.record_divisor.proofs.Divisors.{no_weight, too_heavy, no_room, fits-w
 use borrow.Author.Tests.{not-true, not-false}
 use Rattle.std.proofs.Common.{ap}
 use Rattle.std.proofs.Common.{not}
-use Rattle.refusals.proofs.Exits.{exit_none}
-use Rattle.refusals.specs.declared.Refusal.TheVariants.{DivisorCoefficient}
 use Rattle.record_divisor.proofs.divisor_at.Goals as goal
 
 pub returns-then-s-a : goal.returns-then-s-a
@@ -18,17 +16,16 @@ returns-then-g-w c = too_heavy c.args.c c.args.whole c.args.s.now c.args.a _ c.w
 pub returns-then-not-record_fits : goal.returns-then-not-record_fits
 returns-then-not-record_fits c = no_room c.args.c c.args.whole c.args.s.now c.args.a _ c.wide-w.ensures.0 c.if-s-a.false c.if-g-w.false (sym c.record_fits.ensures ∙ not-true _ (ap not c.if-not-record_fits.true))
 
-pub returns-in_err-r : goal.returns-in_err-r
-returns-in_err-r c = let x = exit_none c.residues_at.result DivisorCoefficient c.from_residual.result c.in_err-r.ensures.value c.from_residual.ensures.1 in
-    rw x.1 (too_large c.args.c c.args.whole c.args.s.now c.args.a _ c.wide-w.ensures.0 c.if-s-a.false c.if-g-w.false (sym c.record_fits.ensures ∙ not-false _ (ap not c.if-not-record_fits.false)) (rw x.0 at c.residues_at.ensures))
+pub returns-in_default : goal.returns-in_default
+returns-in_default c = too_large c.args.c c.args.whole c.args.s.now c.args.a _ c.wide-w.ensures.0 c.if-s-a.false c.if-g-w.false (sym c.record_fits.ensures ∙ not-false _ (ap not c.if-not-record_fits.false)) c.in_default.ensures
 
 pub contains-requires : goal.contains-requires
-contains-requires c = (held c.args.c c.args.whole c.args.s.now c.args.a _ c.wide-w.ensures.0 c.if-s-a.false c.if-g-w.false (sym c.record_fits.ensures ∙ not-false _ (ap not c.if-not-record_fits.false)) _ (rw c.in_ok-r.ensures.ok_part at c.residues_at.ensures) _ c.of_row-d.ensures.0 c.of_row-d.ensures.1, omega (arith, c.of_row-d.ensures.0, c.if-g-w.false))
+contains-requires c = (held c.args.c c.args.whole c.args.s.now c.args.a _ c.wide-w.ensures.0 c.if-s-a.false c.if-g-w.false (sym c.record_fits.ensures ∙ not-false _ (ap not c.if-not-record_fits.false)) _ c.in-Some.ensures _ c.of_row-d.ensures.0 c.of_row-d.ensures.1, omega (arith, c.of_row-d.ensures.0, c.if-g-w.false))
 
 pub returns-then-not-contains : goal.returns-then-not-contains
 returns-then-not-contains c =
-    off_curve c.args.c c.args.whole c.args.s.now c.args.a _ c.wide-w.ensures.0 c.if-s-a.false c.if-g-w.false (sym c.record_fits.ensures ∙ not-false _ (ap not c.if-not-record_fits.false)) _ (rw c.in_ok-r.ensures.ok_part at c.residues_at.ensures) _ c.of_row-d.ensures.0 c.of_row-d.ensures.1 (decided_no {b = c.contains.result} (not-true _ (ap not c.if-not-contains.true)) c.contains.ensures)
+    off_curve c.args.c c.args.whole c.args.s.now c.args.a _ c.wide-w.ensures.0 c.if-s-a.false c.if-g-w.false (sym c.record_fits.ensures ∙ not-false _ (ap not c.if-not-record_fits.false)) _ c.in-Some.ensures _ c.of_row-d.ensures.0 c.of_row-d.ensures.1 (decided_no {b = c.contains.result} (not-true _ (ap not c.if-not-contains.true)) c.contains.ensures)
 
 pub returns : goal.returns
 returns c =
-    on_curve c.args.c c.args.whole c.args.s.now c.args.a _ c.wide-w.ensures.0 c.if-s-a.false c.if-g-w.false (sym c.record_fits.ensures ∙ not-false _ (ap not c.if-not-record_fits.false)) _ (rw c.in_ok-r.ensures.ok_part at c.residues_at.ensures) _ c.of_row-d.ensures.0 c.of_row-d.ensures.1 (decided_yes {b = c.contains.result} (not-false _ (ap not c.if-not-contains.false)) c.contains.ensures)
+    on_curve c.args.c c.args.whole c.args.s.now c.args.a _ c.wide-w.ensures.0 c.if-s-a.false c.if-g-w.false (sym c.record_fits.ensures ∙ not-false _ (ap not c.if-not-record_fits.false)) _ c.in-Some.ensures _ c.of_row-d.ensures.0 c.of_row-d.ensures.1 (decided_yes {b = c.contains.result} (not-false _ (ap not c.if-not-contains.false)) c.contains.ensures)
