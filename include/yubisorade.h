@@ -7,8 +7,8 @@
  *
  * LINKING
  *   `bash tools/library.sh` proves the library and writes target/staticlib/libtablet.a, for Linux on x86-64-v2 or later. It
- *   needs memcpy, memmove and memset, which every C library has, and nothing else: no allocation, no files, no threads, no state.
- *   Every call may run on any number of threads at once. It has no unwind tables: no call throws or calls back, but a debugger or a profiler
+ *   needs memcpy and memset, which every C library has, and nothing else: no allocation, no files, no threads, no state. Every call
+ *   may run on any number of threads at once. It has no unwind tables: no call throws or calls back, but a debugger or a profiler
  *   can't walk the stack out of one.
  *
  * RECORDS (all numbers big-endian)
@@ -54,8 +54,8 @@
  * STACK
  *   16 KB that are free where the call is made do for every call but yubi_first_repeat, which keeps the places of 4096 records: 64 KB
  *   do for that (YUBI_STACK_ROOM, YUBI_REPEAT_STACK_ROOM). Along any way of calls in the library the frames add up to at most 14536
- *   bytes of stack, in yubi_total_batch, and in yubi_first_repeat to 52200. Not counted are what those three of C's take, and the dynamic
- *   linker's, where it binds them at their first call. Touched were at most 14632 by a total, 13096 by sums, multiples and
+ *   bytes of stack, in yubi_total_batch, and in yubi_first_repeat to 52200. Not counted are memcpy's and memset's own, and the dynamic
+ *   linker's, where it binds those two at their first call. Touched were at most 14632 by a total, 13096 by sums, multiples and
  *   the order, 6672 by a scan, 3512 by the others (tools/stack.sh adds up and measures).
  *
  * ANSWERS

@@ -50,8 +50,8 @@ room() {
 }
 
 # Reads a listing with its relocations: for each export, the most that its frames and those of what it calls add up to, with a return address each. Every
-# push and every step of the stack pointer in a function counts, also where a way through it has fewer, and what it touches below that. memcpy, memmove and
-# memset count as their return address. Exits 1 where an export passes its room, a function calls itself or one that isn't there, or calls by a register; and
+# push and every step of the stack pointer in a function counts, also where a way through it has fewer, and what it touches below that. memcpy and memset
+# count as their return address. Exits 1 where an export passes its room, a function calls itself or one that isn't there, or calls by a register; and
 # where the header doesn't say the two numbers that come out.
 bounds() {
     awk -v most="$(room YUBI_STACK_ROOM)" -v for_repeat="$(room YUBI_REPEAT_STACK_ROOM)" '
@@ -63,7 +63,7 @@ bounds() {
         function step(operands) { sub(/^\$0x/, "", operands); sub(/,.*/, "", operands); return hex(operands) }
         function wrong(words) { print words; bad = 1 }
         function depth(name,   called, n, k, deepest, d) {
-            if (name == "memcpy" || name == "memmove" || name == "memset") return 0
+            if (name == "memcpy" || name == "memset") return 0
             if (!(name in frame)) { wrong("no function " name); return 0 }
             if (name in open) { wrong(name " calls itself"); return 0 }
             if (name in whole) return whole[name]

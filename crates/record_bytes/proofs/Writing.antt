@@ -33,3 +33,10 @@ module _ (out : List ℕ) (a : ℕ) (x : List ℕ) (k : ℕ) (h : k < length x) 
 pub part_written : (out s : List ℕ) (a : ℕ) {part : List ℕ} → part ≡ s → a + length s ≤ length out → put_mid a (a + length s - a) out part ≡ sets out a s
 part_written out s a e h = ap (put_mid a (a + length s - a) out) e ∙ ap (λ l. take a out ++ (s ++ l)) (Post-is a (a + length s) out (omega arith))
     ∙ sym (append_assoc (take a out) s (drop (a + length s) out)) ∙ sym (sets-eq s out a h)
+
+-- one byte more of s
+pub put-more : (out s : List ℕ) (a k : ℕ) → k < length s → set (sets out a (take k s)) (a + k) (get_or s k 0) ≡ sets out a (take (k + 1) s)
+put-more out s a k h = sym (ap (sets out a) one ∙ sets_append out (take k s) (get_or s k 0 ∷ []) a (a + k) (omega (arith, length-take-le k s (omega arith))))
+  where
+    one : take (k + 1) s ≡ take k s ++ (get_or s k 0 ∷ [])
+    one = ap (λ (n : ℕ). take n s) {x = k + 1} {y = suc k} (omega arith) ∙ take-suc s k 0 h

@@ -61,10 +61,13 @@ pub fn write_words(out: &mut [u8], a: usize, x: &[u64])
     }
 }
 
-// Bytes written as they stand, from a on; the rest of the output stays.
+// Bytes written as they stand, from a on; the rest of the output stays. By a loop: of a `copy_from_slice` of any length the compiler makes a call of
+// memmove, which C's caller would have to link beside memcpy and memset.
 pub fn write_bytes(out: &mut [u8], a: usize, s: &[u8])
     requires { a + length s.now ≤ length out.old }
     ensures { out.new ≡ sets out.old a s.now }
 {
-    out[a..a + s.len()].copy_from_slice(s);
+    for k in 0..s.len() {
+        out[a + k] = s[k];
+    }
 }
