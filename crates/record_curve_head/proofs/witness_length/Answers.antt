@@ -13,3 +13,6 @@ returns-then-k-gt-MOST_WITNESS c = let k = count_at c.args.s.now c.wide-g.result
 
 pub returns-then-s-g-2 : goal.returns-then-s-g-2
 returns-then-s-g-2 c = let k = count_at c.args.s.now c.wide-g.result c.wide-g.ensures.0 in counted_other _ c.requires.0 c.requires.1 (omega (arith, c.if-s-g.false, c.wide-g.ensures.0)) (omega (arith, c.if-k-lt1.false, c.wide-k.ensures.0, k)) (omega (arith, c.if-k-gt-MOST_WITNESS.false, c.wide-k.ensures.0, k)) (λ e. c.if-s-g-2.true (omega (arith, e, c.wide-g.ensures.0, k, c.wide-k.ensures.0)))
+
+pub returns : goal.returns
+returns c = let k = count_at c.args.s.now c.wide-g.result c.wide-g.ensures.0 in counted_passed _ c.requires.0 c.requires.1 (omega (arith, c.if-s-g.false, c.wide-g.ensures.0)) (omega (arith, c.if-k-lt1.false, c.wide-k.ensures.0, k)) (omega (arith, c.wide-k.ensures.0, k)) (omega (arith, c.if-s-g-2.false, c.wide-g.ensures.0, k, c.wide-k.ensures.0))
