@@ -3,7 +3,7 @@
 -- Open: `row`.
 use Prim.Native.Nat.{ℕ, suc, ◌+◌, ◌-◌, ◌*◌, ◌≤◌, ◌<◌}
 use mathlib.Core.Path.{◌≡◌, sym, ap, ap₂, ◌∙◌, subst}
-use mathlib.Core.Bool.{Bool, true, false, true≢false}
+use mathlib.Core.Bool.{Bool, true, false, true≢false, false≢true}
 use mathlib.Core.List.{List, [], ◌∷◌}
 use native.Mathlib.Omega.{arith}
 use lib.Dec.{eqb}
@@ -50,12 +50,17 @@ capped_is : (k : ℕ) → k < 256 → (n : ℕ) (r : Option ℕ) → Capped n r 
 capped_is k l n (Some t) h = ap (λ (x : ℕ). eqb x k) h.0
 capped_is k l n None h = sym (ne_eqb n k (λ e. omega (arith, h)))
 
-module _ (n : ℕ) (r : Option ℕ) (h : Capped n r) (b : Bool) (e : b ≡ option_eq eqb r (Some 0)) where
-  pub capped_none : b ≡ true → n ≡ 0
-  capped_none t = eqb-true n 0 (sym (capped_is 0 (omega arith) n r h) ∙ sym e ∙ t)
+-- what the test for k tells, whichever k it is
+module _ (n k : ℕ) (r : Option ℕ) (h : Capped n r) (b : Bool) (e : b ≡ option_eq eqb r (Some k)) where
+  pub capped_none : b ≡ true → (n ≡ k) × (n < 256)
+  capped_none t = go r h (sym e ∙ t)
+    where
+      go : (r : Option ℕ) → Capped n r → option_eq eqb r (Some k) ≡ true → (n ≡ k) × (n < 256)
+      go (Some x) c q = (sym c.0 ∙ eqb-true x k q, omega (arith, c.0, c.1))
+      go None c q = absurd (false≢true q)
 
-  pub capped_some : b ≡ false → 0 < n
-  capped_some f = let ne : n ≡ 0 → ⊥ = λ z. true≢false (sym (eq-eqb n 0 z) ∙ sym (capped_is 0 (omega arith) n r h) ∙ sym e ∙ f) in omega (arith, ne)
+  pub capped_some : b ≡ false → k < 256 → n ≡ k → ⊥
+  capped_some f l z = true≢false (sym (eq-eqb n k z) ∙ sym (capped_is k l n r h) ∙ sym e ∙ f)
 
 -- ---- what the loop over the list keeps
 pub record Looking (s : List ℕ) (k n last left i : ℕ) : Type 0 where

@@ -18,7 +18,10 @@ use Rattle.std.proofs.Common.{not}
 use Rattle.call_multiply.proofs.order.is_order.Goals as goal
 
 pub returns-then-eq : goal.returns-then-eq
-returns-then-eq c = not_zero c.args.c c.args.a c.args.order.now c.args.primes.now (number c.from_bytes-n.result) c.from_bytes-n.ensures (capped_none (number c.from_bytes-n.result) c.capped.result c.capped.ensures c.eq.result c.eq.ensures c.if-eq.true)
+returns-then-eq c = not_zero c.args.c c.args.a c.args.order.now c.args.primes.now (number c.from_bytes-n.result) c.from_bytes-n.ensures (let e = capped_none (number c.from_bytes-n.result) _ c.capped.result c.capped.ensures c.eq.result c.eq.ensures c.if-eq.true in omega (arith, e.0, e.1))
+
+pub is_made_of-requires : goal.is_made_of-requires
+is_made_of-requires c = omega (arith, capped_some (number c.from_bytes-n.result) _ c.capped.result c.capped.ensures c.eq.result c.eq.ensures c.if-eq.false)
 
 pub returns-then-not-is_made_of : goal.returns-then-not-is_made_of
 returns-then-not-is_made_of c = not_made c.args.c c.args.a c.args.order.now c.args.primes.now (number c.from_bytes-n.result) c.from_bytes-n.ensures (decided_no {A = MadeOf _ _} {b = c.is_made_of.result} (not-true c.is_made_of.result (ap not c.if-not-is_made_of.true)) c.is_made_of.ensures)
@@ -29,7 +32,7 @@ is_none_below-requires c =
 
 pub returns-then-is_neutral_fold : goal.returns-then-is_neutral_fold
 returns-then-is_neutral_fold c =
-    decided c.args.c c.args.a c.args.order.now c.args.primes.now (number c.from_bytes-n.result) c.from_bytes-n.ensures (capped_some (number c.from_bytes-n.result) c.capped.result c.capped.ensures c.eq.result c.eq.ensures c.if-eq.false) c.if-primes-ne0.false (omega arith)
+    decided c.args.c c.args.a c.args.order.now c.args.primes.now (number c.from_bytes-n.result) c.from_bytes-n.ensures (omega (arith, capped_some (number c.from_bytes-n.result) _ c.capped.result c.capped.ensures c.eq.result c.eq.ensures c.if-eq.false)) c.if-primes-ne0.false (omega arith)
     (decided_yes {A = MadeOf _ _} {b = c.is_made_of.result} (not-false c.is_made_of.result (ap not c.if-not-is_made_of.false)) c.is_made_of.ensures) (sym c.is_neutral_fold.ensures.is ∙ c.if-is_neutral_fold.true) c.is_none_below.result c.is_none_below.ensures.is
 
 pub returns-else-is_neutral_fold : goal.returns-else-is_neutral_fold
