@@ -10,7 +10,7 @@ pub returns-then-record-lt4 : goal.returns-then-record-lt4
 returns-then-record-lt4 c = rw c.at.ensures (no_pole c.args.c c.args.t c.args.«record».now _ c.in_ok-total.ensures (omega arith))
 
 pub returns-then-pole-own : goal.returns-then-pole-own
-returns-then-pole-own c = rw c.at-then-pole-own.ensures (other_pole c.args.c c.args.t c.args.«record».now _ c.in_ok-total.ensures c.if-record-lt4.false c.read32-pole.ensures.word c.if-pole-own.true)
+returns-then-pole-own c = rw c.at-then-pole-own.ensures (other_pole c.args.c c.args.t c.args.«record».now _ c.in_ok-total.ensures c.if-record-lt4.false c.read32-pole.ensures.word (λ e. omega (arith, e, c.if-pole-own.true)))
 
 pub returns-in_err-d : goal.returns-in_err-d
 returns-in_err-d c = rw (exit_err c.from_residual-in_err-d.result c.from_residual-in_err-d.ensures.1)
