@@ -11,7 +11,7 @@ use lib.Seq.{sets}
 use Rattle.rules.specs.Bytes.{all_bytes}
 use Rattle.rules.specs.Records.{read_curve, numbers, CurveRecord, Form, curve_bytes, divisor_bytes}
 use Rattle.rules.specs.Checks.{Checked, refused, taken, choose}
-use Rattle.rules.specs.Calls.{Reply, put, write, stop, done, rewrite_curve}
+use Rattle.rules.specs.Calls.{Result as RuleResult, Reply, put, deliver, write, stop, done, rewrite_curve}
 use Rattle.rules.proofs.Calls.Written.{Written}
 use Rattle.rules.proofs.Calls.Bytes.{AreBytes, length-bytes}
 use Rattle.rules.proofs.Calls.CurveWritten.{curve_written}
@@ -24,7 +24,7 @@ use Rattle.std.specs.Prelude.{Result, Ok, Err}
 use Rattle.refusals.specs.declared.Refused.{Refused}
 use Rattle.refusals.specs.declared.Refusal.TheVariants.{OutputLength}
 use Rattle.refusals.specs.Refusal.{number_of}
-use Rattle.call_answer.specs.Answers.{Wrote, PutIs}
+use Rattle.call_answer.specs.Answers.{Wrote, Makes, Delivered, PutIs}
 
 -- ---- the lengths of records
 pub divisor_length : (m : Modulus) (d : Divisor) → length (divisor_bytes m.p (pair m d)) ≡ 1 + 16 * weight_of d
@@ -66,6 +66,18 @@ module _ (out : List ℕ) (d : Divisor) (m : Modulus) {n : ℕ} (n_is : n ≡ 1 
 
   pub deliver_whole : {o : List ℕ} → n ≤ length out → o ≡ sets out 0 (divisor_bytes m.p (pair m d)) → Wrote (Ok n) o (write out (divisor_bytes m.p (pair m d)))
   deliver_whole l e = wrote_all out (divisor_bytes m.p (pair m d)) (divisor_length m d ∙ sym n_is) l e
+
+-- ---- what was made, delivered: a refusal is handed on, a divisor is written, and both as the call's rule has it
+pub deliver_refused : (out : List ℕ) (e : Refused) → Delivered (Err e) out (Err e) out
+deliver_refused out e = refl
+
+module _ (out : List ℕ) (r : Result ℕ Refused) (o : List ℕ) where
+  pub deliver_divisor : (m : Modulus) (d : Divisor) → Delivered (Ok (d, m)) out r o → Wrote r o (write out (divisor_bytes m.p (pair m d)))
+  deliver_divisor m d h = h
+
+  pub delivered : {rule : Checked (RuleResult (Unit {0}))} (made : Result (Divisor × Modulus) Refused) → Makes made rule → Delivered made out r o
+      → Wrote r o (deliver tt out rule)
+  delivered made h w = w ∙ sym (ap (deliver tt out) h.1)
 
 -- ---- a curve record that was read is written as it stood
 pub rewritten : (s out : List ℕ) {c : CurveRecord} → AreBytes s → read_curve s ≡ taken c → rewrite_curve s out ≡ write out s

@@ -3,10 +3,11 @@ use Rattle.std.specs.Prelude.{◌⊎◌, ℕ, ◌≤◌, ◌<◌, ◌≡◌, Res
 use Rattle.std.proofs.lemmas.List.Edits.{sets}
 use Rattle.rules.specs.Checks.{Checked, refused, taken}
 use Rattle.rules.specs.Records.{CurveRecord, read_curve, read_divisor, divisor_bytes}
-use Rattle.rules.specs.Calls.{Answer as RuleAnswer, Result as RuleResult, Reply, done, stop}
+use Rattle.rules.specs.Calls.{Answer as RuleAnswer, Result as RuleResult, Reply, done, stop, deliver, from_one}
 use Rattle.rules.proofs.Calls.Written.{Written}
 use Rattle.refusals.specs.declared.Refused.{Refused}
 use Rattle.refusals.specs.Refusal.{number_of}
+use Rattle.field.specs.declared.Modulus.{Modulus}
 use Rattle.divisor.specs.declared.Divisor.{Divisor}
 use Rattle.divisor.specs.Divisors.{pair, Held}
 use Rattle.curve.specs.declared.Curve.{Curve}
@@ -23,10 +24,25 @@ reply none view (Err r) o = stop none o (number_of r.by) r.place
 abbrev pub Wrote : Result ℕ Refused → List ℕ → Written → Type 0
 Wrote r o rule = reply tt (λ n. (n, tt)) r o ≡ rule
 
--- what a call makes, before it is delivered: a divisor on the curve that was read, or the rule's refusal
-abbrev pub Makes : Result (Curve × Divisor) Refused → Checked (RuleResult (Unit {0})) → Type 0
-Makes (Ok x) rule = Held x.0.prime.m x.1 × (rule ≡ taken (record { bytes = divisor_bytes x.0.prime.m.p (pair x.0.prime.m x.1); own = tt }))
-Makes (Err r) rule = rule ≡ refused (number_of r.by) r.place
+-- ---- what a call makes, before it is delivered: a divisor under its modulus, or the rule's refusal; and as the rule has it
+abbrev pub AllHeld : Result (Divisor × Modulus) Refused → Type 0
+AllHeld (Ok x) = Held x.1 x.0
+AllHeld (Err r) = Unit {0}
+
+abbrev pub result_of : Result (Divisor × Modulus) Refused → Checked (RuleResult (Unit {0}))
+result_of (Ok x) = taken (record { bytes = divisor_bytes x.1.p (pair x.1 x.0); own = tt })
+result_of (Err r) = refused (number_of r.by) r.place
+
+abbrev pub Makes : Result (Divisor × Modulus) Refused → Checked (RuleResult (Unit {0})) → Type 0
+Makes made rule = AllHeld made × (rule ≡ result_of made)
+
+-- delivered as the rule does: a refusal is handed on as it is, and leaves the output
+abbrev pub Delivered : Result (Divisor × Modulus) Refused → List ℕ → Result ℕ Refused → List ℕ → Type 0
+Delivered made out r o = Wrote r o (deliver tt out (result_of made))
+
+-- the divisor that was read
+abbrev pub same_divisor : List ℕ → List ℕ → Checked (RuleResult (Unit {0}))
+same_divisor s a = from_one (λ c x. x) s a
 
 abbrev pub CheckIs : Result (Unit {0}) Refused → RuleAnswer → Type 0
 CheckIs r rule = (reply tt (λ x. (0, x)) r []).answer ≡ rule

@@ -3,10 +3,8 @@
 #![tactic(auto)]
 
 ghost use Rattle.std.specs.Prelude.{◌≤◌, length};
-ghost use Rattle.rules.specs.Calls.{check_curve, check_divisor, rewrite_curve, rewrite_divisor, write};
-ghost use Rattle.rules.specs.Records.{divisor_bytes};
-ghost use Rattle.divisor.specs.Divisors.{Held, pair};
-ghost use Rattle.call_answer.specs.Answers.{ReadIs, RecordIs, OneIs, CheckIs, Wrote};
+ghost use Rattle.rules.specs.Calls.{check_curve, check_divisor, rewrite_curve, rewrite_divisor};
+ghost use Rattle.call_answer.specs.Answers.{ReadIs, RecordIs, OneIs, CheckIs, AllHeld, Makes, Delivered, Wrote, same_divisor};
 
 use curve::Curve;
 use divisor::Divisor;
@@ -36,12 +34,13 @@ pub fn read_curve_and_divisor(curve: &[u8], a: &[u8]) -> Result<(Curve, Divisor)
     Ok((c, x))
 }
 
-// A divisor at the front of the output, and its length there: refused where the output is shorter, which leaves it as it is.
+// What was made at the front of the output, and its length there: refused where the output is shorter. A refusal is handed on, and leaves it as it is.
 #[tactic(auto, using(crate::proofs::Written::deliver_short, crate::proofs::Written::deliver_whole))]
-pub fn deliver(d: Divisor, m: Modulus, out: &mut [u8]) -> Result<u64, Refused>
-    requires { Held m d }
-    ensures { Wrote result out.new (write out.old (divisor_bytes m.p (pair m d))) }
+pub fn deliver(made: Result<(Divisor, Modulus), Refused>, out: &mut [u8]) -> Result<u64, Refused>
+    requires { AllHeld made }
+    ensures { Delivered made out.old result out.new }
 {
+    let (d, m) = made?;
     let n = record_numbers::write::record_length(d);
     if out.len() < n {
         return Err(Refusal::OutputLength.at(0));
@@ -79,10 +78,16 @@ pub fn rewrite_curve(curve: &[u8], out: &mut [u8]) -> Result<u64, Refused>
     Ok(curve.len() as u64)
 }
 
+fn read_again(curve: &[u8], a: &[u8]) -> Result<(Divisor, Modulus), Refused>
+    ensures { Makes result (same_divisor curve.now a.now) }
+{
+    let (c, x) = read_curve_and_divisor(curve, a)?;
+    Ok((x, c.prime.m))
+}
+
 #[tactic(auto, unfolding(rules::specs::Calls::rewrite_divisor))]
 pub fn rewrite_divisor(curve: &[u8], a: &[u8], out: &mut [u8]) -> Result<u64, Refused>
     ensures { Wrote result out.new (rewrite_divisor curve.now a.now out.old) }
 {
-    let (c, x) = read_curve_and_divisor(curve, a)?;
-    deliver(x, c.prime.m, out)
+    deliver(read_again(curve, a), out)
 }

@@ -8,6 +8,7 @@ ghost use Rattle.call_census.specs.Training.{TrainingIs, next_rule};
 use call_answer::{deliver, read_divisor};
 use curve::Curve;
 use divisor::Divisor;
+use field::Modulus;
 use refusals::{Refusal, Refused};
 
 pub fn read_training(s: &[u8]) -> Result<Curve, Refusal>
@@ -21,19 +22,18 @@ pub fn read_training(s: &[u8]) -> Result<Curve, Refusal>
 }
 
 // The next one, or 24.
-fn next_of(curve: &[u8], divisor: &[u8]) -> Result<(Curve, Divisor), Refused>
+fn next_of(curve: &[u8], divisor: &[u8]) -> Result<(Divisor, Modulus), Refused>
     ensures { Makes result (next_rule curve.now divisor.now) }
 {
     let c = read_training(curve)?;
     let d = read_divisor(c, 1, divisor)?;
     let y = divisor_census::next_valid(c, d).ok_or(Refusal::Last)?;
-    Ok((c, y))
+    Ok((y, c.prime.m))
 }
 
 #[tactic(auto, unfolding(rules::specs::Calls::next_call))]
 pub fn next_divisor(curve: &[u8], divisor: &[u8], out: &mut [u8]) -> Result<u64, Refused>
     ensures { Wrote result out.new (next_call curve.now divisor.now out.old) }
 {
-    let (c, y) = next_of(curve, divisor)?;
-    deliver(y, c.prime.m, out)
+    deliver(next_of(curve, divisor), out)
 }

@@ -43,7 +43,7 @@ pub fn deliver(y: Multiple, m: Modulus, out: &mut [u8]) -> Result<Multiplied, Re
     requires { Held m y.divisor }
     ensures { MultipleIs result out.new (put (0, 0) out.old (multiple_result y m)) }
 {
-    let length = call_answer::deliver(y.divisor, m, out)?;
+    let length = call_answer::deliver(Ok((y.divisor, m)), out)?;
     Ok(Multiplied {
         length,
         doublings: y.doublings,

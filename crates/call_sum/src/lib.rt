@@ -6,52 +6,49 @@ ghost use Rattle.call_answer.specs.Answers.{Makes, Wrote};
 ghost use Rattle.call_sum.specs.Sums.{doubling, opposing, adding};
 
 use call_answer::{deliver, read_curve_and_divisor, read_divisor};
-use curve::Curve;
 use divisor::Divisor;
+use field::Modulus;
 use refusals::Refused;
 
-fn doubled(curve: &[u8], a: &[u8]) -> Result<(Curve, Divisor), Refused>
+fn doubled(curve: &[u8], a: &[u8]) -> Result<(Divisor, Modulus), Refused>
     ensures { Makes result (doubling curve.now a.now) }
 {
     let (c, x) = read_curve_and_divisor(curve, a)?;
-    Ok((c, jacobian::double(c, x)))
+    Ok((jacobian::double(c, x), c.prime.m))
 }
 
 #[tactic(auto, unfolding(rules::specs::Calls::double_call))]
 pub fn double(curve: &[u8], a: &[u8], out: &mut [u8]) -> Result<u64, Refused>
     ensures { Wrote result out.new (double_call curve.now a.now out.old) }
 {
-    let (c, d) = doubled(curve, a)?;
-    deliver(d, c.prime.m, out)
+    deliver(doubled(curve, a), out)
 }
 
-fn opposed(curve: &[u8], a: &[u8]) -> Result<(Curve, Divisor), Refused>
+fn opposed(curve: &[u8], a: &[u8]) -> Result<(Divisor, Modulus), Refused>
     ensures { Makes result (opposing curve.now a.now) }
 {
     let (c, x) = read_curve_and_divisor(curve, a)?;
-    Ok((c, jacobian::opposite(c, x)))
+    Ok((jacobian::opposite(c, x), c.prime.m))
 }
 
 #[tactic(auto, unfolding(rules::specs::Calls::opposite_call))]
 pub fn opposite(curve: &[u8], a: &[u8], out: &mut [u8]) -> Result<u64, Refused>
     ensures { Wrote result out.new (opposite_call curve.now a.now out.old) }
 {
-    let (c, d) = opposed(curve, a)?;
-    deliver(d, c.prime.m, out)
+    deliver(opposed(curve, a), out)
 }
 
-fn added(curve: &[u8], a: &[u8], b: &[u8]) -> Result<(Curve, Divisor), Refused>
+fn added(curve: &[u8], a: &[u8], b: &[u8]) -> Result<(Divisor, Modulus), Refused>
     ensures { Makes result (adding curve.now a.now b.now) }
 {
     let (c, x) = read_curve_and_divisor(curve, a)?;
     let y = read_divisor(c, 2, b)?;
-    Ok((c, jacobian::sum(c, x, y)))
+    Ok((jacobian::sum(c, x, y), c.prime.m))
 }
 
 #[tactic(auto, unfolding(rules::specs::Calls::add_call))]
 pub fn add(curve: &[u8], a: &[u8], b: &[u8], out: &mut [u8]) -> Result<u64, Refused>
     ensures { Wrote result out.new (add_call curve.now a.now b.now out.old) }
 {
-    let (c, d) = added(curve, a, b)?;
-    deliver(d, c.prime.m, out)
+    deliver(added(curve, a, b), out)
 }

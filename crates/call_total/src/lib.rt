@@ -84,7 +84,7 @@ pub fn total_batch(curve: &[u8], batch: &[u8], out: &mut [u8]) -> Result<Totalle
 {
     let c = record_curve::read_curve(curve)?;
     let t = total_on(c, batch)?;
-    let length = call_answer::deliver(t.divisor, c.prime.m, out)?;
+    let length = call_answer::deliver(Ok((t.divisor, c.prime.m)), out)?;
     Ok(Totalled {
         length,
         count: t.count,
