@@ -1,10 +1,10 @@
 // Files by name, for the programs: the one library here that reads files and prints. No contract can say what a file holds or what is written; what
-// is promised is that the bytes counted lie inside the buffer.
+// is promised is that the bytes answered stand at the front of the buffer, inside it.
 #![tactic(auto)]
 
 ghost use Rattle.std.specs.Prelude.{length};
 ghost use Rattle.divisor.specs.Divisors.{Held};
-ghost use Rattle.text_files.specs.Files.{Within};
+ghost use Rattle.text_files.specs.Files.{Within, AtFront};
 
 use curve::Curve;
 use divisor::Divisor;
@@ -15,7 +15,8 @@ use std::{fs, io};
 
 // Reads on until the end, a failed read or a full buffer. A read that fails, as of a directory, isn't the end of a file.
 fn read_open<'a>(file: &mut impl Read, buf: &'a mut [u8]) -> Option<&'a [u8]>
-    ensures { Within result (length buf.old) }
+    ensures within { Within result (length buf.old) }
+    ensures front { AtFront result buf.entry }
 {
     let mut n = 0;
     // No range: each read says how much it brought.
@@ -26,13 +27,14 @@ fn read_open<'a>(file: &mut impl Read, buf: &'a mut [u8]) -> Option<&'a [u8]>
         }
         n += more;
     }
-    Some(&buf[..n])
+    Some(text_tally::front(buf, n))
 }
 
 // The file's bytes, at the front of the buffer, as many as it has room for; None of one that can't be opened or read. Paths of std are text: one
 // that isn't can't be read.
 pub fn read<'a>(rt: &impl Files, path: &[u8], buf: &'a mut [u8]) -> Option<&'a [u8]>
-    ensures { Within result (length buf.old) }
+    ensures within { Within result (length buf.old) }
+    ensures front { AtFront result buf.entry }
 {
     let name = str::from_utf8(path).ok()?;
     let mut file = fs::open(rt, name).ok()?;

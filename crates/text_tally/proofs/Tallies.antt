@@ -1,7 +1,7 @@
 -- The text by what its parts answer: the file's bytes, the curve, the batch's total, its first repeat.
 use Prim.Native.Nat.{ℕ, ◌≤◌, ◌<◌}
-use mathlib.Core.Path.{◌≡◌, refl, sym, ap, subst, ◌∙◌}
-use mathlib.Core.List.{List, [], ◌++◌}
+use mathlib.Core.Path.{◌≡◌, sym, ap, subst, ◌∙◌}
+use mathlib.Core.List.{List, ◌++◌}
 use mathlib.Core.Bool.{Bool}
 use native.Mathlib.Omega.{arith}
 use borrow.Author.Tests.{lt-ltb, le-ltb}
@@ -18,7 +18,6 @@ use Rattle.rules.specs.Calls.{Reply, repeat_call}
 use Rattle.refusals.specs.declared.Refusal.{Refusal}
 use Rattle.refusals.specs.declared.Refusal.TheVariants.{Unreadable, FileLength}
 use Rattle.refusals.specs.declared.Refused.{Refused}
-use Rattle.refusals.specs.Refusal.{number_of}
 use Rattle.field.specs.declared.Modulus.{Modulus}
 use Rattle.divisor.specs.declared.Divisor.{Divisor}
 use Rattle.divisor.specs.Divisors.{pair}
@@ -26,7 +25,6 @@ use Rattle.divisor.proofs.Laws.{weight_le, weight_is, weight_is_v}
 use Rattle.curve.specs.declared.Curve.{Curve}
 use Rattle.curve.specs.Record.{record_of}
 use Rattle.record_curve.specs.Read.{CurveIs}
-use Rattle.call_answer.specs.Answers.{reply}
 use Rattle.call_total.specs.declared.Total.{Total}
 use Rattle.call_total.specs.Totals.{TotalIs}
 use Rattle.call_batch.specs.declared.places.Repeat.{Repeat as Found}
@@ -34,13 +32,12 @@ use Rattle.call_batch.specs.repeat.Repeats.{repeat_on, RepeatIs}
 use Rattle.call_batch.proofs.repeat.Calls.{on_curve as repeat-called}
 use Rattle.text_lines.specs.declared.Places.{Places}
 use Rattle.text_lines.specs.Lines.{count_line, repeat_line, total_line, refused_line}
-use Rattle.text_lines.specs.Rule.Text.{File, unreadable, holds, with_file, text, text_of, lines_of, census_of, census_text}
+use Rattle.text_lines.specs.Rule.Text.{File, with_file, text, text_of, lines_of, census_of, census_text}
 use Rattle.text_lines.specs.digits.Put.{PutAt, Room}
 use Rattle.text_lines.specs.Printed.{Printed, places_of}
-use Rattle.text_tally.specs.Read.{file_of, FileIs}
+use Rattle.text_tally.specs.Read.{file_of, FileIs, FilesAre}
 use Rattle.text_tally.specs.Tallied.{OwnPlaces, ShortPlaces, Shows}
 use Rattle.text_tally.specs.census.Opened.{TrainingOf}
-use Rattle.text_tally.specs.declared.PoleList.{PoleList}
 use Rattle.call_census.specs.Training.{TrainingIs}
 use Rattle.refusals.proofs.Exits.{exit_err}
 use Rattle.text_lines.proofs.digits.Decimals.{Word}
@@ -132,18 +129,18 @@ module _ (q : Option (Bor (List ℕ))) where
 
 -- ---- of two files, the curve's first
 module _ (f g : File) where
-  pub curve_file : (by : Refusal) → FileIs f (Err by) → Shows (text f g) (Err (record { by = by; place = 0 }))
+  pub curve_file : (by : Refusal) → FileIs f (Err by) → FilesAre f g (Err (record { by = by; place = 0 }))
   unfolding text
-  curve_file by h = (tt, sym (h (λ s. with_file g (λ b. text_of s b))))
+  curve_file by h = sym (h (λ s. with_file g (λ b. text_of s b)))
 
   module _ (s : Bor (List ℕ)) (h : FileIs f (Ok s)) where
-    pub batch_file : (by : Refusal) → FileIs g (Err by) → Shows (text f g) (Err (record { by = by; place = 0 }))
+    pub batch_file : (by : Refusal) → FileIs g (Err by) → FilesAre f g (Err (record { by = by; place = 0 }))
     unfolding text
-    batch_file by k = (tt, sym (h (λ x. with_file g (λ b. text_of x b)) ∙ k (λ b. text_of s.now b)))
+    batch_file by k = sym (h (λ x. with_file g (λ b. text_of x b)) ∙ k (λ b. text_of s.now b))
 
-    pub both_files : (t : Bor (List ℕ)) → FileIs g (Ok t) → (r : Result PoleList Refused) → Shows (text_of s.now t.now) r → Shows (text f g) r
+    pub both_files : (t : Bor (List ℕ)) → FileIs g (Ok t) → FilesAre f g (Ok (s, t))
     unfolding text
-    both_files t k r e = (e.0, e.1 ∙ sym (h (λ x. with_file g (λ b. text_of x b)) ∙ k (λ b. text_of s.now b)))
+    both_files t k = h (λ x. with_file g (λ b. text_of x b)) ∙ k (λ b. text_of s.now b)
 
 -- ---- of a training curve's file
 module _ (f : File) where

@@ -1,9 +1,10 @@
 // What the program prints, made on slices: each function's promise fixes every byte. Nothing here opens, reads or writes a file.
 #![tactic(auto)]
 
+ghost use Rattle.std.specs.Prelude.{◌≡◌, take};
 ghost use Rattle.text_lines.specs.Printed.{Printed};
 ghost use Rattle.text_lines.specs.Rule.Text.{text, text_of};
-ghost use Rattle.text_tally.specs.Read.{file_of, FileIs};
+ghost use Rattle.text_tally.specs.Read.{file_of, FileIs, FilesAre};
 ghost use Rattle.text_tally.specs.Tallied.{OwnPlaces, ShortPlaces, Printable, shown, lines_of_list, Shows};
 
 use call_batch::places::Repeat;
@@ -23,6 +24,17 @@ struct PoleList {
     m: Modulus,
 }
 
+// The first n bytes of s, or all where it has fewer.
+pub fn front(s: &[u8], n: usize) -> &[u8]
+    ensures bytes { result.now ≡ take n s.now }
+    ensures place { result.ref_ptr ≡ s.entry.ref_ptr }
+{
+    if n < s.len() {
+        return &s[..n];
+    }
+    s
+}
+
 // A file's bytes, None where it can't be opened or read: where they can be taken.
 fn whole(file: Option<&[u8]>) -> Result<&[u8], Refusal>
     ensures { FileIs (file_of file.entry) result }
@@ -32,6 +44,18 @@ fn whole(file: Option<&[u8]>) -> Result<&[u8], Refusal>
         return Err(Refusal::FileLength);
     }
     Ok(s)
+}
+
+// The bytes of both files, the curve's looked at first.
+fn both<'a>(
+    curve: Option<&'a [u8]>,
+    batch: Option<&'a [u8]>,
+) -> Result<(&'a [u8], &'a [u8]), Refused>
+    ensures { FilesAre (file_of curve.entry) (file_of batch.entry) result }
+{
+    let s = whole(curve)?;
+    let t = whole(batch)?;
+    Ok((s, t))
 }
 
 // The rule has no places on a refusal; a batch that has a total is not refused here. By hand, since text_lines stands on no call.
@@ -63,14 +87,6 @@ fn read_bytes(curve: &[u8], batch: &[u8]) -> Result<PoleList, Refused>
     })
 }
 
-fn read_files(curve: Option<&[u8]>, batch: Option<&[u8]>) -> Result<PoleList, Refused>
-    ensures { Shows (text (file_of curve.entry) (file_of batch.entry)) result }
-{
-    let s = whole(curve)?;
-    let t = whole(batch)?;
-    read_bytes(s, t)
-}
-
 fn put_list(t: PoleList, out: &mut [u8; 256]) -> usize
     requires { Printable (Ok t) }
     ensures { Printed out.old (lines_of_list t) out.new result }
@@ -80,7 +96,6 @@ fn put_list(t: PoleList, out: &mut [u8; 256]) -> usize
     text_lines::put_total(out, b, t.total, t.m)
 }
 
-// The one place that prints a refusal.
 fn print(t: Result<PoleList, Refused>, out: &mut [u8; 256]) -> usize
     requires { Printable t }
     ensures { Printed out.old (shown t) out.new result }
@@ -102,5 +117,8 @@ pub fn tally(curve: &[u8], batch: &[u8], out: &mut [u8; 256]) -> usize
 pub fn tally_files(curve: Option<&[u8]>, batch: Option<&[u8]>, out: &mut [u8; 256]) -> usize
     ensures { Printed out.old (text (file_of curve.entry) (file_of batch.entry)) out.new result }
 {
-    print(read_files(curve, batch), out)
+    match both(curve, batch) {
+        Ok((s, t)) => tally(s, t, out),
+        Err(r) => text_lines::refused(r, out),
+    }
 }
