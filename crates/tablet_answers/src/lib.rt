@@ -1,4 +1,5 @@
-// The answers as C has them, a repr(C) struct for each kind of call, and each call's `Result` flattened to its own.
+// The answers as C has them, a repr(C) struct for each kind of call, and each call's `Result` flattened to its own. What refuses a call is flattened
+// by `refused`, whatever its number.
 #![tactic(auto)]
 
 ghost use Rattle.std.specs.Prelude.{◌≡◌};
@@ -56,22 +57,101 @@ pub struct YubiPole {
     pub pole: u32,
 }
 
+impl YubiAnswer {
+    fn written(length: u64) -> YubiAnswer
+        ensures { result ≡ record { number = 0; place = 0; length = length } }
+    {
+        YubiAnswer {
+            number: 0,
+            place: 0,
+            length,
+        }
+    }
+
+    pub fn refused(number: u64, place: u64) -> YubiAnswer
+        ensures { result ≡ record { number = number; place = place; length = 0 } }
+    {
+        YubiAnswer {
+            number,
+            place,
+            ..YubiAnswer::written(0)
+        }
+    }
+}
+
+impl YubiMultiple {
+    pub fn refused(number: u64, place: u64) -> YubiMultiple
+        ensures { result ≡ record { number = number; place = place; length = 0; doublings = 0; additions = 0 } }
+    {
+        YubiMultiple {
+            number,
+            place,
+            length: 0,
+            doublings: 0,
+            additions: 0,
+        }
+    }
+}
+
+impl YubiTotal {
+    pub fn refused(number: u64, place: u64) -> YubiTotal
+        ensures { result ≡ record { number = number; place = place; length = 0; count = 0 } }
+    {
+        YubiTotal {
+            number,
+            place,
+            length: 0,
+            count: 0,
+        }
+    }
+}
+
+impl YubiRepeat {
+    // Both places are 0 where nothing is repeated.
+    fn found(first: u64, second: u64) -> YubiRepeat
+        ensures { result ≡ record { number = 0; place = 0; length = 0; first = first; second = second } }
+    {
+        YubiRepeat {
+            number: 0,
+            place: 0,
+            length: 0,
+            first,
+            second,
+        }
+    }
+
+    pub fn refused(number: u64, place: u64) -> YubiRepeat
+        ensures { result ≡ record { number = number; place = place; length = 0; first = 0; second = 0 } }
+    {
+        YubiRepeat {
+            number,
+            place,
+            ..YubiRepeat::found(0, 0)
+        }
+    }
+}
+
+impl YubiPole {
+    pub fn refused(number: u64, place: u64) -> YubiPole
+        ensures { result ≡ record { number = number; place = place; length = 0; pole = 0 } }
+    {
+        YubiPole {
+            number,
+            place,
+            length: 0,
+            pole: 0,
+        }
+    }
+}
+
 // A check writes nothing.
 impl From<Result<(), Refused>> for YubiAnswer {
     ghost from_gives = { λ r a. a ≡ as_check r };
 
     fn from(r: Result<(), Refused>) -> YubiAnswer {
         match r {
-            Ok(()) => YubiAnswer {
-                number: 0,
-                place: 0,
-                length: 0,
-            },
-            Err(e) => YubiAnswer {
-                number: u64::from(e.by),
-                place: e.place,
-                length: 0,
-            },
+            Ok(()) => YubiAnswer::written(0),
+            Err(e) => YubiAnswer::refused(e.by.into(), e.place),
         }
     }
 }
@@ -81,16 +161,8 @@ impl From<Result<u64, Refused>> for YubiAnswer {
 
     fn from(r: Result<u64, Refused>) -> YubiAnswer {
         match r {
-            Ok(length) => YubiAnswer {
-                number: 0,
-                place: 0,
-                length,
-            },
-            Err(e) => YubiAnswer {
-                number: u64::from(e.by),
-                place: e.place,
-                length: 0,
-            },
+            Ok(length) => YubiAnswer::written(length),
+            Err(e) => YubiAnswer::refused(e.by.into(), e.place),
         }
     }
 }
@@ -107,13 +179,7 @@ impl From<Result<Multiplied, Refused>> for YubiMultiple {
                 doublings: t.doublings,
                 additions: t.additions,
             },
-            Err(e) => YubiMultiple {
-                number: u64::from(e.by),
-                place: e.place,
-                length: 0,
-                doublings: 0,
-                additions: 0,
-            },
+            Err(e) => YubiMultiple::refused(e.by.into(), e.place),
         }
     }
 }
@@ -129,43 +195,20 @@ impl From<Result<Totalled, Refused>> for YubiTotal {
                 length: t.length,
                 count: t.count,
             },
-            Err(e) => YubiTotal {
-                number: u64::from(e.by),
-                place: e.place,
-                length: 0,
-                count: 0,
-            },
+            Err(e) => YubiTotal::refused(e.by.into(), e.place),
         }
     }
 }
 
-// Nothing is written; both places are 0 where nothing is repeated.
+// Nothing is written.
 impl From<Result<Option<Repeat>, Refused>> for YubiRepeat {
     ghost from_gives = { λ r a. a ≡ as_repeat r };
 
     fn from(r: Result<Option<Repeat>, Refused>) -> YubiRepeat {
         match r {
-            Ok(Some(x)) => YubiRepeat {
-                number: 0,
-                place: 0,
-                length: 0,
-                first: x.first,
-                second: x.second,
-            },
-            Ok(None) => YubiRepeat {
-                number: 0,
-                place: 0,
-                length: 0,
-                first: 0,
-                second: 0,
-            },
-            Err(e) => YubiRepeat {
-                number: u64::from(e.by),
-                place: e.place,
-                length: 0,
-                first: 0,
-                second: 0,
-            },
+            Ok(Some(x)) => YubiRepeat::found(x.first, x.second),
+            Ok(None) => YubiRepeat::found(0, 0),
+            Err(e) => YubiRepeat::refused(e.by.into(), e.place),
         }
     }
 }
@@ -181,12 +224,7 @@ impl From<Result<PoleRead, Refused>> for YubiPole {
                 length: t.length,
                 pole: t.pole,
             },
-            Err(e) => YubiPole {
-                number: u64::from(e.by),
-                place: e.place,
-                length: 0,
-                pole: 0,
-            },
+            Err(e) => YubiPole::refused(e.by.into(), e.place),
         }
     }
 }
