@@ -1,5 +1,5 @@
--- The number of each operation, as tools/README.md has it.
-use Rattle.std.specs.Prelude.{ℕ}
+-- The number of each operation, as tools/README.md has it; and the operations that a frame is run through beside its own.
+use Rattle.std.specs.Prelude.{ℕ, List, [], ◌∷◌}
 use Rattle.test_calls.specs.declared.operation.Operation.{Operation}
 use Rattle.test_calls.specs.declared.operation.Operation.TheVariants.{Label, CheckCurve, CheckDivisor, RewriteCurve, RewriteDivisor, Add, Double, Opposite, Multiply, TotalBatch, FirstRepeat, Scan, InversionFree, ScanLent, ScanInside, CheckOrder, Split, NextDivisor, WritePoleFile, ReadPoleFile}
 
@@ -24,3 +24,9 @@ number_of Split = 16
 number_of NextDivisor = 17
 number_of WritePoleFile = 18
 number_of ReadPoleFile = 19
+
+-- a multiple has two calls, a scan three, and any other one
+abbrev pub others_of : Operation → List Operation
+others_of Multiply = InversionFree ∷ []
+others_of Scan = ScanLent ∷ ScanInside ∷ []
+others_of _ = []

@@ -12,10 +12,10 @@ use scan_flat::YubiScanned;
 use scan_total::Running;
 use tablet_answers::{YubiAnswer, YubiMultiple};
 
-// What a frame asks. Where a scan has its running total, an order has its primes, and a written file its pole's number.
+// What a frame asks, an operation by its number. Where a scan has its running total, an order has its primes, and a written file its pole's number.
 #[derive(Clone, Copy)]
 pub struct Call<'a> {
-    pub operation: Operation,
+    pub operation: u8,
     pub curve: &'a [u8],
     pub first: &'a [u8],
     pub second: &'a [u8],
@@ -23,13 +23,13 @@ pub struct Call<'a> {
 }
 
 fn scan(text: &mut [u8], call: Call) -> Option<usize> {
-    let t = lines::running(call.total)?;
+    let t = lines::running_of(call.total)?;
     Some(scanned(text, tablet::yubi_scan(t, call.curve, call.first)))
 }
 
 // The same scan into a total that is lent. A total of zeros, but for its pole, is the library's own fresh one.
 fn scan_lent(text: &mut [u8], call: Call) -> Option<usize> {
-    let mut t = lines::running(call.total)?;
+    let mut t = lines::running_of(call.total)?;
     if lines::is_fresh(t) {
         t = tablet::yubi_fresh_total(t.pole);
     }
@@ -45,7 +45,7 @@ fn scan_lent(text: &mut [u8], call: Call) -> Option<usize> {
 
 // And into a lent total inside Rattle, from a fresh one; any other is left to C's.
 fn scan_inside(text: &mut [u8], call: Call) -> Option<usize> {
-    let t = lines::running(call.total)?;
+    let t = lines::running_of(call.total)?;
     if !lines::is_fresh(t) {
         return scan(text, call);
     }
@@ -64,14 +64,14 @@ fn scan_inside(text: &mut [u8], call: Call) -> Option<usize> {
 }
 
 fn write_file(text: &mut [u8], call: Call, out: &mut [u8]) -> Option<usize> {
-    let pole = lines::pole(call.total)?;
+    let pole = lines::pole_of(call.total)?;
     let a = tablet::yubi_write_pole_file(pole, call.curve, call.first, out);
     Some(written(text, a, out))
 }
 
 // Those with an output that answer number, place and length alone; None of any other.
-fn write(call: Call, out: &mut [u8]) -> Option<YubiAnswer> {
-    let a = match call.operation {
+fn write(operation: Operation, call: Call, out: &mut [u8]) -> Option<YubiAnswer> {
+    let a = match operation {
         Operation::RewriteCurve => tablet::yubi_rewrite_curve(call.curve, out),
         Operation::RewriteDivisor => tablet::yubi_rewrite_divisor(call.curve, call.first, out),
         Operation::Add => tablet::yubi_add(call.curve, call.first, call.second, out),
@@ -85,8 +85,8 @@ fn write(call: Call, out: &mut [u8]) -> Option<YubiAnswer> {
 }
 
 // Both multiply calls; None of any other.
-fn multiply(call: Call, out: &mut [u8]) -> Option<YubiMultiple> {
-    let a = match call.operation {
+fn multiply(operation: Operation, call: Call, out: &mut [u8]) -> Option<YubiMultiple> {
+    let a = match operation {
         Operation::Multiply => { tablet::yubi_multiply(call.curve, call.first, call.second, out) }
         Operation::InversionFree => {
             tablet::yubi_multiply_inversion_free(call.curve, call.first, call.second, out)
@@ -96,8 +96,8 @@ fn multiply(call: Call, out: &mut [u8]) -> Option<YubiMultiple> {
     Some(a)
 }
 
-fn check(call: Call) -> Option<YubiAnswer> {
-    match call.operation {
+fn check(operation: Operation, call: Call) -> Option<YubiAnswer> {
+    match operation {
         Operation::CheckCurve => Some(tablet::yubi_check_curve(call.curve)),
         Operation::CheckDivisor => Some(tablet::yubi_check_divisor(call.curve, call.first)),
         Operation::CheckOrder => Some(tablet::yubi_check_order(
@@ -110,18 +110,20 @@ fn check(call: Call) -> Option<YubiAnswer> {
     }
 }
 
-// The frame's line at the front of the text; answers its length, None where a scan's total isn't 68 bytes or a written file's pole 4.
+// The frame's line at the front of the text; answers its length, None where there is no such operation, a scan's total isn't 68 bytes or a
+// written file's pole 4.
 pub fn line(call: Call, out: &mut [u8], text: &mut [u8]) -> Option<usize> {
-    if let Some(a) = check(call) {
+    let operation = Operation::try_from(call.operation).ok()?;
+    if let Some(a) = check(operation, call) {
         return Some(checked(text, a));
     }
-    if let Some(a) = write(call, out) {
+    if let Some(a) = write(operation, call, out) {
         return Some(written(text, a, out));
     }
-    if let Some(a) = multiply(call, out) {
+    if let Some(a) = multiply(operation, call, out) {
         return Some(multiplied(text, a, out));
     }
-    match call.operation {
+    match operation {
         Operation::Label => Some(test_text::label(text, call.curve)),
         Operation::TotalBatch => {
             let a = tablet::yubi_total_batch(call.curve, call.first, out);

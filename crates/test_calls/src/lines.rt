@@ -1,5 +1,7 @@
-// Each of C's answers as the line that tools/README.md says, a running total by its 68 bytes and a pole's number by its 4. For tests: the contracts
-// say no more than safety asks.
+// Each of C's answers as the line that tools/README.md says, a running total by its 68 bytes and a pole's number by its 4. For tests: beyond how
+// many bytes these are, the contracts say no more than safety asks.
+ghost use Rattle.std.specs.Prelude.{◌≡◌, ◌↔◌, length, IsSome};
+
 use scan_flat::{YubiRunning, YubiScanned};
 use tablet_answers::{YubiAnswer, YubiMultiple, YubiPole, YubiRepeat, YubiTotal};
 
@@ -50,12 +52,10 @@ pub fn scanned(text: &mut [u8], a: YubiScanned) -> usize {
     test_text::plain(text, &values)
 }
 
-// A running total by its 68 bytes; None of any other number of bytes.
-pub fn running(s: &[u8]) -> Option<YubiRunning> {
-    if s.len() != 68 {
-        return None;
-    }
-    Some(YubiRunning {
+pub fn running(s: &[u8]) -> YubiRunning
+    requires { length s.now ≡ 68 }
+{
+    YubiRunning {
         weight: record_bytes::read64(s, 0),
         u0: record_bytes::read64(s, 8),
         u1: record_bytes::read64(s, 16),
@@ -65,13 +65,33 @@ pub fn running(s: &[u8]) -> Option<YubiRunning> {
         v2: record_bytes::read64(s, 48),
         count: record_bytes::read64(s, 56),
         pole: record_bytes::read32(s, 64) as u32,
-    })
+    }
 }
 
-// A pole's number by its 4 bytes; None of any other number of bytes.
-pub fn pole(s: &[u8]) -> Option<u32> {
-    let bytes: [u8; 4] = s.try_into().ok()?;
-    Some(u32::from_be_bytes(bytes))
+// None of any other number of bytes.
+pub fn running_of(s: &[u8]) -> Option<YubiRunning>
+    ensures { IsSome result ↔ (length s.now ≡ 68) }
+{
+    if s.len() != 68 {
+        return None;
+    }
+    Some(running(s))
+}
+
+pub fn pole(s: &[u8]) -> u32
+    requires { length s.now ≡ 4 }
+{
+    record_bytes::read32(s, 0) as u32
+}
+
+// None of any other number of bytes.
+pub fn pole_of(s: &[u8]) -> Option<u32>
+    ensures { IsSome result ↔ (length s.now ≡ 4) }
+{
+    if s.len() != 4 {
+        return None;
+    }
+    Some(pole(s))
 }
 
 pub fn is_fresh(t: YubiRunning) -> bool {

@@ -62,8 +62,13 @@ impl TryFrom<u8> for Operation {
 }
 
 impl Operation {
+    ghost use Rattle.std.specs.Prelude.{◌≡◌};
+    ghost use Rattle.test_calls.specs.Operations.{others_of};
+
     // The operations beside it that the same frame is run through, whose lines must be the same: a multiple has two, a scan three.
-    pub fn others(self) -> &'static [Operation] {
+    pub fn others(self) -> &'static [Operation]
+        ensures { result.now ≡ others_of self }
+    {
         match self {
             Operation::Multiply => &[Operation::InversionFree],
             Operation::Scan => &[Operation::ScanLent, Operation::ScanInside],

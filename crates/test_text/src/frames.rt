@@ -14,25 +14,39 @@ pub struct Frame {
     pub output: usize,
 }
 
-// None where the whole frame isn't there.
-pub fn cut(s: &[u8]) -> Option<Frame>
-    ensures { IfSome result (λ f. InOrder f × (f.end ≤ length s.now)) }
+// A slice too short for a head has a frame that doesn't fit in it.
+pub fn cut(s: &[u8]) -> Frame
+    ensures { InOrder result }
 {
     if s.len() < HEAD {
-        return None;
+        return Frame {
+            first: HEAD,
+            second: HEAD,
+            total: HEAD,
+            end: HEAD,
+            output: 0,
+        };
     }
     let first = HEAD + record_bytes::read32(s, 1) as usize;
     let second = first + record_bytes::read32(s, 5) as usize;
     let total = second + record_bytes::read32(s, 9) as usize;
     let end = total + record_bytes::read32(s, 17) as usize;
-    if s.len() < end {
-        return None;
-    }
-    Some(Frame {
+    Frame {
         first,
         second,
         total,
         end,
         output: record_bytes::read32(s, 13) as usize,
-    })
+    }
+}
+
+// None where the whole frame isn't there.
+pub fn whole(s: &[u8]) -> Option<Frame>
+    ensures { IfSome result (λ f. InOrder f × (f.end ≤ length s.now)) }
+{
+    let f = cut(s);
+    if s.len() < f.end {
+        return None;
+    }
+    Some(f)
 }

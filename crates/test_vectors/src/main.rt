@@ -23,18 +23,17 @@ const MOST_LINE: usize = 512;
 // The most bytes of a file, and of its lines.
 const MOST_BYTES: usize = 65536;
 
-// What the frame at the front of s asks; None where there is no such operation.
-fn call_of(s: &[u8], f: Frame) -> Option<Call<'_>>
+// What the frame at the front of s asks.
+fn call_of(s: &[u8], f: Frame) -> Call<'_>
     requires { InOrder f × (f.end ≤ length s.now) }
 {
-    let operation = Operation::try_from(s[0]).ok()?;
-    Some(Call {
-        operation,
+    Call {
+        operation: s[0],
         curve: &s[21..f.first],
         first: &s[f.first..f.second],
         second: &s[f.second..f.total],
         total: &s[f.total..f.end],
-    })
+    }
 }
 
 // The line of a call into an output of so many bytes, at the front of the text.
@@ -50,7 +49,7 @@ fn line_of<'a>(call: Call, output: usize, text: &'a mut [u8]) -> Option<&'a [u8]
 fn agrees(call: Call, other: Operation, output: usize, wanted: &[u8]) -> bool {
     let mut again = [0; MOST_LINE];
     let call = Call {
-        operation: other,
+        operation: other as u8,
         ..call
     };
     line_of(call, output, &mut again) == Some(wanted)
@@ -61,9 +60,10 @@ fn line(s: &[u8], f: Frame, text: &mut [u8]) -> Option<usize>
     requires { InOrder f × (f.end ≤ length s.now) }
     ensures { IfSome result (λ n. n ≤ length text.new) }
 {
-    let call = call_of(s, f)?;
+    let call = call_of(s, f);
+    let operation = Operation::try_from(call.operation).ok()?;
     let wanted = line_of(call, f.output, text)?;
-    for other in call.operation.others() {
+    for other in operation.others() {
         if !agrees(call, *other, f.output, wanted) {
             return None;
         }
@@ -72,17 +72,20 @@ fn line(s: &[u8], f: Frame, text: &mut [u8]) -> Option<usize>
 }
 
 // The lines of all frames, one after the other, at the front of the text; answers their length. They end at a malformed frame, so that the
-// comparison fails.
+// comparison fails, and where a line has no room.
 fn lines(s: &[u8], text: &mut [u8]) -> usize
     ensures { result ≤ length text.new }
 {
     let mut at = 0;
     let mut end = 0;
     // No range: each frame says where the next one begins.
-    while let Some(f) = test_text::frames::cut(&s[at..]) {
+    while let Some(f) = test_text::frames::whole(&s[at..]) {
         let Some(n) = line(&s[at..], f, &mut text[end..]) else {
             break;
         };
+        if n == 0 {
+            break;
+        }
         at += f.end;
         end += n;
     }
