@@ -114,7 +114,7 @@ impl Divisor {
     {
         let [a, b, c, d, e, f] = r;
         match w {
-            0 => Divisor::Neutral,
+            0 => Divisor::neutral(),
             1 => Divisor::One(Linear { u0: a, v0: b }),
             2 => Divisor::Two(Quadratic {
                 u0: a,

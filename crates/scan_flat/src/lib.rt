@@ -96,7 +96,7 @@ pub fn divisor_of(t: YubiRunning) -> Divisor
     let u1 = Residue::from_raw(t.u1);
     let v1 = Residue::from_raw(t.v1);
     match t.weight {
-        0 => Divisor::Neutral,
+        0 => Divisor::neutral(),
         1 => Divisor::One(Linear { u0, v0 }),
         2 => Divisor::Two(Quadratic { u0, u1, v0, v1 }),
         _ => Divisor::Three(Cubic {

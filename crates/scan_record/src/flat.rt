@@ -20,7 +20,7 @@ fn scan_flattened(t: YubiRunning, curve: &[u8], record: &[u8]) -> Result<YubiRun
         pole: t.pole,
     };
     let x = crate::scan_on(c, r, record)?;
-    Ok(YubiRunning::from(x))
+    Ok(scan_flat::flatten_running(x))
 }
 
 pub fn scan(t: YubiRunning, curve: &[u8], record: &[u8]) -> YubiScanned
