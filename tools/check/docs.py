@@ -12,9 +12,9 @@ Names, on every page: an edit CRATE/NAME, a crate, a file, a street of demo/ is 
 Form: docs/PROVED.md has at most 150 lines, docs/TOUR.md's addition at most 18 rows and crates; a sentence a line, no line over 160 characters,
     none twice in a row.
 
-Notes of docs/changes, docs/PORT.md and docs/DESIGN-PASS.md are history, and name what has gone since: but for that they aren't held. Pages that a script makes from the tree
-(MADE) are held by that script. Numbers of recorded runs (times, instructions, the judge's calls) say what was and aren't held, nor is any sentence between
-the names. It reads, and writes nothing."""
+Notes of docs/changes, docs/PORT.md, docs/DESIGN-PASS.md and docs/LOOK-BACK.md are history, and name what has gone since: but for that they aren't held.
+Pages that a script makes from the tree (MADE) are held by that script. Numbers of recorded runs (times, instructions, the judge's calls) say what was and
+aren't held, nor is any sentence between the names. It reads, and writes nothing."""
 import functools
 import glob
 import os
@@ -33,7 +33,7 @@ def pages(*path):
 
 MADE = ["docs/CRATES.md"] + ["docs/proofs/%s.md" % page for page in ("EDITS", "CONTRACTS", "BELIEVED", "TIMES")]
 PROOFS = ["docs/PROVED.md"] + [page for page in pages("docs", "proofs", "*.md") if page not in MADE]
-HISTORY = ["docs/PORT.md", "docs/DESIGN-PASS.md"]
+HISTORY = ["docs/PORT.md", "docs/DESIGN-PASS.md", "docs/LOOK-BACK.md"]
 PAGES = ["README.md"] + pages("tools", "README.md") + pages("bindings", "README.md")
 PAGES += [page for page in pages("docs", "*.md") if page not in MADE + HISTORY] + PROOFS[1:]
 EVERY = sorted(set(PAGES + HISTORY + pages("*.md") + pages("bindings", "*", "*.md") + pages("docs", "changes", "*.md")))

@@ -43,6 +43,17 @@ def functions_in(crate, file):
         yield Function(crate, file, name, bool(public), head.removesuffix(" {"), note_above(lines, k), contract, k + 1, end + 1)
 
 
+def conversions_in(crate, file):
+    """Its conversions by From and TryFrom, in order, as functions: the head is the impl's, the contract the law of what is given for what."""
+    lines = text("crates", crate, file).splitlines()
+    for k, line in enumerate(lines):
+        match = re.match(r"impl ((?:Try)?From<.*> for \w+) \{", line)
+        if match:
+            end = next(n for n in range(k, len(lines)) if lines[n] == "}")
+            laws = [each.strip().removeprefix("ghost ").rstrip(";") for each in lines[k:end] if re.match(r"\s*ghost \w+_gives\b", each)]
+            yield Function(crate, file, match.group(1), True, "impl " + match.group(1), note_above(lines, k), laws, k + 1, end + 1)
+
+
 def note_above(lines, k):
     """The comment right above line k, attributes passed over."""
     begin = k
