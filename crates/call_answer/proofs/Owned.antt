@@ -1,6 +1,6 @@
 -- A divisor delivered by a call with numbers of its own: its reply is the rule's with them, `none` for them where the output is too short.
 use Prim.Native.Nat.{ℕ}
-use mathlib.Core.Path.{◌≡◌, ap}
+use mathlib.Core.Path.{◌≡◌, ap, sym, ◌∙◌}
 use mathlib.Core.Bool.{Bool, true, false}
 use mathlib.Core.List.{List, []}
 use native.Mathlib.Omega.{arith}
@@ -8,13 +8,17 @@ use lib.Dec.{ltb}
 use lib.ListN.{length}
 use lib.Seq.{sets}
 use Rattle.std.specs.Prelude.{Result, Ok, Err}
-use Rattle.rules.specs.Checks.{choose}
-use Rattle.rules.specs.Calls.{Reply, done, stop, put, write}
+use Rattle.rules.specs.Checks.{Checked, refused, taken, choose}
+use Rattle.rules.specs.Records.{divisor_bytes}
+use Rattle.rules.specs.Calls.{Result as RuleResult, Reply, done, stop, put, deliver, write}
+use Rattle.field.specs.declared.Modulus.{Modulus}
+use Rattle.divisor.specs.declared.Divisor.{Divisor}
+use Rattle.divisor.specs.Divisors.{pair}
 use Rattle.refusals.specs.declared.Refusal.{Refusal}
 use Rattle.refusals.specs.declared.Refusal.TheVariants.{CurveLength, Mark, Version, Genus, Prime, CurveCoefficient, RepeatedFactor, DivisorLength, Weight, DivisorCoefficient, NotOnCurve, ScalarLength, OutputLength, Full, RunningTotal, FileLength, Unreadable, Witness, EmptyKey, OtherPole, PoleFileMark, PoleFileVersion, PoleFileLength, Last, NotForTraining, NoRoot, Order}
 use Rattle.refusals.specs.declared.Refused.{Refused}
 use Rattle.refusals.specs.Refusal.{number_of}
-use Rattle.call_answer.specs.Answers.{Wrote}
+use Rattle.call_answer.specs.Answers.{reply, Wrote, Delivered}
 
 -- no refusal has the number 0
 pub not_zero : (by : Refusal) → number_of by ≡ 0 → ⊥
@@ -63,3 +67,19 @@ module _ {N : Type 0} (none own : N) (out bytes : List ℕ) where
 
   pub not_owned : (r : Refused) {o : List ℕ} → Wrote (Err r) o (write out bytes) → stop none o (number_of r.by) r.place ≡ put none out (record { bytes = bytes; own = own })
   not_owned r {o} e = not_by_length (ltb (length out) (length bytes)) r o e
+
+-- ---- what was made, delivered by a call with numbers of its own
+module _ {N : Type 0} (none own : N) where
+  abbrev pub own_result : Result (Divisor × Modulus) Refused → Checked (RuleResult N)
+  own_result (Ok x) = taken (record { bytes = divisor_bytes x.1.p (pair x.1 x.0); own = own })
+  own_result (Err r) = refused (number_of r.by) r.place
+
+  abbrev pub view : ℕ → ℕ × N
+  view n = (n, own)
+
+  pub delivered_own : (out : List ℕ) {rule : Checked (RuleResult N)} (made : Result (Divisor × Modulus) Refused) (r : Result ℕ Refused) (o : List ℕ)
+      → rule ≡ own_result made → Delivered made out r o → reply none view r o ≡ deliver none out rule
+  delivered_own out (Ok x) (Ok n) o e h = owned none own out (divisor_bytes x.1.p (pair x.1 x.0)) h ∙ sym (ap (deliver none out) e)
+  delivered_own out (Ok x) (Err r) o e h = not_owned none own out (divisor_bytes x.1.p (pair x.1 x.0)) r h ∙ sym (ap (deliver none out) e)
+  delivered_own out (Err q) (Ok n) o e h = absurd (not_zero q.by (sym (ap (λ (r : Reply (Unit {0})). r.answer.number) h)))
+  delivered_own out (Err q) (Err r) o e h = ap (λ (r : Reply (Unit {0})). record { answer = r.answer; out = r.out; own = none }) h ∙ sym (ap (deliver none out) e)

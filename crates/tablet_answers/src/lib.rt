@@ -108,7 +108,7 @@ impl YubiTotal {
 
 impl YubiRepeat {
     // Both places are 0 where nothing is repeated.
-    fn found(first: u64, second: u64) -> YubiRepeat
+    pub fn found(first: u64, second: u64) -> YubiRepeat
         ensures { result ≡ record { number = 0; place = 0; length = 0; first = first; second = second } }
     {
         YubiRepeat {
